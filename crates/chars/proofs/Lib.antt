@@ -1,0 +1,3 @@
+pub mod CharsLaws
+pub mod CutLaws
+pub mod Subpart

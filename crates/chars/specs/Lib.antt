@@ -1,0 +1,4 @@
+pub mod Utf8
+pub mod Width
+pub mod Chars
+pub mod Cut

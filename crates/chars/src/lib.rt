@@ -1,0 +1,1 @@
+// Characters of any bytes and their widths.
