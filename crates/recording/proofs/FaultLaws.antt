@@ -13,11 +13,11 @@ use Rattle.chars.specs.Chars.{wellFormed}
 use Rattle.buffer.specs.Place.{over}
 use Rattle.buffer.proofs.Laws.{take-over}
 use Rattle.recording.specs.declared.Entry.{Entry}
-use Rattle.recording.specs.Recording.{Bytes, Recording, entry, entriesOf, numbersOf, partOf, Item, byte, push, pop, raw, byteItems, itemOf, itemsFrom, items, dataOf, textOf, entriesFrom, encode}
+use Rattle.recording.specs.Recording.{Bytes, Recording, isNil, entry, entriesOf, numbersOf, partOf, Item, byte, push, pop, raw, byteItems, itemOf, itemsFrom, items, dataOf, textOf, entriesFrom, encode}
 use Rattle.recording.specs.Edit.{Op, keep, skip, put, front, back, entriesOnly, edit}
 use Rattle.recording.specs.Refusals.{firstOf, refuseIf, badShape, entryFault, entriesFault, recordingFault, dataLimit, entryLimit, textLimit}
 use Rattle.recording.specs.Outcome.{Room, Result, Faults, Outcome, refused, done, overLimit, noRoom, refusalOf, settle, Lent, lentAfter, Returned, returned}
-use Rattle.recording.proofs.Lists.{AllOf, all-append, isNil, or-left, or-right, not-false}
+use Rattle.recording.proofs.Lists.{AllOf, all-append, or-left, or-right, not-false}
 use Rattle.recording.proofs.ItemsLaws.{entries-numbers}
 use Rattle.recording.proofs.SizeLaws.{entryCount, count-numbers}
 

@@ -19,10 +19,6 @@ pub all-right : {A : Type 0} (P : A → Type 0) (xs ys : List A) → AllOf P (xs
 all-right P [] ys h = h
 all-right P (x ∷ xs) ys h = all-right P xs ys (h .1)
 
-abbrev pub isNil : {A : Type 0} → List A → Bool
-isNil [] = true
-isNil (a ∷ r) = false
-
 pub and-left : (a b : Bool) → (a && b) ≡ true → a ≡ true
 and-left true b h = refl
 and-left false b h = absurd (false≢true h)

@@ -1,5 +1,6 @@
 -- A recording (document 01, "The recording"), read as one list of items in order, and written back.
 use Prim.Native.Nat.{ℕ, zero, suc, _+_, _-_}
+use mathlib.Core.Bool.{Bool, true, false, cond}
 use mathlib.Core.List.{List, [], _∷_, _++_}
 use lib.ListN.{length, take, drop}
 use Rattle.recording.specs.declared.Entry.{Entry}
@@ -93,9 +94,12 @@ unfoldable pub strip : Recording → Recording
 strip r = record { dataBytes = r .dataBytes; entryNumbers = []; text = [] }
 
 -- ── pieces: the longest runs of data with no entry inside, in order
+abbrev pub isNil : {A : Type 0} → List A → Bool
+isNil [] = true
+isNil (a ∷ r) = false
+
 abbrev pub nonEmpty : Bytes → List Bytes
-nonEmpty [] = []
-nonEmpty (b ∷ bs) = (b ∷ bs) ∷ []
+nonEmpty piece = cond (isNil piece) [] (piece ∷ [])
 
 -- `piece` has the bytes since the last entry
 abbrev pub piecesFrom : Bytes → List Item → List Bytes

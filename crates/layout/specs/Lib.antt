@@ -1,0 +1,4 @@
+pub mod Wrap
+pub mod Layout
+pub mod Plain
+pub mod Theorem
