@@ -1,0 +1,235 @@
+-- Each call's coloured bytes are what its plain step makes of the content's, and balance is kept.
+use Prim.Native.Nat.{ℕ, suc, _+_, _-_, _≤_, _<_, _/_}
+use native.Mathlib.Omega.{arith}
+use mathlib.Core.Bool.{Bool, true, false, cond, _&&_, _||_, not}
+use mathlib.Core.Path.{_≡_, refl, sym, ap, _∙_}
+use mathlib.Core.List.{List, [], _∷_, _++_, append-nil}
+use lib.Dec.{ltb, eqb}
+use lib.ListN.{length, take, drop, drop-of-length-le}
+use lib.Seq.{drop-drop}
+use borrow.Author.Tests.{ltb-false}
+use Rattle.chars.specs.Chars.{textWidth}
+use Rattle.chars.specs.Cut.{truncateEndPos, zeroWidthLen}
+use Rattle.buffer.specs.Place.{part}
+use Rattle.recording.specs.Coloured.{Coloured, colouredFrom, coloured, balancedFrom, balanced, noneInside, values}
+use Rattle.recording.specs.Edit.{keep, put, edit, labelsAt, under, editColoured}
+use Rattle.recording.specs.Recording.{Bytes, Recording, Item, byteItems, items}
+use Rattle.recording.proofs.EditLaws.{PutsBal, coloured-append, open-under, edit-law, edit-bal, bal-append}
+use Rattle.recording.proofs.ItemsLaws.{values-of}
+use Rattle.recording.proofs.Lists.{or-left, or-right}
+use Rattle.layout.specs.Layout.{replacementFault, trimmedStartPos, cutEnd, cutStart, padding, fillCount, indentOps, wrapOps, replaceOps, Job, truncateStart, truncateEnd, padStart, padEnd, padCentered, indent, wrap, replace, resultItems, recordsFault}
+use Rattle.layout.specs.Plain.{times, withLabels, indented, wrapped, replaced, step, toldOf}
+use Rattle.layout.specs.Theorem.{SecondOk}
+use Rattle.layout.specs.Wrap.{Line, wrapLines}
+use Rattle.layout.specs.declared.Replacement.{Replacement}
+use Rattle.layout.proofs.PadLaws.{flat, coloured-padding, bal-padding}
+
+-- ── lists
+pub length-values : (cs : List Coloured) → length (values cs) ≡ length cs
+length-values [] = refl
+length-values (c ∷ cs) = ap suc (length-values cs)
+
+pub drop-on : (a b : ℕ) (cs : List Coloured) → a ≤ b → drop (b - a) (drop a cs) ≡ drop b cs
+drop-on a b cs h = let e : a + (b - a) ≡ b = omega arith in drop-drop (b - a) a cs ∙ ap (λ (n : ℕ). drop n cs) e
+
+pub drop-rest : (n k : ℕ) (cs : List Coloured) → length cs ≡ n → drop (n - k) (drop k cs) ≡ []
+drop-rest n k cs e = let l : length cs ≤ k + (n - k) = omega arith in drop-drop (n - k) k cs ∙ drop-of-length-le cs l
+
+-- ── two texts, one after the other
+pub coloured-join : (a b : List Item) → balancedFrom 0 a ≡ true → colouredFrom [] (a ++ b) ≡ colouredFrom [] a ++ colouredFrom [] b
+coloured-join a b h = rw (coloured-append [] a b, open-under [] [] a h)
+
+pub bal-join : (a b : List Item) → balancedFrom 0 a ≡ true → balancedFrom 0 b ≡ true → balancedFrom 0 (a ++ b) ≡ true
+bal-join a b h g = bal-append 0 0 a b h g
+
+coloured-cond : (t : Bool) (a b : List Item) (x y : List Coloured) → colouredFrom [] a ≡ x → colouredFrom [] b ≡ y → colouredFrom [] (cond t a b) ≡ cond t x y
+coloured-cond true a b x y p q = p
+coloured-cond false a b x y p q = q
+
+bal-cond : (t : Bool) (a b : List Item) → balancedFrom 0 a ≡ true → balancedFrom 0 b ≡ true → balancedFrom 0 (cond t a b) ≡ true
+bal-cond true a b p q = p
+bal-cond false a b p q = q
+
+-- ── cutting
+from-law : (k : ℕ) (is : List Item) → balancedFrom 0 is ≡ true → colouredFrom [] (edit (cutStart k) is) ≡ drop k (colouredFrom [] is)
+from-law k is h = edit-law (cutStart k) [] is h tt
+
+upTo-law : (k : ℕ) (d : Bytes) (is : List Item) → balancedFrom 0 is ≡ true → length (colouredFrom [] is) ≡ length d → colouredFrom [] (edit (cutEnd k d) is) ≡ take k (colouredFrom [] is)
+upTo-law k d is h e = edit-law (cutEnd k d) [] is h tt ∙ rw (drop-rest (length d) k (colouredFrom [] is) e) (append-nil _)
+
+-- ── indenting
+indent-puts : (p : List Item) (start : Bool) (d : Bytes) → balancedFrom 0 p ≡ true → PutsBal (indentOps p start d)
+indent-puts p start [] h = tt
+indent-puts p start (b ∷ d) h = go (start && not (eqb b 0x0A)) (indent-puts p (eqb b 0x0A) d h)
+  where
+    go : (t : Bool) → PutsBal (indentOps p (eqb b 0x0A) d) → PutsBal (cond t (put p ∷ []) [] ++ keep 1 ∷ indentOps p (eqb b 0x0A) d)
+    go true q = (h, q)
+    go false q = q
+
+pub indent-law : (p : List Item) (start : Bool) (cs : List Coloured) → editColoured (indentOps p start (values cs)) cs ≡ indented (colouredFrom [] p) start cs
+indent-law p start [] = refl
+indent-law p start (c ∷ cs) = go (start && not (eqb (c .val) 0x0A)) (indent-law p (eqb (c .val) 0x0A) cs)
+  where
+    go : (t : Bool) → editColoured (indentOps p (eqb (c .val) 0x0A) (values cs)) cs ≡ indented (colouredFrom [] p) (eqb (c .val) 0x0A) cs
+        → editColoured (cond t (put p ∷ []) [] ++ keep 1 ∷ indentOps p (eqb (c .val) 0x0A) (values cs)) (c ∷ cs) ≡ cond t (under (c .labels) (colouredFrom [] p)) [] ++ c ∷ indented (colouredFrom [] p) (eqb (c .val) 0x0A) cs
+    go true e = ap (λ (l : List Coloured). under (c .labels) (colouredFrom [] p) ++ c ∷ l) e
+    go false e = ap (λ (l : List Coloured). c ∷ l) e
+
+-- ── replacing
+bal-bytes : (d : Bytes) → balancedFrom 0 (byteItems d) ≡ true
+bal-bytes [] = refl
+bal-bytes (b ∷ d) = bal-bytes d
+
+under-bytes : (ls : List Bytes) (d : Bytes) → under ls (colouredFrom [] (byteItems d)) ≡ withLabels ls d
+under-bytes ls [] = refl
+under-bytes ls (b ∷ d) = rw (append-nil ls, under-bytes ls d)
+
+replace-puts : (t : Bytes) (at : ℕ) (xs : List Replacement) → PutsBal (replaceOps t at xs)
+replace-puts t at [] = tt
+replace-puts t at (x ∷ xs) = (bal-bytes (part (x .from) (x .to) t), replace-puts t (x .end) xs)
+
+abbrev pub Sorted : ℕ → List Replacement → Type 0
+Sorted at [] = Unit {0}
+Sorted at (x ∷ xs) = (at ≤ x .start) × (x .start ≤ x .end) × Sorted (x .end) xs
+
+pub sorted : (at n t : ℕ) (xs : List Replacement) → recordsFault at n t xs ≡ 0 → Sorted at xs
+sorted at n t [] h = tt
+sorted at n t (x ∷ xs) h = go (ltb (x .end) (x .start) || ltb n (x .end) || ltb (x .start) at || ltb (x .to) (x .from) || ltb t (x .to)) refl h
+    (λ e. sorted (x .end) n t xs e)
+  where
+    go : (b : Bool) → (ltb (x .end) (x .start) || ltb n (x .end) || ltb (x .start) at || ltb (x .to) (x .from) || ltb t (x .to)) ≡ b → cond b 8 (recordsFault (x .end) n t xs) ≡ 0
+        → (recordsFault (x .end) n t xs ≡ 0 → Sorted (x .end) xs) → Sorted at (x ∷ xs)
+    go true e g f = absurd (omega (arith, g))
+    go false e g f =
+        let e₁ = or-left (ltb (x .end) (x .start) || ltb n (x .end) || ltb (x .start) at || ltb (x .to) (x .from)) (ltb t (x .to)) e in
+        let e₂ = or-left (ltb (x .end) (x .start) || ltb n (x .end) || ltb (x .start) at) (ltb (x .to) (x .from)) e₁ in
+        let e₃ = or-left (ltb (x .end) (x .start) || ltb n (x .end)) (ltb (x .start) at) e₂ in
+        (ltb-false (x .start) at (or-right (ltb (x .end) (x .start) || ltb n (x .end)) (ltb (x .start) at) e₂), ltb-false (x .end) (x .start) (or-left (ltb (x .end) (x .start)) (ltb n (x .end)) e₃), f g)
+
+pub replace-law : (t : Bytes) (at : ℕ) (xs : List Replacement) (cs : List Coloured) → Sorted at xs → editColoured (replaceOps t at xs) (drop at cs) ≡ replaced t at xs cs
+replace-law t at [] cs h = refl
+replace-law t at (x ∷ xs) cs h =
+    rw (drop-on at (x .start) cs (h .0), drop-on (x .start) (x .end) cs (h .1), under-bytes (labelsAt (drop (x .start) cs)) (part (x .from) (x .to) t), replace-law t (x .end) xs cs (h .2))
+
+-- ── wrapping
+abbrev pub Ordered : ℕ → List Line → Type 0
+Ordered at [] = Unit {0}
+Ordered at (l ∷ ls) = (at ≤ l .first) × (l .first ≤ l .end) × Ordered (l .end) ls
+
+pub wrap-puts : (n at : ℕ) (ls : List Line) → PutsBal (wrapOps n at ls)
+wrap-puts n at [] = tt
+wrap-puts n at (l ∷ []) = tt
+wrap-puts n at (l ∷ m ∷ ls) = (refl, wrap-puts n (l .end) (m ∷ ls))
+
+pub wrap-law : (n at : ℕ) (l : Line) (ls : List Line) (cs : List Coloured) → length cs ≡ n → Ordered at (l ∷ ls) → editColoured (wrapOps n at (l ∷ ls)) (drop at cs) ≡ wrapped (l ∷ ls) cs
+wrap-law n at l [] cs e h =
+    rw (drop-on at (l .first) cs (h .0), drop-on (l .first) (l .end) cs (h .1), drop-rest n (l .end) cs e) (append-nil _)
+wrap-law n at l (m ∷ ls) cs e h =
+    rw (drop-on at (l .first) cs (h .0), drop-on (l .first) (l .end) cs (h .1), wrap-law n (l .end) m ls cs e (h .2), append-nil (labelsAt (drop (l .end) cs)))
+
+-- ── each call
+pub length-coloured : (r : Recording) → length (colouredFrom [] (items r)) ≡ length (r .dataBytes)
+unfolding coloured
+length-coloured r = sym (length-values (coloured r)) ∙ ap length (values-of r)
+
+module _ (r : Recording) (h : balanced r ≡ true) where
+  here : balancedFrom 0 (items r) ≡ true
+  unfolding balanced
+  here = h
+
+  long : length (colouredFrom [] (items r)) ≡ length (r .dataBytes)
+  long = length-coloured r
+
+  start-law : (m : ℕ) (e : Recording) → balanced e ≡ true → colouredFrom [] (resultItems (truncateStart m e) r) ≡ step (toldOf (truncateStart m e)) (coloured r)
+  unfolding resultItems step toldOf coloured balanced
+  start-law m e g =
+      rw (values-of r, values-of e)
+      (coloured-cond (ltb m (textWidth (r .dataBytes))) _ _ _ _
+      (coloured-join (edit (cutStart (trimmedStartPos m (e .dataBytes))) (items e)) _ (edit-bal (cutStart (trimmedStartPos m (e .dataBytes))) 0 (items e) tt g)
+      ∙ rw (from-law (trimmedStartPos m (e .dataBytes)) (items e) g, from-law (trimmedStartPos (m - textWidth (e .dataBytes)) (r .dataBytes)) (items r) h))
+      (from-law (zeroWidthLen (r .dataBytes)) (items r) h))
+
+  end-law : (m : ℕ) (e : Recording) → balanced e ≡ true → length (colouredFrom [] (items e)) ≡ length (e .dataBytes) → colouredFrom [] (resultItems (truncateEnd m e) r) ≡ step (toldOf (truncateEnd m e)) (coloured r)
+  unfolding resultItems step toldOf coloured balanced
+  end-law m e g le =
+      rw (values-of r, values-of e)
+      (coloured-cond (ltb m (textWidth (r .dataBytes))) _ _ _ _
+      (coloured-join (edit (cutEnd (truncateEndPos (m - textWidth (e .dataBytes)) (r .dataBytes)) (r .dataBytes)) (items r)) _ (edit-bal (cutEnd (truncateEndPos (m - textWidth (e .dataBytes)) (r .dataBytes)) (r .dataBytes)) 0 (items r) tt h)
+      ∙ rw (upTo-law (truncateEndPos (m - textWidth (e .dataBytes)) (r .dataBytes)) (r .dataBytes) (items r) h long, upTo-law (truncateEndPos m (e .dataBytes)) (e .dataBytes) (items e) g le))
+      refl)
+
+  module _ (f : Recording) (g : balanced f ≡ true) (o : noneInside f ≡ true) where
+    pads : (n : ℕ) → colouredFrom [] (padding n (items f)) ≡ times n (coloured f)
+    unfolding coloured
+    pads n = coloured-padding n (f .dataBytes) (items f) (flat f o)
+
+    pads-bal : (n : ℕ) → balancedFrom 0 (padding n (items f)) ≡ true
+    unfolding balanced
+    pads-bal n = bal-padding n (f .dataBytes) (items f) (flat f o) g
+
+    padStart-law : (m : ℕ) → colouredFrom [] (resultItems (padStart m f) r) ≡ step (toldOf (padStart m f)) (coloured r)
+    unfolding resultItems step toldOf
+    padStart-law m = rw (values-of r, coloured-join (padding (fillCount m (r .dataBytes)) (items f)) (items r) (pads-bal (fillCount m (r .dataBytes))), pads (fillCount m (r .dataBytes))) (unfold coloured in refl)
+
+    padEnd-law : (m : ℕ) → colouredFrom [] (resultItems (padEnd m f) r) ≡ step (toldOf (padEnd m f)) (coloured r)
+    unfolding resultItems step toldOf
+    padEnd-law m = rw (values-of r, coloured-join (items r) (padding (fillCount m (r .dataBytes)) (items f)) here, pads (fillCount m (r .dataBytes))) (unfold coloured in refl)
+
+    padBoth-law : (m : ℕ) → colouredFrom [] (resultItems (padCentered m f) r) ≡ step (toldOf (padCentered m f)) (coloured r)
+    unfolding resultItems step toldOf
+    padBoth-law m =
+        let n : ℕ = fillCount m (r .dataBytes) in
+        rw (values-of r, coloured-join (padding (n / 2) (items f)) (items r ++ padding (n - n / 2) (items f)) (pads-bal (n / 2)), coloured-join (items r) (padding (n - n / 2) (items f)) here, pads (n / 2), pads (n - n / 2)) (unfold coloured in refl)
+
+  indented-law : (p : Recording) → balanced p ≡ true → colouredFrom [] (resultItems (indent p) r) ≡ step (toldOf (indent p)) (coloured r)
+  unfolding resultItems step toldOf coloured balanced
+  indented-law p g =
+      edit-law (indentOps (items p) true (r .dataBytes)) [] (items r) h (indent-puts (items p) true (r .dataBytes) g)
+      ∙ (rw (values-of r) at (indent-law (items p) true (coloured r)))
+
+  replaced-law : (xs : List Replacement) (t : Bytes) → Sorted 0 xs → colouredFrom [] (resultItems (replace xs t) r) ≡ step (toldOf (replace xs t)) (coloured r)
+  unfolding resultItems step toldOf coloured balanced
+  replaced-law xs t o = edit-law (replaceOps t 0 xs) [] (items r) h (replace-puts t 0 xs) ∙ replace-law t 0 xs (coloured r) o
+
+  wrapped-law : (w : ℕ) (b : Bool) (ls : List Line) → wrapLines w b (r .dataBytes) ≡ ls → Ordered 0 ls → (0 < length ls) → colouredFrom [] (resultItems (wrap w b) r) ≡ step (toldOf (wrap w b)) (coloured r)
+  unfolding resultItems step toldOf coloured balanced
+  wrapped-law w b [] q o z = absurd (omega arith)
+  wrapped-law w b (l ∷ ls) q o z =
+      rw (values-of r, q) (edit-law (wrapOps (length (r .dataBytes)) 0 (l ∷ ls)) [] (items r) h (wrap-puts (length (r .dataBytes)) 0 (l ∷ ls)) ∙ wrap-law (length (r .dataBytes)) 0 l ls (coloured r) long o)
+
+  -- balance is kept
+  pub bal-law : (j : Job) → SecondOk j → balancedFrom 0 (resultItems j r) ≡ true
+  unfolding resultItems balanced
+  bal-law (truncateStart m e) g =
+      let x : List Item = edit (cutStart (trimmedStartPos m (e .dataBytes))) (items e) in
+      let y : List Item = edit (cutStart (trimmedStartPos (m - textWidth (e .dataBytes)) (r .dataBytes))) (items r) in
+      bal-cond (ltb m (textWidth (r .dataBytes))) (x ++ y) (edit (cutStart (zeroWidthLen (r .dataBytes))) (items r))
+      (bal-join x y (edit-bal (cutStart (trimmedStartPos m (e .dataBytes))) 0 (items e) tt g) (edit-bal (cutStart (trimmedStartPos (m - textWidth (e .dataBytes)) (r .dataBytes))) 0 (items r) tt h))
+      (edit-bal (cutStart (zeroWidthLen (r .dataBytes))) 0 (items r) tt h)
+  bal-law (truncateEnd m e) g =
+      let x : List Item = edit (cutEnd (truncateEndPos (m - textWidth (e .dataBytes)) (r .dataBytes)) (r .dataBytes)) (items r) in
+      let y : List Item = edit (cutEnd (truncateEndPos m (e .dataBytes)) (e .dataBytes)) (items e) in
+      bal-cond (ltb m (textWidth (r .dataBytes))) (x ++ y) (items r)
+      (bal-join x y (edit-bal (cutEnd (truncateEndPos (m - textWidth (e .dataBytes)) (r .dataBytes)) (r .dataBytes)) 0 (items r) tt h) (edit-bal (cutEnd (truncateEndPos m (e .dataBytes)) (e .dataBytes)) 0 (items e) tt g))
+      h
+  bal-law (padStart m f) g = bal-join (padding (fillCount m (r .dataBytes)) (items f)) (items r) (pads-bal f (g .0) (g .1) (fillCount m (r .dataBytes))) h
+  bal-law (padEnd m f) g = bal-join (items r) (padding (fillCount m (r .dataBytes)) (items f)) h (pads-bal f (g .0) (g .1) (fillCount m (r .dataBytes)))
+  bal-law (padCentered m f) g =
+      let n : ℕ = fillCount m (r .dataBytes) in
+      bal-join (padding (n / 2) (items f)) (items r ++ padding (n - n / 2) (items f)) (pads-bal f (g .0) (g .1) (n / 2)) (bal-join (items r) (padding (n - n / 2) (items f)) h (pads-bal f (g .0) (g .1) (n - n / 2)))
+  bal-law (indent p) g = edit-bal (indentOps (items p) true (r .dataBytes)) 0 (items r) (indent-puts (items p) true (r .dataBytes) g) h
+  bal-law (wrap w b) g = edit-bal (wrapOps (length (r .dataBytes)) 0 (wrapLines w b (r .dataBytes))) 0 (items r) (wrap-puts (length (r .dataBytes)) 0 (wrapLines w b (r .dataBytes))) h
+  bal-law (replace xs t) g = edit-bal (replaceOps t 0 xs) 0 (items r) (replace-puts t 0 xs) h
+
+  -- the plain step
+  pub step-law : ((w : ℕ) (b : Bool) (d : Bytes) → Ordered 0 (wrapLines w b d) × (0 < length (wrapLines w b d)))
+      → (j : Job) → SecondOk j → replacementFault j r ≡ 0 → colouredFrom [] (resultItems j r) ≡ step (toldOf j) (coloured r)
+  unfolding replacementFault
+  step-law o (truncateStart m e) g z = start-law m e g
+  step-law o (truncateEnd m e) g z = end-law m e g (length-coloured e)
+  step-law o (padStart m f) g z = padStart-law f (g .0) (g .1) m
+  step-law o (padEnd m f) g z = padEnd-law f (g .0) (g .1) m
+  step-law o (padCentered m f) g z = padBoth-law f (g .0) (g .1) m
+  step-law o (indent p) g z = indented-law p g
+  step-law o (wrap w b) g z = wrapped-law w b (wrapLines w b (r .dataBytes)) refl ((o w b (r .dataBytes)) .0) ((o w b (r .dataBytes)) .1)
+  step-law o (replace xs t) g z = replaced-law xs t (sorted 0 (length (r .dataBytes)) (length t) xs z)

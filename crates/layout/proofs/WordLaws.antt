@@ -1,0 +1,150 @@
+-- The words of a line, their whitespace included, are the line, before and after breaking and fitting. So the lines of a wrap are in order.
+use Prim.Native.Nat.{ℕ, zero, suc, _+_, _-_, _≤_, _<_}
+use native.Mathlib.Omega.{arith}
+use mathlib.Core.Bool.{Bool, true, false, cond, _&&_, _||_, not, false≢true}
+use mathlib.Core.Path.{_≡_, refl, sym, ap, _∙_}
+use mathlib.Core.List.{List, [], _∷_, _++_, append-nil, append-assoc}
+use lib.Dec.{leb, ltb, eqb}
+use lib.ListN.{length, length-append}
+use borrow.Author.Tests.{eqb-true}
+use Rattle.chars.specs.Chars.{Character, bytesOf, wide}
+use Rattle.chars.proofs.CharsLaws.{bytes-chars, bytes-append}
+use Rattle.recording.specs.Recording.{isNil}
+use Rattle.layout.specs.Wrap.{ontoFirst, groups, splitLines, Word, ByteWord, byteWord, spaceBefore, byteBefore, byteWords, wordsOf, inHead, headsAsWords, splitWord, splitWords, splitWordsAtWidth, fitsLine, fullWidth, firstFit, Line, shownLen, wholeLen, groupLines, wrappedLine, linesFrom, wrapLines}
+use Rattle.layout.proofs.GroupLaws.{concat, groups-concat, groups-some, onto-some}
+use Rattle.layout.proofs.StepLaws.{Ordered}
+
+abbrev pub spaces : ℕ → List ℕ
+spaces zero = []
+spaces (suc n) = 0x20 ∷ spaces n
+
+pub length-spaces : (n : ℕ) → length (spaces n) ≡ n
+length-spaces zero = refl
+length-spaces (suc n) = ap suc (length-spaces n)
+
+-- the runs of a line
+abbrev pub joinWords : List ByteWord → List ℕ
+joinWords [] = []
+joinWords (r ∷ rs) = r .text ++ (spaces (r .gap) ++ joinWords rs)
+
+unrun-space : (rs : List ByteWord) → joinWords (spaceBefore rs) ≡ 0x20 ∷ joinWords rs
+unrun-space [] = refl
+unrun-space (w ∷ ws) = go (w .text) refl
+  where
+    go : (t : List ℕ) → w .text ≡ t → joinWords (cond (isNil (w .text)) (byteWord [] (suc (w .gap)) ∷ ws) (byteWord [] 1 ∷ w ∷ ws)) ≡ 0x20 ∷ (w .text ++ (spaces (w .gap) ++ joinWords ws))
+    go [] e = rw e
+    go (b ∷ t) e = rw e
+
+unrun-byte : (b : ℕ) (rs : List ByteWord) → joinWords (byteBefore b rs) ≡ b ∷ joinWords rs
+unrun-byte b [] = refl
+unrun-byte b (w ∷ ws) = refl
+
+pub unrun-runs : (l : List ℕ) → joinWords (byteWords l) ≡ l
+unrun-runs [] = refl
+unrun-runs (b ∷ l) = go (eqb b 0x20) refl (unrun-runs l)
+  where
+    go : (t : Bool) → eqb b 0x20 ≡ t → joinWords (byteWords l) ≡ l → joinWords (cond t (spaceBefore (byteWords l)) (byteBefore b (byteWords l))) ≡ b ∷ l
+    go true e h = unrun-space (byteWords l) ∙ rw (h, eqb-true b 0x20 e)
+    go false e h = unrun-byte b (byteWords l) ∙ rw h
+
+-- the words of a line
+abbrev pub full : List Word → List ℕ
+full [] = []
+full (v ∷ vs) = bytesOf (v .body) ++ (spaces (v .space) ++ full vs)
+
+pub full-runs : (rs : List ByteWord) → full (wordsOf rs) ≡ joinWords rs
+full-runs [] = refl
+full-runs (r ∷ rs) = rw (bytes-chars (r .text), full-runs rs)
+
+pub full-append : (us vs : List Word) → full (us ++ vs) ≡ full us ++ full vs
+full-append [] vs = refl
+full-append (u ∷ us) vs =
+    rw (full-append us vs, append-assoc (bytesOf (u .body)) (spaces (u .space) ++ full us) (full vs), append-assoc (spaces (u .space)) (full us) (full vs))
+
+full-heads : (n : ℕ) (hs : List (List Character)) → 0 < length hs → full (headsAsWords n hs) ≡ bytesOf (concat hs) ++ spaces n
+full-heads n [] z = absurd (omega arith)
+full-heads n (h ∷ []) z = rw (append-nil (spaces n), append-nil h)
+full-heads n (h ∷ g ∷ gs) z =
+    rw (full-heads n (g ∷ gs) (omega arith), bytes-append h (concat (g ∷ gs)), append-assoc (bytesOf h) (bytesOf (concat (g ∷ gs))) (spaces n))
+
+full-broken : (w : ℕ) (v : Word) → full (splitWord w v) ≡ bytesOf (v .body) ++ spaces (v .space)
+full-broken w v =
+    full-heads (v .space) (groups (inHead w) wide (v .body)) (groups-some (inHead w) wide (v .body))
+    ∙ rw (groups-concat (inHead w) wide (v .body))
+
+full-brokenAll : (w : ℕ) (vs : List Word) → full (splitWords w vs) ≡ full vs
+full-brokenAll w [] = refl
+full-brokenAll w (v ∷ vs) =
+    rw (full-append (splitWord w v) (splitWords w vs), full-broken w v, full-brokenAll w vs) (append-assoc (bytesOf (v .body)) (spaces (v .space)) (full vs))
+
+pub full-breaking : (w : ℕ) (b : Bool) (vs : List Word) → full (splitWordsAtWidth w b vs) ≡ full vs
+unfolding splitWordsAtWidth
+full-breaking w b vs = go (b && ltb 0 w)
+  where
+    go : (t : Bool) → full (cond t (splitWords w vs) vs) ≡ full vs
+    go true = full-brokenAll w vs
+    go false = refl
+
+pub full-fitted : (w : ℕ) (b : Bool) (l : List ℕ) → full (concat (wrappedLine w b l)) ≡ l
+unfolding wrappedLine firstFit
+full-fitted w b l =
+    rw (groups-concat (fitsLine w) fullWidth (splitWordsAtWidth w b (wordsOf (byteWords l)))) (full-breaking w b (wordsOf (byteWords l)) ∙ full-runs (byteWords l) ∙ unrun-runs l)
+
+-- ── lengths
+pub length-full : (vs : List Word) → length (full vs) ≡ wholeLen vs
+length-full [] = refl
+length-full (v ∷ vs) =
+    rw (length-append (bytesOf (v .body)) (spaces (v .space) ++ full vs), length-append (spaces (v .space)) (full vs), length-spaces (v .space), length-full vs) (omega arith)
+
+pub shown-whole : (g : List Word) → shownLen g ≤ wholeLen g
+shown-whole [] = omega arith
+shown-whole (v ∷ []) = omega arith
+shown-whole (v ∷ u ∷ us) = omega (arith, shown-whole (u ∷ us))
+
+abbrev pub wholes : List (List Word) → ℕ
+wholes [] = 0
+wholes (g ∷ gs) = wholeLen g + wholes gs
+
+whole-append : (us vs : List Word) → wholeLen (us ++ vs) ≡ wholeLen us + wholeLen vs
+whole-append [] vs = omega arith
+whole-append (u ∷ us) vs = omega (arith, whole-append us vs)
+
+whole-concat : (gs : List (List Word)) → wholeLen (concat gs) ≡ wholes gs
+whole-concat [] = refl
+whole-concat (g ∷ gs) = whole-append g (concat gs) ∙ rw (whole-concat gs)
+
+pub wholes-fitted : (w : ℕ) (b : Bool) (l : List ℕ) → wholes (wrappedLine w b l) ≡ length l
+wholes-fitted w b l = sym (whole-concat (wrappedLine w b l)) ∙ sym (length-full (concat (wrappedLine w b l))) ∙ ap length (full-fitted w b l)
+
+-- ── the lines are in order
+ordered-spans : (gs : List (List Word)) (at from : ℕ) (rest : List Line) → from ≤ at → ((e : ℕ) → e ≤ at + wholes gs → Ordered e rest) → Ordered from (groupLines at gs ++ rest)
+ordered-spans [] at from rest h f = f from (omega arith)
+ordered-spans (g ∷ gs) at from rest h f =
+    (h, omega arith, ordered-spans gs (at + wholeLen g) (at + shownLen g) rest (omega (arith, shown-whole g)) (λ e k. f e (omega arith)))
+
+ordered-all : (w : ℕ) (b : Bool) (ls : List (List ℕ)) (at from : ℕ) → from ≤ at → Ordered from (linesFrom w b at ls)
+ordered-all w b [] at from h = tt
+ordered-all w b (l ∷ ls) at from h =
+    ordered-spans (wrappedLine w b l) at from (linesFrom w b (suc (at + length l)) ls) h (λ e k. ordered-all w b ls (suc (at + length l)) e (omega (arith, wholes-fitted w b l)))
+
+pub some-lines : (d : List ℕ) → 0 < length (splitLines d)
+some-lines [] = omega arith
+some-lines (b ∷ d) = go (eqb b 0x0A)
+  where
+    go : (t : Bool) → 0 < length (cond t ([] ∷ splitLines d) (ontoFirst b (splitLines d)))
+    go true = omega arith
+    go false = onto-some (λ (n : ℕ) (a : ℕ). true) (λ (a : ℕ). 0) b (splitLines d)
+
+pub some-spans : (at : ℕ) (gs : List (List Word)) → length (groupLines at gs) ≡ length gs
+some-spans at [] = refl
+some-spans at (g ∷ gs) = ap suc (some-spans (at + wholeLen g) gs)
+
+pub some-all : (w : ℕ) (b : Bool) (at : ℕ) (ls : List (List ℕ)) → 0 < length ls → 0 < length (linesFrom w b at ls)
+unfolding wrappedLine firstFit
+some-all w b at [] h = h
+some-all w b at (l ∷ ls) h =
+    omega (arith, length-append (groupLines at (wrappedLine w b l)) (linesFrom w b (suc (at + length l)) ls), some-spans at (wrappedLine w b l), groups-some (fitsLine w) fullWidth (splitWordsAtWidth w b (wordsOf (byteWords l))))
+
+pub wrap-ordered : (w : ℕ) (b : Bool) (d : List ℕ) → Ordered 0 (wrapLines w b d) × (0 < length (wrapLines w b d))
+unfolding wrapLines
+wrap-ordered w b d = (ordered-all w b (splitLines d) 0 0 (omega arith), some-all w b 0 (splitLines d) (some-lines d))
