@@ -6,3 +6,5 @@ pub mod GroupLaws
 pub mod WordLaws
 pub mod ByteWordLaws
 pub mod BreakLaws
+pub mod TwiceLaws
+pub mod Demand3
