@@ -4,3 +4,5 @@ pub mod Subpart
 pub mod Table
 pub mod Leads
 pub mod ReaderLaws
+pub mod WidthLaws
+pub mod FoldLaws
