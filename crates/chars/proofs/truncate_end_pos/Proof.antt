@@ -69,9 +69,14 @@ returns : tie.Need-returns Inv-loop μ-loop
 returns c =
     let l = c .before in
     let s = l .before .before .args .s .now in
-    let none : (keptWithin (l .loop .left) (chars (drop (l .loop .at) s)) ≡ []) × (c .if1 .end ≡ l .loop .at) =
-        ⊎-elim (λ w. ?a) (λ w. ?b) (c .if1 .came) in
-    ?
+    let at = l .loop .at in
+    let left = l .loop .left in
+    let none : (keptWithin left (chars (drop at s)) ≡ []) × (c .if1 .end ≡ at) =
+        ⊎-elim (λ w. (ap (keptWithin left) (chars-end s at (w .0 .taken)), w .1))
+        (λ w. (kept-none s at (w .1 .result .len) (w .1 .result .width) (w .0 .left) (w .1 .ensures .0 .0) (w .1 .ensures .0 .1) left (w .3 .taken), w .4)) (c .if1 .came) in
+    let bytes = ap (λ (cs : List Character). length (bytesOf cs)) (none .0) in
+    let columns = ap widthOf (none .0) in
+    ((omega (arith, bytes, none .1, l .loop .inv .bytes), omega (arith, columns, l .loop .inv .columns)), (omega (arith, none .1, l .loop .inv .within), omega arith, omega (arith, l .loop .inv .small, l .loop .inv .within)))
 
 pub truncate-end-pos-spec : {M : Type 1} → statement M
 truncate-end-pos-spec =

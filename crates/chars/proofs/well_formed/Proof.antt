@@ -20,11 +20,11 @@ record So-far (s : List ℕ) (at : ℕ) : Type 0 where
   -- the characters from here on decide
   rest : allOk (chars (drop at s)) ≡ wellFormed s
 
-is-false : (b : Bool) → cond b 1 0 ≡ 0 → b ≡ false
+is-false : (b : Bool) → _≡_ {A = ℕ} (cond b 1 0) 0 → b ≡ false
 is-false true e = absurd (omega arith)
 is-false false e = refl
 
-is-true : (b : Bool) → (cond b 1 0 ≡ 0 → ⊥) → b ≡ true
+is-true : (b : Bool) → (_≡_ {A = ℕ} (cond b 1 0) 0 → ⊥) → b ≡ true
 is-true true e = refl
 is-true false e = absurd (e refl)
 
