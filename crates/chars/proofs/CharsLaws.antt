@@ -30,7 +30,7 @@ bytes-append [] ys = refl
 bytes-append (x ∷ xs) ys = ap (λ (l : List ℕ). x .text ++ l) (bytes-append xs ys) ∙ sym (append-assoc (x .text) (bytesOf xs) (bytesOf ys))
 
 -- ── where a sequence stops
-matched-le : (cs : Row) (bs : List ℕ) → matched cs bs ≤ length bs
+pub matched-le : (cs : Row) (bs : List ℕ) → matched cs bs ≤ length bs
 matched-le [] bs = omega arith
 matched-le (c ∷ cs) [] = omega arith
 matched-le (c ∷ cs) (b ∷ bs) = go (within (c .low) (c .high) b) (matched-le cs bs)

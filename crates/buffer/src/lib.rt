@@ -1,0 +1,15 @@
+// Writing into lent buffers: what is written stands from an offset on, and all around it is untouched.
+// Each piece goes to the copying leaf, the kit's `bytes::copy`, by `&mut out[at..]`: the rest of the buffer from its current end.
+ghost use mathlib.Core.Path.{_≡_};
+ghost use Prim.Native.Nat.{_+_, _-_, _≤_};
+ghost use lib.ListN.{length};
+ghost use Rattle.buffer.specs.Place.{overAt, part};
+
+// Copies the bytes of src from a up to b into out from `at` on, and returns the place after them.
+pub fn put(out: &mut [u8], at: usize, src: &[u8], a: usize, b: usize) -> usize
+    requires { ⌜ (a ≤ b) × (b ≤ length (now src)) × (at + (b - a) ≤ length (now out)) ⌝ }
+    ensures { λ r. ⌜ (r ≡ at + (b - a)) × (now (out .exit) ≡ overAt at (part a b (now (src .entry))) (now (out .entry))) ⌝ }
+{
+    bytes::copy(&src[a..b], &mut out[at..]);
+    at + (b - a)
+}

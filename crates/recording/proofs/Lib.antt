@@ -1,0 +1,5 @@
+pub mod Lists
+pub mod EditLaws
+pub mod ItemsLaws
+pub mod SizeLaws
+pub mod FaultLaws

@@ -1,0 +1,171 @@
+-- What is written adds at the ends (`entries-append`, `text-append`), and how much an edit writes: the content's entries and texts and those put in.
+-- Also the steps of a loop over content: an entry here, or bytes up to the next entry.
+use Prim.Native.Nat.{ℕ, zero, suc, _+_, _-_, _*_, _≤_, _<_}
+use native.Mathlib.Omega.{arith}
+use mathlib.Core.Path.{_≡_, refl, sym, ap, _∙_}
+use mathlib.Core.List.{List, [], _∷_, _++_, append-assoc}
+use lib.ListN.{length, take, drop, length-append, take-append-drop}
+use lib.Seq.{take-add, drop-drop}
+use Rattle.recording.proofs.ItemsLaws.{bytes-append}
+use Rattle.recording.specs.declared.Entry.{Entry}
+use Rattle.recording.specs.Recording.{Bytes, Recording, entry, numbersOf, partOf, Item, byte, push, pop, raw, byteItems, dataOf, textOf, entriesFrom, itemOf, itemsFrom}
+use Rattle.recording.specs.Edit.{Op, keep, skip, put, front, back, entriesOnly, edit}
+
+pub text-append : (a b : List Item) → textOf (a ++ b) ≡ textOf a ++ textOf b
+text-append [] b = refl
+text-append (byte x ∷ a) b = text-append a b
+text-append (push l ∷ a) b = rw (text-append a b) (sym (append-assoc l (textOf a) (textOf b)))
+text-append (pop ∷ a) b = text-append a b
+text-append (raw l ∷ a) b = rw (text-append a b) (sym (append-assoc l (textOf a) (textOf b)))
+
+-- what comes after some items is written at the ends that they leave
+pub entries-append : (a b : List Item) (at used : ℕ) → entriesFrom at used (a ++ b) ≡ entriesFrom at used a ++ entriesFrom (at + length (dataOf a)) (used + length (textOf a)) b
+entries-append [] b at used = let e : at + 0 ≡ at = omega arith in let f : used + 0 ≡ used = omega arith in rw (e, f)
+entries-append (byte x ∷ a) b at used =
+    let e : at + suc (length (dataOf a)) ≡ suc at + length (dataOf a) = omega arith in rw e (entries-append a b (suc at) used)
+entries-append (push l ∷ a) b at used =
+    let e : used + length (l ++ textOf a) ≡ (used + length l) + length (textOf a) = omega (arith, length-append l (textOf a)) in
+    rw e (ap (λ (r : List Entry). entry at 0 used (length l) ∷ r) (entries-append a b at (used + length l)))
+entries-append (pop ∷ a) b at used = ap (λ (r : List Entry). entry at 1 0 0 ∷ r) (entries-append a b at used)
+entries-append (raw l ∷ a) b at used =
+    let e : used + length (l ++ textOf a) ≡ (used + length l) + length (textOf a) = omega (arith, length-append l (textOf a)) in
+    rw e (ap (λ (r : List Entry). entry at 2 used (length l) ∷ r) (entries-append a b at (used + length l)))
+
+-- ── sizes: no entry is dropped, so the entries and the text of an edit are those of the content and of what is put in
+abbrev pub entryCount : List Item → ℕ
+entryCount [] = 0
+entryCount (byte b ∷ is) = entryCount is
+entryCount (push l ∷ is) = suc (entryCount is)
+entryCount (pop ∷ is) = suc (entryCount is)
+entryCount (raw t ∷ is) = suc (entryCount is)
+
+pub length-entries : (is : List Item) (at used : ℕ) → length (entriesFrom at used is) ≡ entryCount is
+length-entries [] at used = refl
+length-entries (byte b ∷ is) at used = length-entries is (suc at) used
+length-entries (push l ∷ is) at used = ap suc (length-entries is at (used + length l))
+length-entries (pop ∷ is) at used = ap suc (length-entries is at used)
+length-entries (raw l ∷ is) at used = ap suc (length-entries is at (used + length l))
+
+pub length-numbers : (es : List Entry) → length (numbersOf es) ≡ 4 * length es
+length-numbers [] = refl
+length-numbers (e ∷ es) = omega (arith, length-numbers es)
+
+pub numbers-append : (a b : List Entry) → numbersOf (a ++ b) ≡ numbersOf a ++ numbersOf b
+numbers-append [] b = refl
+numbers-append (e ∷ a) b = ap (λ (r : List ℕ). e .position ∷ e .kind ∷ e .start ∷ e .len ∷ r) (numbers-append a b)
+
+-- the entry numbers that items take
+pub count-numbers : (is : List Item) (at used : ℕ) → length (numbersOf (entriesFrom at used is)) ≡ 4 * entryCount is
+count-numbers is at used = length-numbers (entriesFrom at used is) ∙ ap (λ (n : ℕ). 4 * n) (length-entries is at used)
+
+abbrev pub textLen : List Item → ℕ
+textLen is = length (textOf is)
+
+abbrev pub putCount : List Op → ℕ
+putCount [] = 0
+putCount (keep n ∷ ops) = putCount ops
+putCount (skip n ∷ ops) = putCount ops
+putCount (put p ∷ ops) = entryCount p + putCount ops
+
+pub count-append : (a b : List Item) → entryCount (a ++ b) ≡ entryCount a + entryCount b
+count-append [] b = omega arith
+count-append (byte x ∷ a) b = count-append a b
+count-append (push l ∷ a) b = omega (arith, count-append a b)
+count-append (pop ∷ a) b = omega (arith, count-append a b)
+count-append (raw l ∷ a) b = omega (arith, count-append a b)
+
+pub count-split : (n : ℕ) (is : List Item) → entryCount (front n is) + entryCount (back n is) ≡ entryCount is
+count-split n [] = refl
+count-split zero (byte x ∷ is) = omega arith
+count-split (suc n) (byte x ∷ is) = count-split n is
+count-split n (push l ∷ is) = omega (arith, count-split n is)
+count-split n (pop ∷ is) = omega (arith, count-split n is)
+count-split n (raw l ∷ is) = omega (arith, count-split n is)
+
+pub count-only : (is : List Item) → entryCount (entriesOnly is) ≡ entryCount is
+count-only [] = refl
+count-only (byte x ∷ is) = count-only is
+count-only (push l ∷ is) = omega (arith, count-only is)
+count-only (pop ∷ is) = omega (arith, count-only is)
+count-only (raw l ∷ is) = omega (arith, count-only is)
+
+pub edit-count : (ops : List Op) (is : List Item) → entryCount (edit ops is) ≡ entryCount is + putCount ops
+edit-count [] is = omega arith
+edit-count (keep n ∷ ops) is = omega (arith, count-append (front n is) (edit ops (back n is)), edit-count ops (back n is), count-split n is)
+edit-count (skip n ∷ ops) is = omega (arith, count-append (entriesOnly (front n is)) (edit ops (back n is)), count-only (front n is), edit-count ops (back n is), count-split n is)
+edit-count (put p ∷ ops) is =
+    omega (arith, count-append (front 0 is) (p ++ edit ops (back 0 is)), count-append p (edit ops (back 0 is)), edit-count ops (back 0 is), count-split 0 is)
+
+-- ── one step of a loop over content: an entry here, or bytes up to the next entry
+abbrev pub IsEntry : Item → Type 0
+IsEntry (byte b) = ⊥
+IsEntry (push l) = Unit {0}
+IsEntry pop = Unit {0}
+IsEntry (raw t) = Unit {0}
+
+pub front-entry : (n : ℕ) (e : Item) (is : List Item) → IsEntry e → front n (e ∷ is) ≡ e ∷ front n is
+front-entry n (byte b) is h = absurd h
+front-entry n (push l) is h = refl
+front-entry n pop is h = refl
+front-entry n (raw t) is h = refl
+
+pub back-entry : (n : ℕ) (e : Item) (is : List Item) → IsEntry e → back n (e ∷ is) ≡ back n is
+back-entry n (byte b) is h = absurd h
+back-entry n (push l) is h = refl
+back-entry n pop is h = refl
+back-entry n (raw t) is h = refl
+
+pub front-bytes : (d : Bytes) (n : ℕ) (is : List Item) → front (length d + n) (byteItems d ++ is) ≡ byteItems d ++ front n is
+front-bytes [] n is = let e : 0 + n ≡ n = omega arith in rw e
+front-bytes (b ∷ d) n is = let e : suc (length d) + n ≡ suc (length d + n) = omega arith in rw (e, front-bytes d n is)
+
+pub back-bytes : (d : Bytes) (n : ℕ) (is : List Item) → back (length d + n) (byteItems d ++ is) ≡ back n is
+back-bytes [] n is = let e : 0 + n ≡ n = omega arith in rw e
+back-bytes (b ∷ d) n is = let e : suc (length d) + n ≡ suc (length d + n) = omega arith in rw (e, back-bytes d n is)
+
+-- what is left of a content at the offset `at`, its first entries read: the entry is next if it stands here, and bytes come first if it stands further on
+pub cursor-entry : (at : ℕ) (t d : Bytes) (e : Entry) (es : List Entry) → e .position ≡ at → itemsFrom at t d (e ∷ es) ≡ itemOf (e .kind) (partOf t e) ∷ itemsFrom at t d es
+cursor-entry at t d e es h = let z : e .position - at ≡ 0 = omega arith in rw z (ap (λ (n : ℕ). itemOf (e .kind) (partOf t e) ∷ itemsFrom n t d es) h)
+
+-- the text of an edit has the length of the content's text and of the texts put in
+abbrev pub putText : List Op → ℕ
+putText [] = 0
+putText (keep n ∷ ops) = putText ops
+putText (skip n ∷ ops) = putText ops
+putText (put p ∷ ops) = textLen p + putText ops
+
+pub text-split : (n : ℕ) (is : List Item) → textLen (front n is) + textLen (back n is) ≡ textLen is
+text-split n [] = refl
+text-split zero (byte x ∷ is) = omega arith
+text-split (suc n) (byte x ∷ is) = text-split n is
+text-split n (push l ∷ is) = omega (arith, text-split n is, length-append l (textOf is), length-append l (textOf (front n is)))
+text-split n (pop ∷ is) = text-split n is
+text-split n (raw l ∷ is) = omega (arith, text-split n is, length-append l (textOf is), length-append l (textOf (front n is)))
+
+pub text-only : (is : List Item) → textOf (entriesOnly is) ≡ textOf is
+text-only [] = refl
+text-only (byte x ∷ is) = text-only is
+text-only (push l ∷ is) = rw (text-only is)
+text-only (pop ∷ is) = text-only is
+text-only (raw l ∷ is) = rw (text-only is)
+
+len-append : (a b : List Item) → textLen (a ++ b) ≡ textLen a + textLen b
+len-append a b = ap length (text-append a b) ∙ length-append (textOf a) (textOf b)
+
+pub edit-text : (ops : List Op) (is : List Item) → textLen (edit ops is) ≡ textLen is + putText ops
+edit-text [] is = omega arith
+edit-text (keep n ∷ ops) is = omega (arith, len-append (front n is) (edit ops (back n is)), edit-text ops (back n is), text-split n is)
+edit-text (skip n ∷ ops) is = omega (arith, len-append (entriesOnly (front n is)) (edit ops (back n is)), ap length (text-only (front n is)), edit-text ops (back n is), text-split n is)
+edit-text (put p ∷ ops) is = omega (arith, len-append (front 0 is) (p ++ edit ops (back 0 is)), len-append p (edit ops (back 0 is)), edit-text ops (back 0 is), text-split 0 is)
+
+-- bytes come first as far as the next entry stands
+pub cursor-bytes : (m at : ℕ) (t d : Bytes) (e : Entry) (es : List Entry) → at + m ≤ e .position
+    → itemsFrom at t d (e ∷ es) ≡ byteItems (take m d) ++ itemsFrom (at + m) t (drop m d) (e ∷ es)
+cursor-bytes m at t d e es h =
+    let p : ℕ = e .position in
+    let q : p - at ≡ m + (p - (at + m)) = omega arith in
+    rw (q, take-add m (p - (at + m)) d, bytes-append (take m d) (take (p - (at + m)) (drop m d)), drop-drop (p - (at + m)) m d)
+    (append-assoc (byteItems (take m d)) (byteItems (take (p - (at + m)) (drop m d))) (itemOf (e .kind) (partOf t e) ∷ itemsFrom p t (drop (m + (p - (at + m))) d) es))
+
+pub cursor-end : (m at : ℕ) (t d : Bytes) → itemsFrom at t d [] ≡ byteItems (take m d) ++ itemsFrom (at + m) t (drop m d) []
+cursor-end m at t d = rw (← bytes-append (take m d) (drop m d)) (ap byteItems (sym (take-append-drop m d)))

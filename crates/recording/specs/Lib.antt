@@ -1,0 +1,5 @@
+pub mod Recording
+pub mod Coloured
+pub mod Edit
+pub mod Refusals
+pub mod Outcome
