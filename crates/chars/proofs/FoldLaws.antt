@@ -7,12 +7,13 @@ use mathlib.Core.Path.{_≡_, refl, sym, ap, _∙_}
 use mathlib.Core.List.{List, [], _∷_, _++_, tail}
 use lib.Dec.{leb, eqb, T, leb→le}
 use lib.ListN.{length, take, drop, getD, length-append, length-drop}
-use borrow.Author.Tests.{le-leb, lt-leb, eq-eqb, ne-eqb}
+use borrow.Author.Tests.{le-leb, lt-leb, eq-eqb, ne-eqb, leb-true, leb-false}
 use Rattle.chars.specs.Utf8.{Row, Span, span, within, table37, rowOf, matched, tailLen, complete}
 use Rattle.chars.specs.Width.{Range, ranges, widthIn, charWidth}
 use Rattle.chars.specs.Chars.{Character, charAt, charIn, chars, bytesOf, wide, widthOf, textWidth, allOk, wellFormed}
 use Rattle.chars.specs.Cut.{keptWithin, leadingZeroWidth}
 use Rattle.chars.proofs.CharsLaws.{chars-end, char-next, bytes-chars}
+use Rattle.chars.proofs.CutLaws.{longest}
 use Rattle.chars.proofs.ReaderLaws.{in-span, below, above}
 use Rattle.chars.proofs.Table.{and-left, and-right}
 
@@ -93,3 +94,25 @@ module _ (s : List ℕ) (at n w : ℕ) (more : at < length s) (e : n ≡ length 
 module _ (s : List ℕ) (at n : ℕ) (more : at < length s) (e : n ≡ length (charIn at s .text)) where
   pub ok-next : (t : Bool) → charIn at s .ok ≡ t → allOk (chars (drop at s)) ≡ (t && allOk (chars (drop (at + n) s)))
   ok-next t h = rw (char-next s at more, e, h)
+
+-- ── the longest ending within a width, from the front
+-- where something wide is left, the text has not ended
+pub some-left : (s : List ℕ) (at : ℕ) → 0 < widthOf (chars (drop at s)) → at < length s
+some-left s at h = go (leb (length s) at) refl
+  where
+    go : (t : Bool) → leb (length s) at ≡ t → at < length s
+    go true e = absurd (omega (arith, ap widthOf (chars-end s at (leb-true (length s) at e)), h))
+    go false e = leb-false (length s) at e
+
+-- what is left is too wide, so its first character goes
+pub longest-next : (m : ℕ) (s : List ℕ) (at n : ℕ) → at < length s → n ≡ length (charIn at s .text) → m < widthOf (chars (drop at s))
+    → longest m (chars (drop at s)) ≡ longest m (chars (drop (at + n) s))
+longest-next m s at n more e h =
+    let k : chars (drop at s) ≡ charIn at s ∷ chars (drop (at + n) s) = rw e (char-next s at more) in
+    let j : m < wide (charIn at s) + widthOf (chars (drop (at + n) s)) = rw k at h in
+    rw (k, lt-leb (wide (charIn at s) + widthOf (chars (drop (at + n) s))) m j)
+
+-- what is left is narrow enough, so it is kept
+pub longest-whole : (m : ℕ) (cs : List Character) → widthOf cs ≤ m → longest m cs ≡ cs
+longest-whole m [] h = refl
+longest-whole m (c ∷ cs) h = rw (le-leb (wide c + widthOf cs) m h)

@@ -50,36 +50,83 @@ fn decode(t: &[u16; 256], a: u8, b: u8, c: u8, d: u8) -> Read
     let low = l.low;
     let high = l.high;
     if n == 0 {
-        return Read { code: 0xFFFD, len: 1, ok: false };
+        return Read {
+            code: 0xFFFD,
+            len: 1,
+            ok: false,
+        };
     }
     if n == 1 {
-        return Read { code: a as u32, len: 1, ok: true };
+        return Read {
+            code: a as u32,
+            len: 1,
+            ok: true,
+        };
     }
     if b < low {
-        return Read { code: 0xFFFD, len: 1, ok: false };
+        return Read {
+            code: 0xFFFD,
+            len: 1,
+            ok: false,
+        };
     }
     if high < b {
-        return Read { code: 0xFFFD, len: 1, ok: false };
+        return Read {
+            code: 0xFFFD,
+            len: 1,
+            ok: false,
+        };
     }
     if n == 2 {
-        return Read { code: (a as u32) % 32 * 64 + (b as u32) % 64, len: 2, ok: true };
+        return Read {
+            code: (a as u32) % 32 * 64 + (b as u32) % 64,
+            len: 2,
+            ok: true,
+        };
     }
     if c < 0x80 {
-        return Read { code: 0xFFFD, len: 2, ok: false };
+        return Read {
+            code: 0xFFFD,
+            len: 2,
+            ok: false,
+        };
     }
     if 0xBF < c {
-        return Read { code: 0xFFFD, len: 2, ok: false };
+        return Read {
+            code: 0xFFFD,
+            len: 2,
+            ok: false,
+        };
     }
     if n == 3 {
-        return Read { code: (a as u32) % 16 * 4096 + (b as u32) % 64 * 64 + (c as u32) % 64, len: 3, ok: true };
+        return Read {
+            code: (a as u32) % 16 * 4096 + (b as u32) % 64 * 64 + (c as u32) % 64,
+            len: 3,
+            ok: true,
+        };
     }
     if d < 0x80 {
-        return Read { code: 0xFFFD, len: 3, ok: false };
+        return Read {
+            code: 0xFFFD,
+            len: 3,
+            ok: false,
+        };
     }
     if 0xBF < d {
-        return Read { code: 0xFFFD, len: 3, ok: false };
+        return Read {
+            code: 0xFFFD,
+            len: 3,
+            ok: false,
+        };
     }
-    Read { code: (a as u32) % 8 * 262144 + (b as u32) % 64 * 4096 + (c as u32) % 64 * 64 + (d as u32) % 64, len: 4, ok: true }
+    Read {
+        code: (a as u32) % 8 * 262144
+            + (b as u32) % 64 * 4096
+            + (c as u32) % 64 * 64
+            + (d as u32) % 64,
+        len: 4,
+        ok: true,
+    }
 }
 
 // The byte at i, or 0 past the end.
@@ -211,11 +258,17 @@ pub fn seen_at(t: &[u16; 256], s: &[u8], at: usize) -> Seen
     let a = s[at];
     if a < 32 {
         let p = seen_any(t, s, at);
-        return Seen { len: p / 8, width: (p % 4) as u32 };
+        return Seen {
+            len: p / 8,
+            width: (p % 4) as u32,
+        };
     }
     if 126 < a {
         let p = seen_any(t, s, at);
-        return Seen { len: p / 8, width: (p % 4) as u32 };
+        return Seen {
+            len: p / 8,
+            width: (p % 4) as u32,
+        };
     }
     Seen { len: 1, width: 1 }
 }
@@ -282,7 +335,10 @@ pub fn truncate_end_pos(t: &[u16; 256], s: &[u8], max: u64) -> Cut
         left -= w;
         at += c.len;
     };
-    Cut { pos: end, width: max - left }
+    Cut {
+        pos: end,
+        width: max - left,
+    }
 }
 
 // Where the longest ending starts that is at most max wide, and its width. The text is total wide.
@@ -300,7 +356,10 @@ pub fn truncate_start_pos(t: &[u16; 256], s: &[u8], total: u64, max: u64) -> Cut
         left -= c.width as u64;
         at += c.len;
     }
-    Cut { pos: at, width: left }
+    Cut {
+        pos: at,
+        width: left,
+    }
 }
 
 // How many bytes the leading zero-width characters of a text take.

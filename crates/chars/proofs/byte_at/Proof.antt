@@ -1,3 +1,4 @@
+-- Inside the text the byte is read, past the end `getD` gives 0.
 use native.Mathlib.Omega.{arith}
 use borrow.Author.Needs.{needs}
 use mathlib.Core.Path.{sym}
@@ -7,15 +8,12 @@ use Rattle.chars.proofs.byte_at.Tie as tie
 use Rattle.chars.proofs.byte_at.Reads as reads
 use Rattle.chars.proofs.byte_at.Lts as lts
 
--- src/lib.rt:106:22
 shared-slice-read-result : tie.Need-shared-slice-read-result
 shared-slice-read-result c = search needs
 
--- src/lib.rt:103:1
 returns : tie.Need-returns
 returns c = search needs
 
--- src/lib.rt:103:1
 returns-2 : tie.Need-returns-2
 returns-2 c = sym (List·getD-eq-default (c .before .args .s .now) 0 (c .if1 .left))
 

@@ -1,3 +1,4 @@
+-- Each way out is the character by the row of the lead byte: the tests on the way say how many columns the bytes fill.
 use native.Mathlib.Omega.{arith}
 use borrow.Author.Needs.{needs}
 use mathlib.Core.Path.{_≡_, _∙_}
@@ -25,11 +26,9 @@ by-row c =
     let x = c .before .args in
     read-by (x .a) (x .b ∷ x .c ∷ x .d ∷ []) (l .len) (l .low) (l .high) (c .lead-in .ensures .0) (c .lead-in .ensures .1)
 
--- src/lib.rt:65:9
 lead-in-requires : tie.Need-lead-in-requires
 lead-in-requires c κs = search needs
 
--- src/lib.rt:70:9
 returns : tie.Need-returns
 returns c =
     let m = c .before in
@@ -37,7 +36,6 @@ returns c =
     let x = m .before .args in
     no-lead (x .a) (x .b) (x .c) (x .d) (l .low) (l .high) (l .len) (c .if1 .taken) ∙ by-row m
 
--- src/lib.rt:73:9
 returns-2 : tie.Need-returns-2
 returns-2 c =
     let m = c .before .before in
@@ -45,7 +43,6 @@ returns-2 c =
     let x = m .before .args in
     one-byte (x .a) (x .b) (x .c) (x .d) (l .low) (l .high) (l .len) (c .if2 .taken) ∙ by-row m
 
--- src/lib.rt:76:9
 returns-3 : tie.Need-returns-3
 returns-3 c =
     let m = c .before .before .before in
@@ -53,7 +50,6 @@ returns-3 c =
     let x = m .before .args in
     no-second (x .a) (x .b) (x .c) (x .d) (l .low) (l .high) (l .len) (omega arith) (below _ _ _ (c .if3 .taken)) ∙ by-row m
 
--- src/lib.rt:79:9
 returns-4 : tie.Need-returns-4
 returns-4 c =
     let m = c .before .before .before .before in
@@ -61,15 +57,12 @@ returns-4 c =
     let x = m .before .args in
     no-second (x .a) (x .b) (x .c) (x .d) (l .low) (l .high) (l .len) (omega arith) (above _ _ _ (c .if4 .taken)) ∙ by-row m
 
--- src/lib.rt:82:29
 mul-t14 : tie.Need-mul-t14
 mul-t14 c = search needs
 
--- src/lib.rt:82:29
 add-t17 : tie.Need-add-t17
 add-t17 c = search needs
 
--- src/lib.rt:82:9
 returns-5 : tie.Need-returns-5
 returns-5 c =
     let m = c .before .before .before .before .before in
@@ -77,7 +70,6 @@ returns-5 c =
     let x = m .before .args in
     two-bytes (x .a) (x .b) (x .c) (x .d) (l .low) (l .high) (l .len) (c .if5 .taken) (in-span _ _ _ (c .before .before .if3 .left) (c .before .if4 .left)) ∙ by-row m
 
--- src/lib.rt:85:9
 returns-6 : tie.Need-returns-6
 returns-6 c =
     let m = c .before .before .before .before .before .before in
@@ -85,7 +77,6 @@ returns-6 c =
     let x = m .before .args in
     no-third (x .a) (x .b) (x .c) (x .d) (l .low) (l .high) (l .len) (omega arith) (in-span _ _ _ (c .before .before .before .if3 .left) (c .before .before .if4 .left)) (below _ _ _ (c .if6 .taken)) ∙ by-row m
 
--- src/lib.rt:88:9
 returns-7 : tie.Need-returns-7
 returns-7 c =
     let m = c .before .before .before .before .before .before .before in
@@ -93,23 +84,18 @@ returns-7 c =
     let x = m .before .args in
     no-third (x .a) (x .b) (x .c) (x .d) (l .low) (l .high) (l .len) (omega arith) (in-span _ _ _ (c .before .before .before .before .if3 .left) (c .before .before .before .if4 .left)) (above _ _ _ (c .if7 .taken)) ∙ by-row m
 
--- src/lib.rt:91:29
 mul-t20 : tie.Need-mul-t20
 mul-t20 c = search needs
 
--- src/lib.rt:91:54
 mul-t23 : tie.Need-mul-t23
 mul-t23 c = search needs
 
--- src/lib.rt:91:29
 add-t24 : tie.Need-add-t24
 add-t24 c = search needs
 
--- src/lib.rt:91:29
 add-t27 : tie.Need-add-t27
 add-t27 c = search needs
 
--- src/lib.rt:91:9
 returns-8 : tie.Need-returns-8
 returns-8 c =
     let m = c .before .before .before .before .before .before .before .before in
@@ -117,7 +103,6 @@ returns-8 c =
     let x = m .before .args in
     three-bytes (x .a) (x .b) (x .c) (x .d) (l .low) (l .high) (l .len) (c .if8 .taken) (in-span _ _ _ (c .before .before .before .before .before .if3 .left) (c .before .before .before .before .if4 .left)) (in-span _ _ _ (c .before .before .if6 .left) (c .before .if7 .left)) ∙ by-row m
 
--- src/lib.rt:94:9
 returns-9 : tie.Need-returns-9
 returns-9 c =
     let m = c .before .before .before .before .before .before .before .before .before in
@@ -125,7 +110,6 @@ returns-9 c =
     let x = m .before .args in
     no-fourth (x .a) (x .b) (x .c) (x .d) (l .low) (l .high) (l .len) (omega arith) (in-span _ _ _ (c .before .before .before .before .before .before .if3 .left) (c .before .before .before .before .before .if4 .left)) (in-span _ _ _ (c .before .before .before .if6 .left) (c .before .before .if7 .left)) (below _ _ _ (c .if9 .taken)) ∙ by-row m
 
--- src/lib.rt:97:9
 returns-10 : tie.Need-returns-10
 returns-10 c =
     let m = c .before .before .before .before .before .before .before .before .before .before in
@@ -133,31 +117,24 @@ returns-10 c =
     let x = m .before .args in
     no-fourth (x .a) (x .b) (x .c) (x .d) (l .low) (l .high) (l .len) (omega arith) (in-span _ _ _ (c .before .before .before .before .before .before .before .if3 .left) (c .before .before .before .before .before .before .if4 .left)) (in-span _ _ _ (c .before .before .before .before .if6 .left) (c .before .before .before .if7 .left)) (above _ _ _ (c .if10 .taken)) ∙ by-row m
 
--- src/lib.rt:99:18
 mul-t30 : tie.Need-mul-t30
 mul-t30 c = search needs
 
--- src/lib.rt:99:44
 mul-t33 : tie.Need-mul-t33
 mul-t33 c = search needs
 
--- src/lib.rt:99:18
 add-t34 : tie.Need-add-t34
 add-t34 c = search needs
 
--- src/lib.rt:99:69
 mul-t37 : tie.Need-mul-t37
 mul-t37 c = search needs
 
--- src/lib.rt:99:18
 add-t38 : tie.Need-add-t38
 add-t38 c = search needs
 
--- src/lib.rt:99:18
 add-t41 : tie.Need-add-t41
 add-t41 c = search needs
 
--- src/lib.rt:61:1
 returns-11 : tie.Need-returns-11
 returns-11 c =
     let m = c .before .before .before .before .before .before .before .before .before .before in

@@ -1,3 +1,4 @@
+-- Both ends are tested.
 use native.Mathlib.Omega.{arith}
 use borrow.Author.Needs.{needs}
 use mathlib.Core.Path.{sym}
@@ -8,11 +9,9 @@ use Rattle.chars.proofs.inside.Tie as tie
 use Rattle.chars.proofs.inside.Reads as reads
 use Rattle.chars.proofs.inside.Lts as lts
 
--- src/lib.rt:110:9
 returns : tie.Need-returns
 returns c = sym (below _ _ _ (c .if1 .taken))
 
--- src/lib.rt:106:1
 returns-2 : tie.Need-returns-2
 returns-2 c = simp (le-leb _ _ (c .if1 .left))
 

@@ -1,3 +1,4 @@
+-- The three digits of an entry are the row's length and columns: `lead-row`, the computed test over the table.
 use native.Mathlib.Omega.{arith}
 use borrow.Author.Needs.{needs}
 use Rattle.chars.proofs.Leads.{lead-row}
@@ -6,39 +7,30 @@ use Rattle.chars.proofs.lead_in.Tie as tie
 use Rattle.chars.proofs.lead_in.Reads as reads
 use Rattle.chars.proofs.lead_in.Lts as lts
 
--- src/lib.rt:45:13
 mul-x : tie.Need-mul-x
 mul-x c = search needs
 
--- src/lib.rt:45:13
 element-copy-out-x : tie.Need-element-copy-out-x
 element-copy-out-x c = search needs
 
--- src/lib.rt:47:14
 cast-t10 : tie.Need-cast-t10
 cast-t10 c = search needs
 
--- src/lib.rt:48:15
 mul-t13 : tie.Need-mul-t13
 mul-t13 c = search needs
 
--- src/lib.rt:48:14
 cast-t14 : tie.Need-cast-t14
 cast-t14 c = search needs
 
--- src/lib.rt:49:16
 mul-t16 : tie.Need-mul-t16
 mul-t16 c = search needs
 
--- src/lib.rt:49:16
 add-t17 : tie.Need-add-t17
 add-t17 c = search needs
 
--- src/lib.rt:49:15
 cast-t18 : tie.Need-cast-t18
 cast-t18 c = search needs
 
--- src/lib.rt:41:1
 returns : tie.Need-returns
 returns c = rw (c .before .pre) (lead-row (c .before .args .b) (c .before .fits .b .fits))
 

@@ -1,3 +1,4 @@
+-- The three parts of the number: bytes, well-formed or not, and width; the width is at most 2, so they do not run into each other.
 use native.Mathlib.Omega.{arith}
 use borrow.Author.Needs.{needs}
 use mathlib.Core.Path.{_≡_, _∙_, ap, sym}
@@ -12,31 +13,24 @@ use Rattle.chars.proofs.seen_any.Lts as lts
 use Rattle.chars.proofs.char_width.Reads as char-width-reads
 use Rattle.chars.proofs.read_char.Reads as read-char-reads
 
--- src/lib.rt:189:9
 read-char-requires : tie.Need-read-char-requires
 read-char-requires c κs = search needs
 
--- src/lib.rt:190:13
 char-width-requires : tie.Need-char-width-requires
 char-width-requires c κs = search needs
 
--- src/lib.rt:190:13
 cast-w : tie.Need-cast-w
 cast-w c = search needs
 
--- src/lib.rt:192:16
 mul-result : tie.Need-mul-result
 mul-result c = search needs
 
--- src/lib.rt:192:16
 add-result : tie.Need-add-result
 add-result c = search needs
 
--- src/lib.rt:192:16
 add-result-2 : tie.Need-add-result-2
 add-result-2 c = search needs
 
--- src/lib.rt:192:9
 returns : tie.Need-returns
 returns c =
     let w = c .before .before in
@@ -46,15 +40,12 @@ returns c =
     let v = w .char-width .ensures .0 ∙ ap (λ (x : Read). charWidth (x .code)) e in
     ((omega arith, omega arith, omega arith), (omega arith, omega arith, omega arith))
 
--- src/lib.rt:194:5
 mul-result-2 : tie.Need-mul-result-2
 mul-result-2 c = search needs
 
--- src/lib.rt:194:5
 add-result-3 : tie.Need-add-result-3
 add-result-3 c = search needs
 
--- src/lib.rt:183:1
 returns-2 : tie.Need-returns-2
 returns-2 c =
     let w = c .before .before in

@@ -1,3 +1,4 @@
+-- A printable ASCII byte is a character of one byte and width 1 (`plain`); any other is taken out of the number of `seen_any`.
 use native.Mathlib.Omega.{arith}
 use borrow.Author.Needs.{needs}
 use mathlib.Core.Path.{sym}
@@ -8,35 +9,27 @@ use Rattle.chars.proofs.seen_at.Reads as reads
 use Rattle.chars.proofs.seen_at.Lts as lts
 use Rattle.chars.proofs.seen_any.Reads as seen-any-reads
 
--- src/lib.rt:211:13
 shared-slice-read-a : tie.Need-shared-slice-read-a
 shared-slice-read-a c = search needs
 
--- src/lib.rt:213:13
 seen-any-requires : tie.Need-seen-any-requires
 seen-any-requires c κs = search needs
 
--- src/lib.rt:214:42
 cast-t12 : tie.Need-cast-t12
 cast-t12 c = search needs
 
--- src/lib.rt:214:9
 returns : tie.Need-returns
 returns c = search needs
 
--- src/lib.rt:217:13
 seen-any-requires-2 : tie.Need-seen-any-requires-2
 seen-any-requires-2 c κs = search needs
 
--- src/lib.rt:218:42
 cast-t15 : tie.Need-cast-t15
 cast-t15 c = search needs
 
--- src/lib.rt:218:9
 returns-2 : tie.Need-returns-2
 returns-2 c = search needs
 
--- src/lib.rt:205:1
 returns-3 : tie.Need-returns-3
 returns-3 c =
     let x = c .before .before .before .before .args in

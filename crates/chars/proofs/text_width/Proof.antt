@@ -27,32 +27,25 @@ Inv-loop t s at₀ sum₀ at sum = So-far s at sum
 abbrev μ-loop : tie.MeasureT-loop
 μ-loop t s at₀ sum₀ at sum = length s - at
 
--- src/lib.rt:231:5
 loop-holds : tie.Need-loop-holds Inv-loop μ-loop
 unfolding textWidth
 loop-holds c = record { within = omega arith; small = omega arith; whole = omega arith }
 
--- src/lib.rt:232:13
 seen-at-requires : tie.Need-seen-at-requires Inv-loop μ-loop
 seen-at-requires c κs = search needs
 
--- src/lib.rt:233:16
 cast-sum : tie.Need-cast-sum Inv-loop μ-loop
 cast-sum c = search needs
 
--- src/lib.rt:233:9
 add-sum : tie.Need-add-sum Inv-loop μ-loop
 add-sum c = search needs
 
--- src/lib.rt:234:9
 add-at : tie.Need-add-at Inv-loop μ-loop
 add-at c = search needs
 
--- src/lib.rt:231:5
 loop-less : tie.Need-loop-less Inv-loop μ-loop
 loop-less c = search needs
 
--- src/lib.rt:231:5
 loop-again : tie.Need-loop-again Inv-loop μ-loop
 loop-again c =
     let r = c .before .before .seen-at in
@@ -60,7 +53,6 @@ loop-again c =
     let n = width-next (l .before .before .args .s .now) (l .loop .at) (r .result .len) (r .result .width) (c .before .before .before .loop-test .taken) (r .ensures .0 .0) (r .ensures .0 .1) in
     record { within = omega arith; small = omega arith; whole = omega (arith, n, l .loop .inv .whole) }
 
--- src/lib.rt:224:1
 returns : tie.Need-returns Inv-loop μ-loop
 returns c =
     let l = c .before in

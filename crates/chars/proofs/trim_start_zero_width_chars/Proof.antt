@@ -12,24 +12,19 @@ use Rattle.chars.proofs.trim_start_zero_width_chars.Reads as reads
 use Rattle.chars.proofs.trim_start_zero_width_chars.Lts as lts
 use Rattle.chars.proofs.zero_width_len.Reads as zero-width-len-reads
 
--- src/lib.rt:328:9
 zero-width-len-requires : tie.Need-zero-width-len-requires
 unfolding leadTable
 zero-width-len-requires c κs = search needs
 
--- src/lib.rt:329:5
 sub-result : tie.Need-sub-result
 sub-result c = search needs
 
--- src/lib.rt:329:5
 part-result-start : tie.Need-part-result-start
 part-result-start c = search needs
 
--- src/lib.rt:329:5
 part-result-end : tie.Need-part-result-end
 part-result-end c = search needs
 
--- src/lib.rt:324:1
 returns : tie.Need-returns
 returns c =
     let n = c .before .zero-width-len in

@@ -31,28 +31,22 @@ Inv-loop t s max at₀ left₀ at left = So-far s max at left
 abbrev μ-loop : tie.MeasureT-loop
 μ-loop t s max at₀ left₀ at left = length s - at
 
--- src/lib.rt:273:9
 loop-holds : tie.Need-loop-holds Inv-loop μ-loop
 unfolding truncateEndPos truncateEndWidth
 loop-holds c = record { within = omega arith; room = omega arith; small = omega arith; bytes = omega arith; columns = omega arith }
 
--- src/lib.rt:277:13
 seen-at-requires : tie.Need-seen-at-requires Inv-loop μ-loop
 seen-at-requires c κs = search needs
 
--- src/lib.rt:278:17
 cast-w : tie.Need-cast-w Inv-loop μ-loop
 cast-w c = search needs
 
--- src/lib.rt:283:9
 add-at : tie.Need-add-at Inv-loop μ-loop
 add-at c = search needs
 
--- src/lib.rt:273:9
 loop-less : tie.Need-loop-less Inv-loop μ-loop
 loop-less c = search needs
 
--- src/lib.rt:273:9
 loop-again : tie.Need-loop-again Inv-loop μ-loop
 loop-again c =
     let r = c .before .before .before .seen-at in
@@ -60,11 +54,9 @@ loop-again c =
     let n = kept-more (l .before .before .args .s .now) (l .loop .at) (r .result .len) (r .result .width) (c .before .before .before .before .if1 .left) (r .ensures .0 .0) (r .ensures .0 .1) (l .loop .left) (c .before .if2 .left) in
     record { within = omega arith; room = omega arith; small = omega arith; bytes = omega (arith, n .0, l .loop .inv .bytes); columns = omega (arith, n .1, l .loop .inv .columns) }
 
--- src/lib.rt:285:28
 sub-t12 : tie.Need-sub-t12 Inv-loop μ-loop
 sub-t12 c = search needs
 
--- src/lib.rt:266:1
 returns : tie.Need-returns Inv-loop μ-loop
 returns c =
     let l = c .before in
@@ -72,8 +64,8 @@ returns c =
     let at = l .loop .at in
     let left = l .loop .left in
     let none : (keptWithin left (chars (drop at s)) ≡ []) × (c .if1 .end ≡ at) =
-        ⊎-elim (λ w. (ap (keptWithin left) (chars-end s at (w .0 .taken)), w .1))
-        (λ w. (kept-none s at (w .1 .result .len) (w .1 .result .width) (w .0 .left) (w .1 .ensures .0 .0) (w .1 .ensures .0 .1) left (w .3 .taken), w .4)) (c .if1 .came) in
+    ⊎-elim (λ w. (ap (keptWithin left) (chars-end s at (w .0 .taken)), w .1))
+    (λ w. (kept-none s at (w .1 .result .len) (w .1 .result .width) (w .0 .left) (w .1 .ensures .0 .0) (w .1 .ensures .0 .1) left (w .3 .taken), w .4)) (c .if1 .came) in
     let bytes = ap (λ (cs : List Character). length (bytesOf cs)) (none .0) in
     let columns = ap widthOf (none .0) in
     ((omega (arith, bytes, none .1, l .loop .inv .bytes), omega (arith, columns, l .loop .inv .columns)), (omega (arith, none .1, l .loop .inv .within), omega arith, omega (arith, l .loop .inv .small, l .loop .inv .within)))

@@ -34,24 +34,19 @@ Inv-loop t s at₀ at = So-far s at
 abbrev μ-loop : tie.MeasureT-loop
 μ-loop t s at₀ at = length s - at
 
--- src/lib.rt:245:5
 loop-holds : tie.Need-loop-holds Inv-loop μ-loop
 unfolding wellFormed
 loop-holds c = record { within = omega arith; rest = refl }
 
--- src/lib.rt:246:12
 shared-slice-read-if1 : tie.Need-shared-slice-read-if1 Inv-loop μ-loop
 shared-slice-read-if1 c = search needs
 
--- src/lib.rt:247:13
 add-at : tie.Need-add-at Inv-loop μ-loop
 add-at c = search needs
 
--- src/lib.rt:245:5
 loop-less : tie.Need-loop-less Inv-loop μ-loop
 loop-less c = search needs
 
--- src/lib.rt:245:5
 loop-again : tie.Need-loop-again Inv-loop μ-loop
 loop-again c =
     let l = c .before .before .before in
@@ -60,11 +55,9 @@ loop-again c =
     let n = ok-next s at 1 (c .before .before .loop-test .taken) (sym (ascii-len s at (c .if1 .taken))) true (ascii-ok s at (c .if1 .taken)) in
     record { within = omega arith; rest = sym n ∙ l .loop .inv .rest }
 
--- src/lib.rt:250:13
 seen-any-requires : tie.Need-seen-any-requires Inv-loop μ-loop
 seen-any-requires c κs = search needs
 
--- src/lib.rt:252:13
 returns : tie.Need-returns Inv-loop μ-loop
 returns c =
     let l = c .before .before .before .before .before in
@@ -75,15 +68,12 @@ returns c =
     let n = ok-next s at _ (c .before .before .before .before .loop-test .taken) (p .ensures .0 .0) false bad in
     sym n ∙ l .loop .inv .rest
 
--- src/lib.rt:254:9
 add-at-2 : tie.Need-add-at-2 Inv-loop μ-loop
 add-at-2 c = search needs
 
--- src/lib.rt:245:5
 loop-less-2 : tie.Need-loop-less-2 Inv-loop μ-loop
 loop-less-2 c = search needs
 
--- src/lib.rt:245:5
 loop-again-2 : tie.Need-loop-again-2 Inv-loop μ-loop
 loop-again-2 c =
     let l = c .before .before .before .before .before in
@@ -94,7 +84,6 @@ loop-again-2 c =
     let n = ok-next s at _ (c .before .before .before .before .loop-test .taken) (p .ensures .0 .0) true good in
     record { within = omega arith; rest = sym n ∙ l .loop .inv .rest }
 
--- src/lib.rt:240:1
 returns-2 : tie.Need-returns-2 Inv-loop μ-loop
 returns-2 c =
     let l = c .before in

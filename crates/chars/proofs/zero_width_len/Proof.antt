@@ -30,16 +30,13 @@ Inv-loop t s at₀ at = So-far s at
 abbrev μ-loop : tie.MeasureT-loop
 μ-loop t s at₀ at = length s - at
 
--- src/lib.rt:313:5
 loop-holds : tie.Need-loop-holds Inv-loop μ-loop
 unfolding zeroWidthLen
 loop-holds c = record { within = omega arith; whole = omega arith }
 
--- src/lib.rt:314:13
 seen-at-requires : tie.Need-seen-at-requires Inv-loop μ-loop
 seen-at-requires c κs = search needs
 
--- src/lib.rt:316:13
 returns : tie.Need-returns Inv-loop μ-loop
 returns c =
     let r = c .before .before .seen-at in
@@ -47,15 +44,12 @@ returns c =
     let none = zero-none (l .before .before .args .s .now) (l .loop .at) (r .result .len) (r .result .width) (c .before .before .before .loop-test .taken) (r .ensures .0 .0) (r .ensures .0 .1) (c .if1 .taken) in
     (omega (arith, ap (λ (cs : List Character). length (bytesOf cs)) none, l .loop .inv .whole), l .loop .inv .within)
 
--- src/lib.rt:318:9
 add-at : tie.Need-add-at Inv-loop μ-loop
 add-at c = search needs
 
--- src/lib.rt:313:5
 loop-less : tie.Need-loop-less Inv-loop μ-loop
 loop-less c = search needs
 
--- src/lib.rt:313:5
 loop-again : tie.Need-loop-again Inv-loop μ-loop
 loop-again c =
     let r = c .before .before .before .seen-at in
@@ -63,7 +57,6 @@ loop-again c =
     let n = zero-more (l .before .before .args .s .now) (l .loop .at) (r .result .len) (r .result .width) (c .before .before .before .before .loop-test .taken) (r .ensures .0 .0) (r .ensures .0 .1) (c .before .if1 .left) in
     record { within = omega arith; whole = omega (arith, n, l .loop .inv .whole) }
 
--- src/lib.rt:307:1
 returns-2 : tie.Need-returns-2 Inv-loop μ-loop
 returns-2 c =
     let l = c .before in
