@@ -1,7 +1,9 @@
 pub mod PadLaws
+pub mod PieceLaws
 pub mod StepLaws
 pub mod ListLaws
 pub mod StripLaws
+pub mod LeftLaws
 pub mod GroupLaws
 pub mod WordLaws
 pub mod ByteWordLaws
