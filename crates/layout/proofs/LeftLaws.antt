@@ -1,24 +1,20 @@
 -- What a call leaves is a recording: a call that is not refused leaves nothing that refusals 1 to 6 would refuse (`left-valid`).
 -- The idea: every call makes its items from the content's and the second recording's by edits, and those keep what a recording can hold.
-use Prim.Native.Nat.{ℕ, zero, suc, _+_, _-_, _*_, _/_, _%_, _≤_, _<_}
-use native.Mathlib.Omega.{arith}
-use mathlib.Core.Bool.{Bool, true, false, cond, _&&_, _||_, not, false≢true}
-use mathlib.Core.Path.{_≡_, refl, sym, ap, _∙_}
-use mathlib.Core.List.{List, [], _∷_, _++_, append-assoc}
-use lib.Dec.{leb, ltb, eqb}
-use lib.ListN.{length, take, drop, length-append}
-use lib.Seq.{take-append-seam, drop-at}
-use borrow.Author.Tests.{eqb-true, eqb-false, eq-eqb, ltb-false, le-ltb}
+use Prim.Native.Nat.{ℕ, zero, suc, _+_, _-_, _/_}
+use mathlib.Core.Bool.{Bool, true, false, cond, _&&_, not}
+use mathlib.Core.Path.{_≡_}
+use mathlib.Core.List.{List, [], _∷_, _++_}
+use lib.Dec.{ltb, eqb}
+use lib.ListN.{length}
+use borrow.Author.Tests.{eq-eqb}
 use Rattle.chars.specs.Chars.{textWidth}
 use Rattle.chars.specs.Cut.{truncateEndPos, zeroWidthLen}
 use Rattle.buffer.specs.Place.{part}
-use Rattle.recording.specs.Edit.{Op, keep, skip, put, front, back, entriesOnly, edit}
-use Rattle.recording.specs.Outcome.{overLimit}
-use Rattle.recording.specs.Recording.{Bytes, Recording, Item, byte, push, pop, raw, byteItems, itemOf, itemsFrom, items, dataOf, textOf, entriesFrom, encode, isNil}
-use Rattle.recording.specs.Refusals.{badShape, entryFault, entriesFault, recordingFault, refuseIf}
-use Rattle.recording.proofs.FaultLaws.{firstOf-zero, refuseIf-zero, Granted, granted, Ok, ItemOk, ok-bytes, ok-edit, OkPuts, ok-recording, encoded}
-use Rattle.recording.proofs.Lists.{AllOf, all-append, or-left, or-right}
-use Rattle.recording.proofs.SizeLaws.{length-entries, entryCount}
+use Rattle.recording.specs.Edit.{keep, put, edit}
+use Rattle.recording.specs.Recording.{Bytes, Recording, Item, byte, push, pop, raw, byteItems, items}
+use Rattle.recording.specs.Refusals.{recordingFault}
+use Rattle.recording.proofs.FaultLaws.{Ok, ItemOk, ok-bytes, ok-edit, OkPuts, ok-recording, encoded}
+use Rattle.recording.proofs.Lists.{all-append}
 use Rattle.layout.specs.Layout.{trimmedStartPos, cutEnd, cutStart, copies, repeatPieces, padding, fillCount, indentOps, wrapOps, replaceOps, Job, truncateStart, truncateEnd, padStart, padEnd, padCentered, indent, wrap, replace, Call, resultItems, secondFault, refusal, after, faultsOf, resultOf}
 use Rattle.layout.specs.Wrap.{Line, wrapLines}
 use Rattle.layout.specs.declared.Replacement.{Replacement}

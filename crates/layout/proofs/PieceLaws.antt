@@ -1,10 +1,9 @@
 -- Padding by the document's word "piece": what a repeated fill writes as data is each of its pieces, n times, before the next.
 -- The idea: `repeatPieces` and `piecesFrom` carry the same bytes since the last entry, and an empty run of bytes writes nothing.
 use Prim.Native.Nat.{ℕ, zero, suc}
-use mathlib.Core.Bool.{Bool, true, false, cond}
 use mathlib.Core.Path.{_≡_, refl, sym, ap, _∙_}
 use mathlib.Core.List.{List, [], _∷_, _++_, append-assoc}
-use Rattle.recording.specs.Recording.{Bytes, Recording, isNil, nonEmpty, Item, byte, push, pop, raw, byteItems, items, dataOf, piecesFrom, pieces}
+use Rattle.recording.specs.Recording.{Bytes, Recording, nonEmpty, Item, byte, push, pop, raw, items, dataOf, piecesFrom, pieces}
 use Rattle.recording.proofs.EditLaws.{data-append}
 use Rattle.layout.specs.Layout.{copies, repeatPieces, padding}
 
