@@ -94,3 +94,37 @@ impl Input {
         Self { kind, size, texts: (0..count).map(|_| text(kind, size, &mut numbers)).collect() }
     }
 }
+
+/// A short text of characters at and beside the edges of the width ranges and of the sequence lengths, some of them damaged:
+/// bytes left out, changed or put in.
+pub fn damaged(numbers: &mut Numbers) -> Vec<u8> {
+    const EDGES: [u32; 58] = [
+        0x00, 0x0A, 0x1B, 0x1F, 0x20, 0x5B, 0x7E, 0x7F, 0x80, 0x9F, 0xA0, 0x2FF, 0x300, 0x36F, 0x370, 0x7FF, 0x800, 0x10FF, 0x1100, 0x115F, 0x1160,
+        0x200A, 0x200B, 0x200F, 0x20D0, 0x20F0, 0x20F1, 0x2E7F, 0x2E80, 0x303E, 0x303F, 0x3041, 0x33FF, 0x4DBF, 0x4DC0, 0x4E00, 0xA4CF, 0xA4D0, 0xAC00,
+        0xD7A3, 0xD7FF, 0xE000, 0xF900, 0xFAFF, 0xFE00, 0xFE0F, 0xFE10, 0xFE20, 0xFE6F, 0xFF00, 0xFF60, 0xFFE6, 0xFFFD, 0x1FFFF, 0x20000, 0x2FFFD,
+        0x3FFFE, 0x10FFFF,
+    ];
+    let mut made = String::new();
+    for _ in 0..numbers.within(0, 12) {
+        made.push(match numbers.within(0, 9) {
+            0..4 => char::from_u32(EDGES[numbers.within(0, EDGES.len() as u64 - 1) as usize]).unwrap(),
+            4 => ' ',
+            5..7 => letter(numbers),
+            7 => char::from_u32(numbers.within(0, 0x10FFFF) as u32).unwrap_or('\n'),
+            _ => other_letter(numbers),
+        });
+    }
+    let mut bytes = made.into_bytes();
+    if numbers.within(0, 3) != 0 {
+        for _ in 0..numbers.within(1, 3) {
+            let at = numbers.within(0, bytes.len() as u64) as usize;
+            match numbers.within(0, 3) {
+                0 if at < bytes.len() => drop(bytes.remove(at)),
+                1 if at < bytes.len() => bytes[at] = numbers.next() as u8,
+                2 => bytes.truncate(at),
+                _ => bytes.insert(at, numbers.within(0x80, 0xFF) as u8),
+            }
+        }
+    }
+    bytes
+}

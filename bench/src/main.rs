@@ -1,12 +1,11 @@
 //! Times the library against the Rust originals: `bench [--rounds N] [--one] [CASE...]`.
 mod cases;
-mod inputs;
-mod timing;
 
 use std::process::ExitCode;
 
+use bench::inputs::{Input, KINDS, SIZES};
+use bench::timing;
 use cases::{CASES, Case};
-use inputs::{Input, KINDS, SIZES};
 
 fn table(case: &Case, rounds: usize, many: usize) -> Result<(), String> {
     println!("\n### {}\n", case.name);
