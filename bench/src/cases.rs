@@ -1,4 +1,6 @@
 //! The calls that are timed. A new one is one more line of `CASES`: its name and a function from an input to the two sides.
+use std::hint::black_box;
+
 use bench::inputs::Input;
 use bench::timing::Pair;
 use bindings::Place;
@@ -13,6 +15,7 @@ pub const CASES: &[Case] = &[
     Case { name: "text_width", sides: text_width },
     Case { name: "truncate_end_pos", sides: truncate_end_pos },
     Case { name: "truncate_start_pos", sides: truncate_start_pos },
+    Case { name: "text_width_and_truncate_start_pos", sides: text_width_and_truncate_start_pos },
     Case { name: "well_formed", sides: well_formed },
 ];
 
@@ -42,6 +45,18 @@ fn truncate_start_pos(input: &Input) -> Result<Pair, String> {
     Pair::of_values(
         halves(input),
         |(s, max)| place(original::truncate_start_pos_bytes(s, *max)),
+        |(s, max)| bindings::truncate_start_pos(s, *max as u64),
+    )
+}
+
+/// What `write_truncated_start` does with its content: Rust measures it too, before it reads backwards.
+fn text_width_and_truncate_start_pos(input: &Input) -> Result<Pair, String> {
+    Pair::of_values(
+        halves(input),
+        |(s, max)| {
+            black_box(original::text_width(s));
+            place(original::truncate_start_pos_bytes(s, *max))
+        },
         |(s, max)| bindings::truncate_start_pos(s, *max as u64),
     )
 }
