@@ -3,3 +3,4 @@ pub mod EditLaws
 pub mod ItemsLaws
 pub mod SizeLaws
 pub mod FaultLaws
+pub mod EntryLaws

@@ -1,0 +1,113 @@
+// Writing recordings into lent buffers, piece by piece: each piece and each entry at the current ends.
+// Document 01: "They write a recording's pieces and entries in order, each entry at the current end, dropping none."
+// `bytes`, `numbers` and `texts` are the lent buffers; `content`, `entries` and `text` the recording that is read.
+// Every step has one equation: the buffers at exit are those at entry with some items put at the ends (`add`).
+use buffer::put;
+use recording::Entry;
+use recording::Refusal;
+use recording::entry_at;
+ghost use mathlib.Core.Path.{_≡_};
+ghost use mathlib.Core.Bool.{true, false};
+ghost use Prim.Native.Nat.{_+_, _-_, _*_, _≤_, _<_};
+ghost use mathlib.Core.List.{[], _∷_, _++_};
+ghost use lib.ListN.{length, take, drop};
+ghost use Rattle.buffer.specs.Place.{overAt, part};
+ghost use Rattle.recording.specs.Recording.{recording, entriesOf, numbersOf, items, textOf, entriesFrom};
+ghost use Rattle.recording.specs.Edit.{front, back, entriesOnly};
+ghost use Rattle.recording.specs.Refusals.{badShape, dataLimit, textLimit};
+ghost use Rattle.writer.specs.Write.{out, add, Fits, Ready, Sound, left, placeOf, startOf, itemAt};
+
+// A place in a content (data offset, index of the next entry's first number), and how far the three buffers are written.
+pub struct Cursor {
+    pub at: usize,
+    pub k: usize,
+    pub d: usize,
+    pub e: usize,
+    pub t: usize,
+}
+
+// The position of the entry at k; past every data if there is none.
+pub fn place_at(entries: &[u32], k: usize) -> usize
+    requires { ⌜ k ≤ length (now entries) ⌝ }
+    ensures { λ r. ⌜ r ≡ placeOf (entriesOf (drop k (now (entries .entry)))) ⌝ }
+{
+    if entries.len() - k < 4 {
+        return 4294967296;
+    }
+    entries[k] as usize
+}
+
+// Writes an entry's four numbers from k on.
+pub fn set_entry(numbers: &mut [u32], k: usize, e: Entry)
+    requires { ⌜ k + 4 ≤ length (now numbers) ⌝ }
+    ensures { λ _. ⌜ now (numbers .exit) ≡ overAt k (numbersOf (e ∷ [])) (now (numbers .entry)) ⌝ }
+{
+    numbers[k] = e.position;
+    numbers[k + 1] = e.kind;
+    numbers[k + 2] = e.start;
+    numbers[k + 3] = e.len;
+}
+
+// Where an entry's text goes in a result: a pop has none, any other goes after the texts before it.
+pub fn start_of(kind: u32, used: u32) -> u32
+    ensures { λ r. ⌜ r ≡ startOf kind used ⌝ }
+{
+    if kind == 1 {
+        return 0;
+    }
+    used
+}
+
+// Writes the bytes of `from` from a up to b at the data's end.
+pub fn put_bytes(bytes: &mut [u8], from: &[u8], a: usize, b: usize, c: Cursor) -> Cursor
+    requires { ⌜ (a ≤ b) × (b ≤ length (now from)) × (c .d + (b - a) ≤ length (now bytes)) ⌝ }
+    ensures { λ r. ⌜ (r .at ≡ c .at) × (r .k ≡ c .k) × (r .d ≡ c .d + (b - a)) × (r .e ≡ c .e) × (r .t ≡ c .t) ⌝ }
+    ensures { λ r. ⌜ now (bytes .exit) ≡ overAt (c .d) (part a b (now (from .entry))) (now (bytes .entry)) ⌝ }
+{
+    let d = put(bytes, c.d, from, a, b);
+    Cursor {
+        at: c.at,
+        k: c.k,
+        d: d,
+        e: c.e,
+        t: c.t,
+    }
+}
+
+// Writes an entry, with its part of the text, at the ends, and passes it.
+pub fn put_entry(
+    numbers: &mut [u32],
+    texts: &mut [u8],
+    text: &[u8],
+    e: Entry,
+    c: Cursor,
+) -> Cursor
+    requires { ⌜ badShape (e .kind) (e .start) (e .len) ≡ false ⌝ }
+    requires { ⌜ e .start + e .len ≤ length (now text) ⌝ }
+    requires { ⌜ (c .e + 4 ≤ length (now numbers)) × (c .t + e .len ≤ length (now texts)) ⌝ }
+    requires { ⌜ (c .d ≤ dataLimit) × (c .t ≤ textLimit) × (c .k + 4 ≤ 18446744073709551615) ⌝ }
+    ensures { λ r. ⌜ (r .at ≡ e .position) × (r .k ≡ c .k + 4) × (r .d ≡ c .d) × (r .e ≡ c .e + 4) × (r .t ≡ c .t + e .len) ⌝ }
+    ensures { λ r. ⌜ now (numbers .exit) ≡ overAt (c .e) (numbersOf (entriesFrom (c .d) (c .t) (itemAt (now (text .entry)) e ∷ []))) (now (numbers .entry)) ⌝ }
+    ensures { λ r. ⌜ now (texts .exit) ≡ overAt (c .t) (textOf (itemAt (now (text .entry)) e ∷ [])) (now (texts .entry)) ⌝ }
+{
+    let start = e.start as usize;
+    let end = start + e.len as usize;
+    set_entry(
+        numbers,
+        c.e,
+        Entry {
+            position: c.d as u32,
+            kind: e.kind,
+            start: start_of(e.kind, c.t as u32),
+            len: e.len,
+        },
+    );
+    let t = put(texts, c.t, text, start, end);
+    Cursor {
+        at: e.position as usize,
+        k: c.k + 4,
+        d: c.d,
+        e: c.e + 4,
+        t: t,
+    }
+}
