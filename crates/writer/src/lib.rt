@@ -111,3 +111,74 @@ pub fn put_entry(
         t: t,
     }
 }
+
+// Carries the items before the byte n on, the entries at that place included.
+pub fn keep(
+    bytes: &mut [u8],
+    numbers: &mut [u32],
+    texts: &mut [u8],
+    content: &[u8],
+    entries: &[u32],
+    text: &[u8],
+    from: Cursor,
+    n: usize,
+) -> Cursor
+    requires { ⌜ Ready (now content) (now entries) (now text) from ⌝ }
+    requires { ⌜ (from .at ≤ n) × (n ≤ length (now content)) ⌝ }
+    requires { ⌜ Fits (front (n - from .at) (left (now content) (now entries) (now text) from)) (out (now bytes) (now numbers) (now texts) from) ⌝ }
+    ensures { λ r. ⌜ out (now (bytes .exit)) (now (numbers .exit)) (now (texts .exit)) r ≡ add (front (n - from .at) (left (now (content .entry)) (now (entries .entry)) (now (text .entry)) from)) (out (now (bytes .entry)) (now (numbers .entry)) (now (texts .entry)) from) ⌝ }
+    ensures { λ r. ⌜ left (now (content .entry)) (now (entries .entry)) (now (text .entry)) r ≡ back (n - from .at) (left (now (content .entry)) (now (entries .entry)) (now (text .entry)) from) ⌝ }
+    ensures { λ r. ⌜ Ready (now (content .entry)) (now (entries .entry)) (now (text .entry)) r × (r .at ≡ n) ⌝ }
+{
+    let mut c = from;
+    let mut p = place_at(entries, c.k);
+    while p <= n {
+        let e = entry_at(entries, c.k);
+        c = put_bytes(bytes, content, c.at, p, c);
+        c = put_entry(numbers, texts, text, e, c);
+        p = place_at(entries, c.k);
+    }
+    c = put_bytes(bytes, content, c.at, n, c);
+    Cursor {
+        at: n,
+        k: c.k,
+        d: c.d,
+        e: c.e,
+        t: c.t,
+    }
+}
+
+// Carries on the entries before the byte n, those at that place included, and leaves the bytes.
+// `bytes` is lent for the shape of the contract alone: all steps have the same.
+pub fn skip(
+    bytes: &mut [u8],
+    numbers: &mut [u32],
+    texts: &mut [u8],
+    content: &[u8],
+    entries: &[u32],
+    text: &[u8],
+    from: Cursor,
+    n: usize,
+) -> Cursor
+    requires { ⌜ Ready (now content) (now entries) (now text) from ⌝ }
+    requires { ⌜ (from .at ≤ n) × (n ≤ length (now content)) ⌝ }
+    requires { ⌜ Fits (entriesOnly (front (n - from .at) (left (now content) (now entries) (now text) from))) (out (now bytes) (now numbers) (now texts) from) ⌝ }
+    ensures { λ r. ⌜ out (now (bytes .exit)) (now (numbers .exit)) (now (texts .exit)) r ≡ add (entriesOnly (front (n - from .at) (left (now (content .entry)) (now (entries .entry)) (now (text .entry)) from))) (out (now (bytes .entry)) (now (numbers .entry)) (now (texts .entry)) from) ⌝ }
+    ensures { λ r. ⌜ left (now (content .entry)) (now (entries .entry)) (now (text .entry)) r ≡ back (n - from .at) (left (now (content .entry)) (now (entries .entry)) (now (text .entry)) from) ⌝ }
+    ensures { λ r. ⌜ Ready (now (content .entry)) (now (entries .entry)) (now (text .entry)) r × (r .at ≡ n) ⌝ }
+{
+    let mut c = from;
+    let mut p = place_at(entries, c.k);
+    while p <= n {
+        let e = entry_at(entries, c.k);
+        c = put_entry(numbers, texts, text, e, c);
+        p = place_at(entries, c.k);
+    }
+    Cursor {
+        at: n,
+        k: c.k,
+        d: c.d,
+        e: c.e,
+        t: c.t,
+    }
+}
