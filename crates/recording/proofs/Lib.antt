@@ -4,3 +4,4 @@ pub mod ItemsLaws
 pub mod SizeLaws
 pub mod FaultLaws
 pub mod EntryLaws
+pub mod OutcomeLaws

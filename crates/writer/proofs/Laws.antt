@@ -135,7 +135,7 @@ pub add-append : (a b : List Item) (o : Out) → Fits a o → add b (add a o) �
 unfolding add
 add-append a b o f =
     let n : numbersAt o (a ++ b) ≡ numbersAt o a ++ numbersAt (add a o) b =
-        ap numbersOf (entries-append a b (o .d) (o .t)) ∙ numbers-append (entriesFrom (o .d) (o .t) a) (entriesFrom (o .d + length (dataOf a)) (o .t + length (textOf a)) b) in
+    ap numbersOf (entries-append a b (o .d) (o .t)) ∙ numbers-append (entriesFrom (o .d) (o .t) a) (entriesFrom (o .d + length (dataOf a)) (o .t + length (textOf a)) b) in
     same-out (add b (add a o)) (add (a ++ b) o)
     (over-twice (o .d) (dataOf a) (dataOf b) (o .dataBytes) (omega (arith, f .dataBytes)) ∙ ap (λ (x : List ℕ). overAt (o .d) x (o .dataBytes)) (sym (data-append a b)))
     (over-twice (o .e) (numbersAt o a) (numbersAt (add a o) b) (o .entryNumbers) (omega (arith, f .entryNumbers)) ∙ ap (λ (x : List ℕ). overAt (o .e) x (o .entryNumbers)) (sym n))

@@ -16,6 +16,7 @@ ghost use Rattle.recording.specs.Recording.{recording, entriesOf, numbersOf, it
 ghost use Rattle.recording.specs.Edit.{front, back, entriesOnly};
 ghost use Rattle.recording.specs.Refusals.{badShape, dataLimit, textLimit};
 ghost use Rattle.writer.specs.Write.{out, add, Fits, Ready, Sound, left, placeOf, startOf, itemAt};
+ghost use Rattle.writer.specs.Sizes.{sizesFault, roomOf, settledFault};
 
 // A place in a content (data offset, index of the next entry's first number), and how far the three buffers are written.
 pub struct Cursor {
@@ -24,6 +25,12 @@ pub struct Cursor {
     pub d: usize,
     pub e: usize,
     pub t: usize,
+}
+
+// Whether a result fits: its refusal, or that there is room.
+pub enum Settled {
+    Refused(Refusal),
+    Room,
 }
 
 // The position of the entry at k; past every data if there is none.
@@ -75,13 +82,7 @@ pub fn put_bytes(bytes: &mut [u8], from: &[u8], a: usize, b: usize, c: Cursor) -
 }
 
 // Writes an entry, with its part of the text, at the ends, and passes it.
-pub fn put_entry(
-    numbers: &mut [u32],
-    texts: &mut [u8],
-    text: &[u8],
-    e: Entry,
-    c: Cursor,
-) -> Cursor
+pub fn put_entry(numbers: &mut [u32], texts: &mut [u8], text: &[u8], e: Entry, c: Cursor) -> Cursor
     requires { ⌜ badShape (e .kind) (e .start) (e .len) ≡ false ⌝ }
     requires { ⌜ e .start + e .len ≤ length (now text) ⌝ }
     requires { ⌜ (c .e + 4 ≤ length (now numbers)) × (c .t + e .len ≤ length (now texts)) ⌝ }
@@ -181,4 +182,82 @@ pub fn skip(
         e: c.e,
         t: c.t,
     }
+}
+
+// Writes all of a recording at the ends; the place in the content that is read comes back as it was.
+pub fn put_recording(
+    bytes: &mut [u8],
+    numbers: &mut [u32],
+    texts: &mut [u8],
+    content: &[u8],
+    entries: &[u32],
+    text: &[u8],
+    c: Cursor,
+) -> Cursor
+    requires { ⌜ Sound (now content) (now entries) (now text) ⌝ }
+    requires { ⌜ Fits (items (recording (now content) (now entries) (now text))) (out (now bytes) (now numbers) (now texts) c) ⌝ }
+    ensures { λ r. ⌜ out (now (bytes .exit)) (now (numbers .exit)) (now (texts .exit)) r ≡ add (items (recording (now (content .entry)) (now (entries .entry)) (now (text .entry)))) (out (now (bytes .entry)) (now (numbers .entry)) (now (texts .entry)) c) ⌝ }
+    ensures { λ r. ⌜ (r .at ≡ c .at) × (r .k ≡ c .k) ⌝ }
+{
+    let from = Cursor {
+        at: 0,
+        k: 0,
+        d: c.d,
+        e: c.e,
+        t: c.t,
+    };
+    let r = keep(
+        bytes,
+        numbers,
+        texts,
+        content,
+        entries,
+        text,
+        from,
+        content.len(),
+    );
+    Cursor {
+        at: c.at,
+        k: c.k,
+        d: r.d,
+        e: r.e,
+        t: r.t,
+    }
+}
+
+// Refusals 9 and 21 to 24 of a result with d data bytes, e entry numbers, t text bytes and l line numbers, in buffers of these lengths.
+pub fn settle(
+    d: usize,
+    e: usize,
+    t: usize,
+    l: usize,
+    bytes: usize,
+    numbers: usize,
+    texts: usize,
+    lines: usize,
+) -> Settled
+    ensures { λ r. ⌜ settledFault r ≡ sizesFault d e t l (roomOf bytes numbers texts lines) ⌝ }
+{
+    if 1048576 < d {
+        return Settled::Refused(Refusal::ResultOverLimit);
+    }
+    if 16384 < e {
+        return Settled::Refused(Refusal::ResultOverLimit);
+    }
+    if 65536 < t {
+        return Settled::Refused(Refusal::ResultOverLimit);
+    }
+    if bytes < d {
+        return Settled::Refused(Refusal::DataBufferTooShort);
+    }
+    if numbers < e {
+        return Settled::Refused(Refusal::EntryBufferTooShort);
+    }
+    if texts < t {
+        return Settled::Refused(Refusal::TextBufferTooShort);
+    }
+    if lines < l {
+        return Settled::Refused(Refusal::LineListTooShort);
+    }
+    Settled::Room
 }

@@ -23,6 +23,7 @@ use Rattle.recording.proofs.entry_at.Reads as entry-at-reads
 use Rattle.writer.proofs.place_at.Reads as place-at-reads
 use Rattle.writer.proofs.put_bytes.Reads as put-bytes-reads
 use Rattle.writer.proofs.put_entry.Reads as put-entry-reads
+
 -- <pre>
 
 abbrev same : List Item → List Item

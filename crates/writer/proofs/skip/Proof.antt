@@ -20,6 +20,7 @@ use Rattle.writer.proofs.skip.Lts as lts
 use Rattle.recording.proofs.entry_at.Reads as entry-at-reads
 use Rattle.writer.proofs.place_at.Reads as place-at-reads
 use Rattle.writer.proofs.put_entry.Reads as put-entry-reads
+
 -- <pre>
 
 module _ (ds ns ts : List ℕ) (n : ℕ) (c₀ : Cursor) (od oe₀ ot₀ oe ot : List ℕ) (c : Cursor) (p : ℕ)

@@ -15,7 +15,6 @@ other zero u h = refl
 other (suc zero) u h = absurd (h refl)
 other (suc (suc k)) u h = refl
 
-
 -- src/lib.rt:56:9
 returns : tie.Need-returns
 unfolding startOf
