@@ -1,3 +1,8 @@
 pub mod CharsLaws
 pub mod CutLaws
 pub mod Subpart
+pub mod Table
+pub mod Leads
+pub mod ReaderLaws
+pub mod WidthLaws
+pub mod FoldLaws

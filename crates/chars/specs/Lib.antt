@@ -2,3 +2,5 @@ pub mod Utf8
 pub mod Width
 pub mod Chars
 pub mod Cut
+pub mod Leads
+pub mod Read
