@@ -3,3 +3,5 @@ pub mod EditLaws
 pub mod ItemsLaws
 pub mod SizeLaws
 pub mod FaultLaws
+pub mod EntryLaws
+pub mod OutcomeLaws

@@ -1,4 +1,9 @@
 // A recording: data bytes, entries and the entries' texts.
+ghost use mathlib.Core.Path.{_≡_};
+ghost use Prim.Native.Nat.{_+_, _≤_};
+ghost use mathlib.Core.List.{_∷_};
+ghost use lib.ListN.{length, drop};
+ghost use Rattle.recording.specs.Recording.{entriesOf};
 
 // The refusals, by document 01's causes; `specs/Refusals.antt` gives each its number.
 pub enum Refusal {
@@ -46,4 +51,17 @@ pub enum Answer {
         text: usize,
         number: u64,
     },
+}
+
+// The entry whose numbers start at k: the entries from k on are this one and those from k + 4 on.
+pub fn entry_at(entries: &[u32], k: usize) -> Entry
+    requires { ⌜ k + 4 ≤ length (now entries) ⌝ }
+    ensures { λ r. ⌜ entriesOf (drop k (now (entries .entry))) ≡ r ∷ entriesOf (drop (k + 4) (now (entries .entry))) ⌝ }
+{
+    Entry {
+        position: entries[k],
+        kind: entries[k + 1],
+        start: entries[k + 2],
+        len: entries[k + 3],
+    }
 }
