@@ -1,20 +1,20 @@
 -- One character further in a loop over a text: what is folded over the characters from `at` on, from a character's length and width and the fold from its end on.
 -- And the characters that need no table: an ASCII byte is a well-formed character of one byte, and a printable one is 1 wide.
-use Prim.Native.Nat.{ℕ, zero, suc, _+_, _-_, _*_, _≤_, _<_}
+use Prim.Native.Nat.{ℕ, _+_, _-_, _≤_, _<_}
 use native.Mathlib.Omega.{arith}
 use mathlib.Core.Bool.{Bool, true, false, cond, _&&_}
-use mathlib.Core.Path.{_≡_, refl, sym, ap, _∙_}
-use mathlib.Core.List.{List, [], _∷_, _++_, tail}
+use mathlib.Core.Path.{_≡_, refl, ap, _∙_}
+use mathlib.Core.List.{List, [], _∷_, tail}
 use lib.Dec.{leb, eqb, T, leb→le}
-use lib.ListN.{length, take, drop, getD, length-append, length-drop}
+use lib.ListN.{length, drop, getD, length-append}
 use borrow.Author.Tests.{le-leb, lt-leb, eq-eqb, ne-eqb, leb-true, leb-false}
-use Rattle.chars.specs.Utf8.{Row, Span, span, within, table37, rowOf, matched, tailLen, complete}
+use Rattle.chars.specs.Utf8.{span, table37, rowOf, tailLen, complete}
 use Rattle.chars.specs.Width.{Range, ranges, widthIn, charWidth}
-use Rattle.chars.specs.Chars.{Character, charAt, charIn, chars, bytesOf, wide, widthOf, textWidth, allOk, wellFormed}
+use Rattle.chars.specs.Chars.{Character, charAt, charIn, chars, bytesOf, wide, widthOf, allOk}
 use Rattle.chars.specs.Cut.{keptWithin, leadingZeroWidth}
-use Rattle.chars.proofs.CharsLaws.{chars-end, char-next, bytes-chars}
+use Rattle.chars.proofs.CharsLaws.{chars-end, char-next}
 use Rattle.chars.proofs.CutLaws.{longest}
-use Rattle.chars.proofs.ReaderLaws.{in-span, below, above}
+use Rattle.chars.proofs.ReaderLaws.{in-span, above}
 use Rattle.chars.proofs.Table.{and-left, and-right}
 
 -- ── ASCII

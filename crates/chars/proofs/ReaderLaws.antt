@@ -1,5 +1,5 @@
 -- What the reader answers, from the length and the columns of a lead byte's row; and that three bytes after the lead byte are enough, a missing one taken for 0.
-use Prim.Native.Nat.{ℕ, zero, suc, _+_, _-_, _*_, _%_, _≤_, _<_}
+use Prim.Native.Nat.{ℕ, zero, suc, _+_, _*_, _%_, _≤_, _<_}
 use native.Mathlib.Omega.{arith}
 use mathlib.Core.Bool.{Bool, true, false, cond, _&&_}
 use mathlib.Core.Path.{_≡_, refl, sym, ap, _∙_}
@@ -8,9 +8,9 @@ use lib.Dec.{leb, eqb, T, leb→le}
 use lib.ListN.{length, take, drop, getD}
 use lib.Seq.{getD-drop}
 use borrow.Author.Tests.{ne-eqb, le-leb, lt-leb}
-use Rattle.chars.specs.Utf8.{Row, Span, within, table37, leads, rowIn, rowOf, matched, tailLen, complete, codePoint}
+use Rattle.chars.specs.Utf8.{Row, within, table37, leads, rowIn, rowOf, matched, tailLen, complete, codePoint}
 use Rattle.chars.specs.Leads.{columns}
-use Rattle.chars.specs.Chars.{Character, charAt, charIn}
+use Rattle.chars.specs.Chars.{charAt, charIn}
 use Rattle.chars.specs.Read.{readOf}
 use Rattle.chars.specs.declared.Read.{Read}
 use Rattle.chars.proofs.Table.{and-left, and-right}

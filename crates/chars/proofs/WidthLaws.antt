@@ -1,8 +1,8 @@
 -- The width of a code point, one range after the other: where it is in none of the first k ranges, the ranges after them decide.
-use Prim.Native.Nat.{ℕ, suc, _≤_, _<_}
+use Prim.Native.Nat.{ℕ, suc}
 use mathlib.Core.Bool.{Bool, true, false, cond}
 use mathlib.Core.Path.{_≡_, refl, sym, ap, _∙_}
-use mathlib.Core.List.{List, [], _∷_}
+use mathlib.Core.List.{List}
 use lib.Dec.{leb, T, leb→le}
 use lib.ListN.{length, drop, getD}
 use lib.Seq.{drop-cons}

@@ -1,5 +1,4 @@
 -- Inside the text the byte is read, past the end `getD` gives 0.
-use native.Mathlib.Omega.{arith}
 use borrow.Author.Needs.{needs}
 use mathlib.Core.Path.{sym}
 use lib.ListN.{List·getD-eq-default}

@@ -1,4 +1,5 @@
 -- The chain of tests is `charWidth`: each test that fails leaves the width to the ranges after it (`past-k`), the first that holds gives its range's width.
+-- A further range asks for one more `past-k` and one more pair of lines in the list below, each like the last.
 use borrow.Author.Needs.{needs}
 use Rattle.chars.specs.Width.{ranges}
 use Rattle.chars.proofs.WidthLaws.{Past, past-none, past-all, miss, hit}

@@ -2,14 +2,10 @@
 use native.Mathlib.Omega.{arith}
 use borrow.Author.Needs.{needs}
 use mathlib.Core.Path.{_≡_, _∙_}
-use mathlib.Core.Bool.{Bool, true, false}
-use mathlib.Core.List.{List, [], _∷_}
-use Prim.Native.Nat.{ℕ}
-use borrow.Author.Tests.{le-leb, lt-leb}
+use mathlib.Core.List.{[], _∷_}
 use Rattle.chars.specs.Leads.{columns}
 use Rattle.chars.specs.Chars.{charAt}
 use Rattle.chars.specs.Read.{readOf}
-use Rattle.chars.specs.Utf8.{within}
 use Rattle.chars.proofs.ReaderLaws.{readBy, read-by, no-lead, one-byte, no-second, two-bytes, no-third, three-bytes, no-fourth, four-bytes, in-span, below, above}
 use Rattle.chars.proofs.decode.Statement.{statement}
 use Rattle.chars.proofs.decode.Tie as tie

@@ -1,6 +1,4 @@
 -- Both ends are tested.
-use native.Mathlib.Omega.{arith}
-use borrow.Author.Needs.{needs}
 use mathlib.Core.Path.{sym}
 use borrow.Author.Tests.{le-leb}
 use Rattle.chars.proofs.ReaderLaws.{below}

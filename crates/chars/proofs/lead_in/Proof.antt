@@ -1,5 +1,4 @@
 -- The three digits of an entry are the row's length and columns: `lead-row`, the computed test over the table.
-use native.Mathlib.Omega.{arith}
 use borrow.Author.Needs.{needs}
 use Rattle.chars.proofs.Leads.{lead-row}
 use Rattle.chars.proofs.lead_in.Statement.{statement}

@@ -2,7 +2,7 @@
 use native.Mathlib.Omega.{arith}
 use borrow.Author.Needs.{needs}
 use mathlib.Core.Path.{_≡_, _∙_, ap}
-use Rattle.chars.specs.Chars.{Character, charIn}
+use Rattle.chars.specs.Chars.{charIn}
 use Rattle.chars.specs.Read.{readOf}
 use Rattle.chars.specs.declared.Read.{Read}
 use Rattle.chars.proofs.CharsLaws.{char-some, char-four, char-inside}

@@ -1,8 +1,8 @@
 -- The three parts of the number: bytes, well-formed or not, and width; the width is at most 2, so they do not run into each other.
 use native.Mathlib.Omega.{arith}
 use borrow.Author.Needs.{needs}
-use mathlib.Core.Path.{_≡_, _∙_, ap, sym}
-use mathlib.Core.Bool.{Bool, true, false, cond}
+use mathlib.Core.Path.{_∙_, ap, sym}
+use mathlib.Core.Bool.{Bool, cond}
 use Prim.Native.Nat.{ℕ}
 use Rattle.chars.specs.Width.{charWidth}
 use Rattle.chars.specs.declared.Read.{Read}

@@ -1,5 +1,4 @@
 -- A printable ASCII byte is a character of one byte and width 1 (`plain`); any other is taken out of the number of `seen_any`.
-use native.Mathlib.Omega.{arith}
 use borrow.Author.Needs.{needs}
 use mathlib.Core.Path.{sym}
 use Rattle.chars.proofs.FoldLaws.{plain}

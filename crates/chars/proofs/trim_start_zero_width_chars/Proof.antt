@@ -1,5 +1,4 @@
 -- The part from `zero_width_len` on is handed back; the lead table that is made here is the definitions' table.
-use native.Mathlib.Omega.{arith}
 use borrow.Author.Needs.{needs}
 use mathlib.Core.Path.{_∙_, ap, refl}
 use Prim.Native.Nat.{ℕ}

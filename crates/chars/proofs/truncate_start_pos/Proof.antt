@@ -2,12 +2,10 @@
 use native.Mathlib.Omega.{arith}
 use borrow.Author.Needs.{needs}
 use mathlib.Core.Path.{_≡_, refl, sym, ap, _∙_}
-use mathlib.Core.Bool.{Bool, true, false, cond, _&&_}
-use mathlib.Core.List.{List, [], _∷_}
-use Prim.Native.Nat.{ℕ, _+_, _-_, _*_, _≤_, _<_}
-use lib.ListN.{length, drop}
-use lib.ListN.{length-drop}
-use Rattle.chars.specs.Chars.{Character, charIn, chars, bytesOf, wide, widthOf, textWidth}
+use mathlib.Core.List.{List}
+use Prim.Native.Nat.{ℕ, _-_, _≤_, _<_}
+use lib.ListN.{length, drop, length-drop}
+use Rattle.chars.specs.Chars.{Character, chars, bytesOf, widthOf, textWidth}
 use Rattle.chars.proofs.CharsLaws.{bytes-chars, valid-chars, width-bound}
 use Rattle.chars.proofs.CutLaws.{longest, start-pos, start-width}
 use Rattle.chars.proofs.FoldLaws.{width-next, some-left, longest-next, longest-whole}

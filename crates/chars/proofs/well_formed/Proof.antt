@@ -2,11 +2,11 @@
 use native.Mathlib.Omega.{arith}
 use borrow.Author.Needs.{needs}
 use mathlib.Core.Path.{_≡_, refl, sym, ap, _∙_}
-use mathlib.Core.Bool.{Bool, true, false, cond, _&&_}
-use mathlib.Core.List.{List, [], _∷_}
-use Prim.Native.Nat.{ℕ, _+_, _-_, _*_, _≤_, _<_}
+use mathlib.Core.Bool.{Bool, true, false, cond}
+use mathlib.Core.List.{List}
+use Prim.Native.Nat.{ℕ, _-_, _≤_, _<_}
 use lib.ListN.{length, drop, getD}
-use Rattle.chars.specs.Chars.{Character, charIn, chars, allOk, wellFormed}
+use Rattle.chars.specs.Chars.{charIn, chars, allOk, wellFormed}
 use Rattle.chars.proofs.CharsLaws.{chars-end}
 use Rattle.chars.proofs.FoldLaws.{ascii-len, ascii-ok, ok-next}
 use Rattle.chars.proofs.well_formed.Statement.{statement}

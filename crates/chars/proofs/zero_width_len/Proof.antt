@@ -1,10 +1,9 @@
 -- The place is `zeroWidthLen`: at each place, the bytes so far and those of the leading zero-width characters from there on make it.
 use native.Mathlib.Omega.{arith}
 use borrow.Author.Needs.{needs}
-use mathlib.Core.Path.{_≡_, refl, sym, ap, _∙_}
-use mathlib.Core.Bool.{Bool, true, false, cond, _&&_}
-use mathlib.Core.List.{List, [], _∷_}
-use Prim.Native.Nat.{ℕ, _+_, _-_, _*_, _≤_, _<_}
+use mathlib.Core.Path.{_≡_, ap}
+use mathlib.Core.List.{List}
+use Prim.Native.Nat.{ℕ, _+_, _-_, _≤_}
 use lib.ListN.{length, drop}
 use Rattle.chars.specs.Chars.{Character, chars, bytesOf}
 use Rattle.chars.specs.Cut.{leadingZeroWidth, zeroWidthLen}

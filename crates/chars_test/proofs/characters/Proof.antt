@@ -1,7 +1,6 @@
 -- Each character starts within the text, and the loop ends.
-use native.Mathlib.Omega.{arith}
 use borrow.Author.Needs.{needs}
-use Prim.Native.Nat.{ℕ, _-_, _≤_}
+use Prim.Native.Nat.{_-_, _≤_}
 use lib.ListN.{length}
 use Rattle.chars_test.proofs.characters.Statement.{statement}
 use Rattle.chars_test.proofs.characters.Tie as tie
