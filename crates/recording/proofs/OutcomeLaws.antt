@@ -1,6 +1,6 @@
 -- For code that finds the refusals one after another: which refusal a call gives when it stops there (`stops-..`), and what it then has to answer and leave.
 use mathlib.Core.Path.{_≡_, refl, sym, ap, _∙_}
-use mathlib.Core.Bool.{Bool, true, false}
+use mathlib.Core.Bool.{Bool, true, false, cond}
 use mathlib.Core.List.{List, [], _∷_}
 use Prim.Native.Nat.{ℕ, _≤_, _<_}
 use native.Mathlib.Omega.{arith}
@@ -102,3 +102,16 @@ module _ (f : Faults) (o : Room) (x : Result) where
       → answerOf (Done d e t n) ≡ returned (settle f o x)
   unfolding answerOf returned
   done-answer d e t n z ed ee et en = rw (is-done z) (λ i. record { refusal = 0; dataBytes = ed i; entryNumbers = ee i; text = et i; number = en i })
+
+  -- and back: an outcome that is not refused was granted
+  pub done-only : (y : Result) → settle f o x ≡ done y → (refusalOf f o x ≡ 0) × (x ≡ y)
+  unfolding settle
+  done-only y e = go (eqb (refusalOf f o x) 0) refl e
+    where
+      take-out : Outcome → Result
+      take-out (refused n) = x
+      take-out (done z) = z
+
+      go : (t : Bool) → eqb (refusalOf f o x) 0 ≡ t → cond t (done x) (refused (refusalOf f o x)) ≡ done y → (refusalOf f o x ≡ 0) × (x ≡ y)
+      go true q p = (eqb-true (refusalOf f o x) 0 q, ap take-out p)
+      go false q p = (cc, cc)

@@ -1,0 +1,3 @@
+pub mod ReplayLaws
+pub mod AddLaws
+pub mod AddClean

@@ -1,0 +1,22 @@
+use native.Mathlib.Omega.{arith}
+use borrow.Author.Needs.{needs}
+use Rattle.chars.specs.Leads.{leadTable}
+use mathlib.Core.Path.{refl}
+use Rattle.formatter.proofs.check_lent.Statement.{statement}
+use Rattle.formatter.proofs.check_lent.Tie as tie
+use Rattle.formatter.proofs.check_lent.Reads as reads
+use Rattle.formatter.proofs.check_lent.Lts as lts
+use Rattle.formatter.proofs.check_used.Reads as check-used-reads
+
+-- src/lib.rt:126:5
+check-used-requires : tie.Need-check-used-requires
+unfolding leadTable
+check-used-requires c κs =
+    refl
+
+-- src/lib.rt:122:1
+returns : tie.Need-returns
+returns c = search needs
+
+pub check-lent-spec : {M : Type 1} → statement M
+check-lent-spec = tie.close (tie.spec check-used-requires returns)

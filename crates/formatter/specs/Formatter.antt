@@ -1,0 +1,76 @@
+-- Module 1 of document 01, the recorder: "append data (no bytes is allowed), push, pop, append raw, `replay`".
+use Prim.Native.Nat.{ℕ}
+use mathlib.Core.Bool.{_||_, not}
+use mathlib.Core.List.{List, [], _∷_, _++_}
+use lib.Dec.{ltb, eqb}
+use lib.ListN.{length, take}
+use Rattle.chars.specs.Chars.{wellFormed}
+use Rattle.recording.specs.Recording.{Bytes, Recording, recording, entry, numbersOf, items, encode}
+use Rattle.recording.specs.Refusals.{refuseIf, recordingFault}
+use Rattle.recording.specs.Outcome.{Room, Result, Faults, Outcome, settle, Lent}
+
+-- the three buffers that a call is lent, without a line list
+abbrev pub lent : Bytes → List ℕ → Bytes → Lent
+lent d e t = record { dataBytes = d; entryNumbers = e; text = t; lines = [] }
+
+abbrev pub roomIn : Lent → Room
+roomIn b = record { dataBytes = length (b .dataBytes); entryNumbers = length (b .entryNumbers); text = length (b .text); lines = length (b .lines) }
+
+-- a call of this module leaves a recording, no lines, and returns no number of its own
+abbrev pub leaves : Recording → Result
+leaves q = record { recording = q; lines = []; number = 0 }
+
+-- ── replay: "each entry's text copied, in entry order, one after another from 0"
+unfoldable pub replayFaults : Recording → Faults
+replayFaults r = record { lengths = 0; content = recordingFault r; second = 0; added = 0; plain = 0; records = 0 }
+
+unfoldable pub replayed : Recording → Lent → Outcome
+replayed r b = settle (replayFaults r) (roomIn b) (leaves (encode (items r)))
+
+-- ── "The first four add at the ends, label or raw text at the text's end, and move nothing."
+-- data at the data's end
+unfoldable pub withData : Bytes → Recording → Recording
+withData x r = recording (r .dataBytes ++ x) (r .entryNumbers) (r .text)
+
+-- one entry at the current end, its text (if any) at the text's end; `start` is where that begins
+unfoldable pub withEntry : ℕ → ℕ → Bytes → Recording → Recording
+withEntry kind start x r = recording (r .dataBytes) (r .entryNumbers ++ numbersOf (entry (length (r .dataBytes)) kind start (length x) ∷ [])) (r .text ++ x)
+
+unfoldable pub withLabel : Bytes → Recording → Recording
+unfolding withEntry
+withLabel l r = withEntry 0 (length (r .text)) l r
+
+-- a pop has 0 and 0
+unfoldable pub withPop : Recording → Recording
+unfolding withEntry
+withPop r = withEntry 1 0 [] r
+
+unfoldable pub withRaw : Bytes → Recording → Recording
+unfolding withEntry
+withRaw x r = withEntry 2 (length (r .text)) x r
+
+-- the recording in buffers of which d, e and t numbers are used
+abbrev pub usedOf : Lent → ℕ → ℕ → ℕ → Recording
+usedOf b d e t = recording (take d (b .dataBytes)) (take e (b .entryNumbers)) (take t (b .text))
+
+-- 10: a length above its buffer
+unfoldable pub lengthsFault : Lent → ℕ → ℕ → ℕ → ℕ
+lengthsFault b d e t = refuseIf (ltb (length (b .dataBytes)) d || ltb (length (b .entryNumbers)) e || ltb (length (b .text)) t) 10
+
+-- n is the refusal of what is added, 0 for none
+unfoldable pub addFaults : ℕ → Lent → ℕ → ℕ → ℕ → Faults
+addFaults n b d e t = record { lengths = lengthsFault b d e t; content = recordingFault (usedOf b d e t); second = 0; added = n; plain = 0; records = 0 }
+
+unfoldable pub written : Bytes → Lent → ℕ → ℕ → ℕ → Outcome
+written x b d e t = settle (addFaults 0 b d e t) (roomIn b) (leaves (withData x (usedOf b d e t)))
+
+-- 6: "a pushed label (6)"
+unfoldable pub pushed : Bytes → Lent → ℕ → ℕ → ℕ → Outcome
+pushed l b d e t = settle (addFaults (refuseIf (not (wellFormed l)) 6) b d e t) (roomIn b) (leaves (withLabel l (usedOf b d e t)))
+
+unfoldable pub popped : Lent → ℕ → ℕ → ℕ → Outcome
+popped b d e t = settle (addFaults 0 b d e t) (roomIn b) (leaves (withPop (usedOf b d e t)))
+
+-- 3: "or appended raw (3)": a raw sequence is never empty
+unfoldable pub rawAdded : Bytes → Lent → ℕ → ℕ → ℕ → Outcome
+rawAdded x b d e t = settle (addFaults (refuseIf (eqb (length x) 0) 3) b d e t) (roomIn b) (leaves (withRaw x (usedOf b d e t)))
