@@ -1,5 +1,6 @@
 use native.Mathlib.Omega.{arith}
 use borrow.Author.Needs.{needs}
+use Rattle.truncate.proofs.PlanLaws.{end-plan-whole, end-plan-cut}
 use Rattle.truncate.proofs.measure_end.Statement.{statement}
 use Rattle.truncate.proofs.measure_end.Tie as tie
 use Rattle.truncate.proofs.measure_end.Reads as reads
@@ -14,7 +15,9 @@ text-width-requires c κs = search needs
 
 -- src/lib.rt:79:9
 returns : tie.Need-returns
-returns c = search needs
+returns c =
+    let a = c .before .before .before .before .args in
+    (end-plan-whole (a .max-width) (a .content .now) (a .ellipsis .now) (c .before .text-width .result) (c .before .text-width .ensures .0) (c .if1 .taken), (omega arith, omega arith))
 
 -- src/lib.rt:86:26
 text-width-requires-2 : tie.Need-text-width-requires-2
@@ -38,7 +41,13 @@ add-t12 c = search needs
 
 -- src/lib.rt:71:1
 returns-2 : tie.Need-returns-2
-returns-2 c = search needs
+returns-2 c =
+    let a = c .before .before .before .before .before .before .before .before .before .before .args in
+    let w = c .before .before .before .before .before .before .before .text-width in
+    let v = c .before .before .before .before .before .text-width2 in
+    let x = c .before .before .before .truncate-end-pos in
+    let y = c .before .before .truncate-end-pos2 in
+    (end-plan-cut (a .max-width) (a .content .now) (a .ellipsis .now) (w .result) (w .ensures .0) (v .result) (c .before .before .before .before .less .result) (v .ensures .0) (c .before .before .before .before .less .ensures) (c .before .before .before .before .before .before .if1 .left) (x .result .pos) (x .result .width) (y .result .pos) (y .result .width) (x .ensures .0 .0) (x .ensures .0 .1) (y .ensures .0 .0) (y .ensures .0 .1), (x .ensures .1 .0, y .ensures .1 .0))
 
 pub measure-end-spec : {M : Type 1} → statement M
 measure-end-spec =

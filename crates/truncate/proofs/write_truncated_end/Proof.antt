@@ -1,5 +1,16 @@
 use native.Mathlib.Omega.{arith}
 use borrow.Author.Needs.{needs}
+use mathlib.Core.Path.{refl, _∙_}
+use Prim.Native.Nat.{_+_, _-_}
+use lib.ListN.{length}
+use Rattle.chars.specs.Leads.{leadTable}
+use Rattle.recording.specs.Recording.{recording}
+use Rattle.recording.proofs.CheckLaws.{fine-within}
+use Rattle.writer.proofs.Steps.{sound}
+use Rattle.layout.specs.Layout.{truncateEnd, secondFault, replacementFault, linesLeft}
+use Rattle.layout.proofs.OutcomeLaws.{first-stop, second-stop, size-stop, room-for, finished}
+use Rattle.truncate.specs.Plan.{endItems}
+use Rattle.truncate.proofs.PlanLaws.{end-items, end-number, end-data, end-count, end-text, fine, short}
 use Rattle.truncate.proofs.write_truncated_end.Statement.{statement}
 use Rattle.truncate.proofs.write_truncated_end.Tie as tie
 use Rattle.truncate.proofs.write_truncated_end.Reads as reads
@@ -12,7 +23,9 @@ use Rattle.writer.proofs.settle.Reads as settle-reads
 
 -- src/lib.rt:316:9
 check-requires : tie.Need-check-requires
-check-requires c κs = search needs
+unfolding leadTable
+check-requires c κs =
+    refl
 
 -- src/lib.rt:318:26
 enum-known-checked : tie.Need-enum-known-checked
@@ -20,7 +33,12 @@ enum-known-checked c = search needs
 
 -- src/lib.rt:319:13
 returns : tie.Need-returns
-returns c = search needs
+unfolding secondFault replacementFault linesLeft
+returns c =
+    let a = c .before .before .before .before .before .before .before .before .before .before .before .before .before .before .args in
+    let k = c .before .before .before .check in
+    let x = c .before .checked .given in
+    first-stop (truncateEnd (a .max-width) (recording (a .ellipsis .now) (a .ellipsis-entries .now) (a .ellipsis-text .now))) (recording (a .content .now) (a .entries .now) (a .text .now)) (recording (a .ellipsis .now) (a .ellipsis-entries .now) (a .ellipsis-text .now)) (a .bytes .now) (a .numbers .now) (a .texts .now) refl refl refl (k .result) (k .ensures .0) (x .0 .0) (x .1)
 
 -- src/lib.rt:321:23
 enum-known-checked-2 : tie.Need-enum-known-checked-2
@@ -28,7 +46,9 @@ enum-known-checked-2 c = search needs
 
 -- src/lib.rt:323:9
 check-requires-2 : tie.Need-check-requires-2
-check-requires-2 c κs = search needs
+unfolding leadTable
+check-requires-2 c κs =
+    refl
 
 -- src/lib.rt:325:26
 enum-known-second : tie.Need-enum-known-second
@@ -36,7 +56,14 @@ enum-known-second c = search needs
 
 -- src/lib.rt:326:13
 returns-2 : tie.Need-returns-2
-returns-2 c = search needs
+unfolding secondFault replacementFault linesLeft
+returns-2 c =
+    let a = c .before .before .before .before .before .before .before .before .before .before .before .before .before .before .before .before .before .before .before .args in
+    let k = c .before .before .before .before .before .before .before .before .check in
+    let x = c .before .before .before .before .before .before .checked2 .given in
+    let l = c .before .before .before .check2 in
+    let y = c .before .second .given in
+    second-stop (truncateEnd (a .max-width) (recording (a .ellipsis .now) (a .ellipsis-entries .now) (a .ellipsis-text .now))) (recording (a .content .now) (a .entries .now) (a .text .now)) (recording (a .ellipsis .now) (a .ellipsis-entries .now) (a .ellipsis-text .now)) (a .bytes .now) (a .numbers .now) (a .texts .now) refl refl refl (k .result) (k .ensures .0) (x .0 .0) (x .1) (l .result) (l .ensures .0) (y .0 .0) (y .1)
 
 -- src/lib.rt:328:23
 enum-known-second-2 : tie.Need-enum-known-second-2
@@ -44,19 +71,46 @@ enum-known-second-2 c = search needs
 
 -- src/lib.rt:330:9
 measure-end-requires : tie.Need-measure-end-requires
-measure-end-requires c κs = search needs
+unfolding leadTable
+measure-end-requires c κs =
+    refl
 
 -- src/lib.rt:332:9
 add-settle : tie.Need-add-settle
-add-settle c = search needs
+add-settle c =
+    let a = c .before .before .before .before .before .before .before .before .before .before .before .before .before .before .before .before .before .before .before .before .before .before .args in
+    let k = c .before .before .before .before .before .before .before .before .before .before .before .check in
+    let x = c .before .before .before .before .before .before .before .before .before .checked2 .given in
+    let l = c .before .before .before .before .before .before .check2 in
+    let y = c .before .before .before .before .second2 .given in
+    let m = c .before .measure-end in
+    let s = short (a .content .now) (a .entries .now) (a .text .now) (k .result) (k .ensures .0) (x .0 .0) (x .1) in
+    let t = short (a .ellipsis .now) (a .ellipsis-entries .now) (a .ellipsis-text .now) (l .result) (l .ensures .0) (y .0 .0) (y .1) in
+    omega (arith, s .0, t .0, m .ensures .1 .0, m .ensures .1 .1)
 
 -- src/lib.rt:333:9
 plus-if-requires : tie.Need-plus-if-requires
-plus-if-requires c κs = search needs
+plus-if-requires c κs =
+    let a = c .before .before .before .before .before .before .before .before .before .before .before .before .before .before .before .before .before .before .before .before .before .before .args in
+    let k = c .before .before .before .before .before .before .before .before .before .before .before .check in
+    let x = c .before .before .before .before .before .before .before .before .before .checked2 .given in
+    let l = c .before .before .before .before .before .before .check2 in
+    let y = c .before .before .before .before .second2 .given in
+    let m = c .before .measure-end in
+    let s = short (a .content .now) (a .entries .now) (a .text .now) (k .result) (k .ensures .0) (x .0 .0) (x .1) in
+    let t = short (a .ellipsis .now) (a .ellipsis-entries .now) (a .ellipsis-text .now) (l .result) (l .ensures .0) (y .0 .0) (y .1) in
+    omega (arith, s .1, t .1)
 
 -- src/lib.rt:334:9
 plus-if-requires-2 : tie.Need-plus-if-requires-2
-plus-if-requires-2 c κs = search needs
+plus-if-requires-2 c κs =
+    let a = c .before .before .before .before .before .before .before .before .before .before .before .before .before .before .before .before .before .before .before .before .before .before .before .args in
+    let k = c .before .before .before .before .before .before .before .before .before .before .before .before .check in
+    let x = c .before .before .before .before .before .before .before .before .before .before .checked2 .given in
+    let l = c .before .before .before .before .before .before .before .check2 in
+    let y = c .before .before .before .before .before .second2 .given in
+    let m = c .before .before .measure-end in
+    omega (arith, fine-within (k .result) (x .0 .0) 268435456 (x .1) (k .ensures .1 .1), fine-within (l .result) (y .0 .0) 268435456 (y .1) (l .ensures .1 .1))
 
 -- src/lib.rt:331:9
 settle-requires : tie.Need-settle-requires
@@ -68,14 +122,40 @@ enum-known-verdict c = search needs
 
 -- src/lib.rt:343:13
 returns-3 : tie.Need-returns-3
-returns-3 c = search needs
+unfolding secondFault replacementFault linesLeft
+returns-3 c =
+    let a = c .before .before .before .before .before .before .before .before .before .before .before .before .before .before .before .before .before .before .before .before .before .before .before .before .before .before .before .before .args in
+    let k = c .before .before .before .before .before .before .before .before .before .before .before .before .before .before .before .before .before .check in
+    let x = c .before .before .before .before .before .before .before .before .before .before .before .before .before .before .before .checked2 .given in
+    let l = c .before .before .before .before .before .before .before .before .before .before .before .before .check2 in
+    let y = c .before .before .before .before .before .before .before .before .before .before .second2 .given in
+    let m = c .before .before .before .before .before .before .before .measure-end in
+    let n = c .before .before .before .before .before .plus-if in
+    let u = c .before .before .before .before .plus-if2 in
+    let v = c .before .before .before .settle in
+    let z = c .before .verdict .given in
+    size-stop (truncateEnd (a .max-width) (recording (a .ellipsis .now) (a .ellipsis-entries .now) (a .ellipsis-text .now))) (recording (a .content .now) (a .entries .now) (a .text .now)) (recording (a .ellipsis .now) (a .ellipsis-entries .now) (a .ellipsis-text .now)) (a .bytes .now) (a .numbers .now) (a .texts .now) refl refl refl (k .result) (k .ensures .0) (x .0 .0) (x .1) (l .result) (l .ensures .0) (y .0 .0) (y .1) (endItems (m .result) (recording (a .content .now) (a .entries .now) (a .text .now)) (recording (a .ellipsis .now) (a .ellipsis-entries .now) (a .ellipsis-text .now))) (end-items (a .max-width) (recording (a .content .now) (a .entries .now) (a .text .now)) (recording (a .ellipsis .now) (a .ellipsis-entries .now) (a .ellipsis-text .now)) (m .result) (m .ensures .0)) (m .result .content + m .result .ellipsis) (n .result) (u .result) (end-data (a .content .now) (a .entries .now) (a .text .now) (a .ellipsis .now) (a .ellipsis-entries .now) (a .ellipsis-text .now) (a .max-width) (k .result) (k .ensures .0) (k .ensures .1 .0) (x .0 .0) (x .1) (l .result) (l .ensures .0) (l .ensures .1 .0) (y .0 .0) (y .1) (m .result) (m .ensures .0) (m .ensures .1 .0) (m .ensures .1 .1)) (n .ensures ∙ end-count (a .content .now) (a .entries .now) (a .text .now) (a .ellipsis .now) (a .ellipsis-entries .now) (a .ellipsis-text .now) (a .max-width) (k .result) (k .ensures .0) (k .ensures .1 .0) (x .0 .0) (x .1) (l .result) (l .ensures .0) (l .ensures .1 .0) (y .0 .0) (y .1) (m .result)) (u .ensures ∙ end-text (a .content .now) (a .entries .now) (a .text .now) (a .ellipsis .now) (a .ellipsis-entries .now) (a .ellipsis-text .now) (a .max-width) (k .result) (k .ensures .0) (k .ensures .1 .0) (x .0 .0) (x .1) (l .result) (l .ensures .0) (l .ensures .1 .0) (y .0 .0) (y .1) (m .result)) (v .result) (v .ensures) (z .0 .0) (z .1)
 
 enum-told : tie.Need-enum-told
 enum-told c = search needs
 
 -- src/lib.rt:347:9
 put-end-requires : tie.Need-put-end-requires
-put-end-requires c κs = search needs
+unfolding secondFault replacementFault linesLeft
+put-end-requires c κs =
+    let a = c .before .before .before .before .before .before .before .before .before .before .before .before .before .before .before .before .before .before .before .before .before .before .before .before .before .before .before .before .before .before .args in
+    let k = c .before .before .before .before .before .before .before .before .before .before .before .before .before .before .before .before .before .before .before .check in
+    let x = c .before .before .before .before .before .before .before .before .before .before .before .before .before .before .before .before .before .checked2 .given in
+    let l = c .before .before .before .before .before .before .before .before .before .before .before .before .before .before .check2 in
+    let y = c .before .before .before .before .before .before .before .before .before .before .before .before .second2 .given in
+    let m = c .before .before .before .before .before .before .before .before .before .measure-end in
+    let n = c .before .before .before .before .before .before .before .plus-if in
+    let u = c .before .before .before .before .before .before .plus-if2 in
+    let v = c .before .before .before .before .before .settle in
+    let z = c .before .before .before .enum-told .given in
+    let s = sound (a .content .now) (a .entries .now) (a .text .now) (fine (a .content .now) (a .entries .now) (a .text .now) (k .result) (k .ensures .0) (x .0 .0) (x .1)) in
+    let t = sound (a .ellipsis .now) (a .ellipsis-entries .now) (a .ellipsis-text .now) (fine (a .ellipsis .now) (a .ellipsis-entries .now) (a .ellipsis-text .now) (l .result) (l .ensures .0) (y .0 .0) (y .1)) in
+    (s, (t, (m .ensures .1, room-for (truncateEnd (a .max-width) (recording (a .ellipsis .now) (a .ellipsis-entries .now) (a .ellipsis-text .now))) (recording (a .content .now) (a .entries .now) (a .text .now)) (recording (a .ellipsis .now) (a .ellipsis-entries .now) (a .ellipsis-text .now)) (a .bytes .now) (a .numbers .now) (a .texts .now) refl refl refl (k .result) (k .ensures .0) (x .0 .0) (x .1) (l .result) (l .ensures .0) (y .0 .0) (y .1) (endItems (m .result) (recording (a .content .now) (a .entries .now) (a .text .now)) (recording (a .ellipsis .now) (a .ellipsis-entries .now) (a .ellipsis-text .now))) (end-items (a .max-width) (recording (a .content .now) (a .entries .now) (a .text .now)) (recording (a .ellipsis .now) (a .ellipsis-entries .now) (a .ellipsis-text .now)) (m .result) (m .ensures .0)) (m .result .content + m .result .ellipsis) (n .result) (u .result) (end-data (a .content .now) (a .entries .now) (a .text .now) (a .ellipsis .now) (a .ellipsis-entries .now) (a .ellipsis-text .now) (a .max-width) (k .result) (k .ensures .0) (k .ensures .1 .0) (x .0 .0) (x .1) (l .result) (l .ensures .0) (l .ensures .1 .0) (y .0 .0) (y .1) (m .result) (m .ensures .0) (m .ensures .1 .0) (m .ensures .1 .1)) (n .ensures ∙ end-count (a .content .now) (a .entries .now) (a .text .now) (a .ellipsis .now) (a .ellipsis-entries .now) (a .ellipsis-text .now) (a .max-width) (k .result) (k .ensures .0) (k .ensures .1 .0) (x .0 .0) (x .1) (l .result) (l .ensures .0) (l .ensures .1 .0) (y .0 .0) (y .1) (m .result)) (u .ensures ∙ end-text (a .content .now) (a .entries .now) (a .text .now) (a .ellipsis .now) (a .ellipsis-entries .now) (a .ellipsis-text .now) (a .max-width) (k .result) (k .ensures .0) (k .ensures .1 .0) (x .0 .0) (x .1) (l .result) (l .ensures .0) (l .ensures .1 .0) (y .0 .0) (y .1) (m .result)) (v .result) (v .ensures) (z .1))))
 
 -- src/lib.rt:300:1
 same-length : tie.Need-same-length
@@ -91,7 +171,19 @@ same-length-3 c = search needs
 
 -- src/lib.rt:300:1
 returns-4 : tie.Need-returns-4
-returns-4 c = search needs
+unfolding secondFault replacementFault linesLeft
+returns-4 c =
+    let a = c .before .before .before .before .before .before .before .before .before .before .before .before .before .before .before .before .before .before .before .before .before .before .before .before .before .before .before .before .before .before .before .before .before .before .before .before .before .args in
+    let k = c .before .before .before .before .before .before .before .before .before .before .before .before .before .before .before .before .before .before .before .before .before .before .before .before .before .before .check in
+    let x = c .before .before .before .before .before .before .before .before .before .before .before .before .before .before .before .before .before .before .before .before .before .before .before .before .checked2 .given in
+    let l = c .before .before .before .before .before .before .before .before .before .before .before .before .before .before .before .before .before .before .before .before .before .check2 in
+    let y = c .before .before .before .before .before .before .before .before .before .before .before .before .before .before .before .before .before .before .before .second2 .given in
+    let m = c .before .before .before .before .before .before .before .before .before .before .before .before .before .before .before .before .measure-end in
+    let n = c .before .before .before .before .before .before .before .before .before .before .before .before .before .before .plus-if in
+    let u = c .before .before .before .before .before .before .before .before .before .before .before .before .before .plus-if2 in
+    let v = c .before .before .before .before .before .before .before .before .before .before .before .before .settle in
+    let z = c .before .before .before .before .before .before .before .before .before .before .enum-told .given in
+    finished (truncateEnd (a .max-width) (recording (a .ellipsis .now) (a .ellipsis-entries .now) (a .ellipsis-text .now))) (recording (a .content .now) (a .entries .now) (a .text .now)) (recording (a .ellipsis .now) (a .ellipsis-entries .now) (a .ellipsis-text .now)) (a .bytes .now) (a .numbers .now) (a .texts .now) refl refl refl (k .result) (k .ensures .0) (x .0 .0) (x .1) (l .result) (l .ensures .0) (y .0 .0) (y .1) (endItems (m .result) (recording (a .content .now) (a .entries .now) (a .text .now)) (recording (a .ellipsis .now) (a .ellipsis-entries .now) (a .ellipsis-text .now))) (end-items (a .max-width) (recording (a .content .now) (a .entries .now) (a .text .now)) (recording (a .ellipsis .now) (a .ellipsis-entries .now) (a .ellipsis-text .now)) (m .result) (m .ensures .0)) (m .result .content + m .result .ellipsis) (n .result) (u .result) (end-data (a .content .now) (a .entries .now) (a .text .now) (a .ellipsis .now) (a .ellipsis-entries .now) (a .ellipsis-text .now) (a .max-width) (k .result) (k .ensures .0) (k .ensures .1 .0) (x .0 .0) (x .1) (l .result) (l .ensures .0) (l .ensures .1 .0) (y .0 .0) (y .1) (m .result) (m .ensures .0) (m .ensures .1 .0) (m .ensures .1 .1)) (n .ensures ∙ end-count (a .content .now) (a .entries .now) (a .text .now) (a .ellipsis .now) (a .ellipsis-entries .now) (a .ellipsis-text .now) (a .max-width) (k .result) (k .ensures .0) (k .ensures .1 .0) (x .0 .0) (x .1) (l .result) (l .ensures .0) (l .ensures .1 .0) (y .0 .0) (y .1) (m .result)) (u .ensures ∙ end-text (a .content .now) (a .entries .now) (a .text .now) (a .ellipsis .now) (a .ellipsis-entries .now) (a .ellipsis-text .now) (a .max-width) (k .result) (k .ensures .0) (k .ensures .1 .0) (x .0 .0) (x .1) (l .result) (l .ensures .0) (l .ensures .1 .0) (y .0 .0) (y .1) (m .result)) (v .result) (v .ensures) (z .1) (m .result .width) (end-number (a .max-width) (recording (a .content .now) (a .entries .now) (a .text .now)) (recording (a .ellipsis .now) (a .ellipsis-entries .now) (a .ellipsis-text .now)) (m .result) (m .ensures .0)) _ _ _ (c .before .before .before .before .before .before .put-end .result) (c .before .before .before .before .before .before .put-end .ensures)
 
 pub write-truncated-end-spec : {M : Type 1} → statement M
 write-truncated-end-spec =
