@@ -7,15 +7,10 @@ use native.Mathlib.Omega.{arith}
 use lib.ListN.{length}
 use Rattle.buffer.specs.Place.{over}
 use Rattle.recording.specs.declared.Refusal.{Refusal}
-use Rattle.recording.specs.declared.Checked.{Checked}
-use Rattle.recording.specs.declared.Checked.the-variants as C
-use Rattle.recording.specs.declared.Answer.{Answer}
 use Rattle.recording.specs.declared.Answer.the-variants.{Refused, Done}
 use Rattle.recording.specs.Recording.{Recording, Item, numbersOf, dataOf, textOf, entriesFrom, encode}
 use Rattle.recording.specs.Refusals.{numberOf, firstOf, recordingFault}
-use Rattle.recording.specs.Check.{faultOf}
 use Rattle.recording.specs.Outcome.{Room, Result, Outcome, refused, done, overLimit, noRoom, refusalOf, Lent, lentAfter, returned, answerOf}
-use Rattle.recording.proofs.CheckLaws.{refused-number, fine-zero}
 use Rattle.recording.proofs.OutcomeLaws.{number-pos, stops-content, stops-second, stops-records, stops-sizes, is-refused, is-done}
 use Rattle.recording.proofs.SizeLaws.{entryCount, count-numbers}
 use Rattle.writer.specs.declared.Cursor.{Cursor}
@@ -27,7 +22,7 @@ use Rattle.writer.proofs.Sizes.{size-refused, size-granted, fits-blank}
 use Rattle.writer.proofs.Steps.{from-start}
 use Rattle.layout.specs.Wrap.{lineNumbers}
 use Rattle.layout.specs.Layout.{Job, Call, resultItems, linesLeft, number, resultOf, secondFault, replacementFault, faultsOf, outcome}
-use Rattle.layout.specs.Lent.{lentOf, callOn}
+use Rattle.layout.specs.Lent.{lentOf}
 
 -- ── where a call stops
 module _ (j : Job) (o : Room) (r : Recording) where
@@ -114,43 +109,3 @@ module _ (c : Call) (r : Recording) where
     pub done-call : linesLeft (c .job) r ≡ [] → (answerOf (Done (k .d) (k .e) (k .t) m) ≡ returned (outcome c r)) × (lentOf od′ oe′ ot′ ≡ lentAfter (outcome c r) (lentOf od oe ot))
     unfolding over
     done-call z = (done-answer, done-lent [] [] (rw z))
-
--- ── a call on three buffers with a second recording e, which finds the faults of both by `check` and then asks `settle`
--- the contract: it answered a and left od′, oe′ and ot′
-abbrev pub Kept : Job → Recording → (od oe ot od′ oe′ ot′ : List ℕ) → Answer → Type 0
-Kept j r od oe ot od′ oe′ ot′ a = (answerOf a ≡ returned (outcome (callOn j od oe ot) r)) × (lentOf od′ oe′ ot′ ≡ lentAfter (outcome (callOn j od oe ot) r) (lentOf od oe ot))
-
-module _ (j : Job) (r e : Recording) (od oe ot : List ℕ) (sf : secondFault j ≡ recordingFault e) (rf : replacementFault j r ≡ 0) (lf : linesLeft j r ≡ []) (k₁ : Checked)
-    (f₁ : faultOf k₁ ≡ recordingFault r) where
-  abbrev o : Room
-  o = callOn j od oe ot .room
-
-  pub first-stop : (f : Refusal) → k₁ ≡ C.Refused f → Kept j r od oe ot od oe ot (Refused f)
-  first-stop f q = refused-call (callOn j od oe ot) r f (lentOf od oe ot) (content-stops j o r f (sym f₁ ∙ refused-number k₁ f q))
-
-  module _ (n₁ : ℕ) (q₁ : k₁ ≡ C.Fine n₁) (k₂ : Checked) (f₂ : faultOf k₂ ≡ recordingFault e) where
-    a₁ : recordingFault r ≡ 0
-    a₁ = sym f₁ ∙ fine-zero k₁ n₁ q₁
-
-    pub second-stop : (f : Refusal) → k₂ ≡ C.Refused f → Kept j r od oe ot od oe ot (Refused f)
-    second-stop f q = refused-call (callOn j od oe ot) r f (lentOf od oe ot) (second-stops j o r a₁ f (sf ∙ sym f₂ ∙ refused-number k₂ f q))
-
-    -- the items that are left, and their sizes
-    module _ (n₂ : ℕ) (q₂ : k₂ ≡ C.Fine n₂) (is : List Item) (ei : resultItems j r ≡ is) (d en t : ℕ) (ed : d ≡ length (dataOf is)) (ee : en ≡ 4 * entryCount is) (et : t ≡ length (textOf is))
-        (v : Settled) (g : settledFault v ≡ sizesFault d en t 0 (callOn j od oe ot .room)) where
-      a₂ : secondFault j ≡ 0
-      a₂ = sf ∙ sym f₂ ∙ fine-zero k₂ n₂ q₂
-
-      no-lines : 0 ≡ length (lineNumbers (linesLeft j r))
-      no-lines = rw lf
-
-      pub size-stop : (f : Refusal) → v ≡ S.Refused f → Kept j r od oe ot od oe ot (Refused f)
-      size-stop f q = refused-call (callOn j od oe ot) r f (lentOf od oe ot) (sizes-stop j o r a₁ a₂ rf is ei d en t 0 ed ee et no-lines v g f q)
-
-      module _ (q : v ≡ S.Room) where
-        pub room-for : Fits is (blank od oe ot)
-        room-for = has-room j o r a₁ a₂ rf is ei d en t 0 ed ee et no-lines v g q od oe ot refl refl refl
-
-        pub finished : (m : ℕ) → number j r ≡ m → (od′ oe′ ot′ : List ℕ) (c : Cursor) → out od′ oe′ ot′ c ≡ add is (blank od oe ot) → Kept j r od oe ot od′ oe′ ot′ (Done (c .d) (c .e) (c .t) m)
-        finished m em od′ oe′ ot′ c w =
-            done-call (callOn j od oe ot) r is m od oe ot od′ oe′ ot′ c (accepted j o r a₁ a₂ rf is ei d en t 0 ed ee et no-lines v g q) ei em w lf

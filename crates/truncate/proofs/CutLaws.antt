@@ -1,8 +1,8 @@
 -- A content written in two steps from its start, bytes and entries in one and the entries alone in the other; and the sizes of what that leaves: no entry is dropped.
-use mathlib.Core.Path.{_≡_, refl, sym, ap, _∙_}
+use mathlib.Core.Path.{_≡_, ap, _∙_}
 use mathlib.Core.Bool.{Bool, true, false, cond}
 use mathlib.Core.List.{List, [], _∷_, _++_, append-nil}
-use Prim.Native.Nat.{ℕ, zero, suc, _+_, _-_, _*_, _%_, _≤_}
+use Prim.Native.Nat.{ℕ, _+_, _-_, _≤_}
 use native.Mathlib.Omega.{arith}
 use lib.Dec.{eqb}
 use lib.ListN.{length, take, drop, length-take, length-drop, length-append}
@@ -10,14 +10,12 @@ use borrow.Rule.Slice.PartAt.{part-to-end}
 use Rattle.chars.specs.Chars.{Character, chars, bytesOf, wide}
 use Rattle.chars.specs.Cut.{leadingZeroWidth, zeroWidthLen}
 use Rattle.chars.proofs.CharsLaws.{bytes-chars}
-use Rattle.recording.specs.Recording.{Recording, recording, Item, items, dataOf, textOf}
+use Rattle.recording.specs.Recording.{recording, Item, items, dataOf}
 use Rattle.recording.specs.Edit.{front, back, entriesOnly, edit}
 use Rattle.recording.proofs.EditLaws.{data-back, edit-data}
 use Rattle.recording.proofs.ItemsLaws.{data-items}
-use Rattle.recording.proofs.SizeLaws.{entryCount, count-numbers, edit-count, edit-text}
 use Rattle.writer.specs.declared.Cursor.{Cursor}
 use Rattle.writer.specs.Write.{Out, add, Fits, left}
-use Rattle.writer.proofs.Sizes.{numbers-items}
 use Rattle.writer.proofs.Steps.{fits-first, fits-then, then, front-start, back-start, front-all, back-all, data-size}
 use Rattle.layout.specs.Layout.{cutEnd, cutStart}
 
@@ -95,7 +93,3 @@ module _ (n : ℕ) (ds ns ts : List ℕ) where
   from-data =
       ap length (edit-data (cutStart n) (items (recording ds ns ts)))
       ∙ ap (λ (d : List ℕ). length (drop n d)) (data-items (recording ds ns ts)) ∙ length-drop n ds
-
--- four numbers an entry
-pub items-count : (ds ns ts : List ℕ) → length ns % 4 ≡ 0 → 4 * entryCount (items (recording ds ns ts)) ≡ length ns
-items-count ds ns ts h = omega (arith, count-numbers (items (recording ds ns ts)) 0 0, numbers-items ds ns ts h)

@@ -1,32 +1,24 @@
 -- The plan that is measured is the call's: what is written by it is `resultItems` and its width `number`; and its sizes. The idea: a plan is chosen by one test, as the call's result is.
 use mathlib.Core.Path.{_≡_, refl, sym, ap, _∙_}
 use mathlib.Core.Bool.{Bool, true, false, cond, false≢true}
-use mathlib.Core.List.{List, [], _∷_, _++_}
-use Prim.Native.Nat.{ℕ, _+_, _-_, _*_, _%_, _≤_, _<_}
+use mathlib.Core.List.{List, _++_}
+use Prim.Native.Nat.{ℕ, _+_, _-_, _*_, _≤_, _<_}
 use native.Mathlib.Omega.{arith}
 use lib.Dec.{ltb}
 use lib.ListN.{length, drop, length-append}
-use borrow.Author.Tests.{ltb-false, lt-ltb, le-ltb}
+use borrow.Author.Tests.{lt-ltb, le-ltb}
 use Rattle.chars.specs.Chars.{textWidth}
 use Rattle.chars.specs.Cut.{truncateEndPos, truncateEndWidth, truncateStartPos, truncateStartWidth, zeroWidthLen}
-use Rattle.recording.specs.declared.Checked.{Checked}
-use Rattle.recording.specs.declared.Checked.the-variants.{Fine}
 use Rattle.recording.specs.Recording.{Recording, recording, Item, items, dataOf, textOf}
 use Rattle.recording.specs.Edit.{edit}
-use Rattle.recording.specs.Refusals.{recordingFault}
-use Rattle.recording.specs.Check.{faultOf, Counted, Within}
-use Rattle.recording.proofs.CheckLaws.{fine-zero, fine-count, fine-within}
 use Rattle.recording.proofs.EditLaws.{data-append}
-use Rattle.recording.proofs.FaultLaws.{no-fault}
 use Rattle.recording.proofs.SizeLaws.{entryCount, count-append, edit-count, edit-text}
-use Rattle.writer.specs.Write.{Sound}
 use Rattle.writer.proofs.Laws.{text-size}
-use Rattle.writer.proofs.Sizes.{quads-of}
-use Rattle.writer.proofs.Steps.{data-size, sound}
+use Rattle.layout.proofs.SecondLaws.{Fine}
 use Rattle.layout.specs.Layout.{cutEnd, cutStart, trimmedStartPos, truncateEnd, truncateStart, resultItems, number}
 use Rattle.truncate.specs.declared.Plan.{Plan}
 use Rattle.truncate.specs.Plan.{planEnd, planStart, endItems, startItems, plusIf}
-use Rattle.truncate.proofs.CutLaws.{up-to-data, from-data, items-count}
+use Rattle.truncate.proofs.CutLaws.{up-to-data, from-data}
 
 -- ── the items of a plan, by its test
 module _ (p : Plan) (r e : Recording) where
@@ -133,34 +125,12 @@ text-if false x z a b e f = sym f
 data-size-append : (x y : List Item) → length (dataOf (x ++ y)) ≡ length (dataOf x) + length (dataOf y)
 data-size-append x y = ap length (data-append x y) ∙ length-append (dataOf x) (dataOf y)
 
--- both recordings were checked: no sum wraps, and the texts have these lengths
-module _ (ds ns ts : List ℕ) (k : Checked) (f : faultOf k ≡ recordingFault (recording ds ns ts)) (n : ℕ) (q : k ≡ Fine n) where
-  pub fine : recordingFault (recording ds ns ts) ≡ 0
-  fine = sym f ∙ fine-zero k n q
-
-  pub short : (length ds ≤ 1048576) × (length ns ≤ 16384)
-  short = (sound ds ns ts fine .short, ltb-false 16384 (length ns) (no-fault (recording ds ns ts) fine .entryNumbers))
-
-module _ (ds ns ts ds₂ ns₂ ts₂ : List ℕ) (max : ℕ) (k₁ : Checked) (f₁ : faultOf k₁ ≡ recordingFault (recording ds ns ts)) (c₁ : Counted k₁ (length (textOf (items (recording ds ns ts))))) (n₁ : ℕ)
-    (q₁ : k₁ ≡ Fine n₁) (k₂ : Checked) (f₂ : faultOf k₂ ≡ recordingFault (recording ds₂ ns₂ ts₂)) (c₂ : Counted k₂ (length (textOf (items (recording ds₂ ns₂ ts₂))))) (n₂ : ℕ) (q₂ : k₂ ≡ Fine n₂)
-    (p : Plan) where
+module _ (ds ns ts ds₂ ns₂ ts₂ : List ℕ) (n₁ n₂ : ℕ) (f : Fine ds ns ts n₁) (g : Fine ds₂ ns₂ ts₂ n₂) (max : ℕ) (p : Plan) where
   abbrev r : Recording
   r = recording ds ns ts
 
   abbrev e : Recording
   e = recording ds₂ ns₂ ts₂
-
-  m₁ : 4 * entryCount (items r) ≡ length ns
-  m₁ = items-count ds ns ts (quads-of ds ns ts (fine ds ns ts k₁ f₁ n₁ q₁))
-
-  m₂ : 4 * entryCount (items e) ≡ length ns₂
-  m₂ = items-count ds₂ ns₂ ts₂ (quads-of ds₂ ns₂ ts₂ (fine ds₂ ns₂ ts₂ k₂ f₂ n₂ q₂))
-
-  t₁ : n₁ ≡ length (textOf (items r))
-  t₁ = fine-count k₁ n₁ (length (textOf (items r))) q₁ c₁
-
-  t₂ : n₂ ≡ length (textOf (items e))
-  t₂ = fine-count k₂ n₂ (length (textOf (items e))) q₂ c₂
 
   -- the end call
   abbrev x : List Item
@@ -173,20 +143,20 @@ module _ (ds ns ts ds₂ ns₂ ts₂ : List ℕ) (max : ℕ) (k₁ : Checked) (f
   unfolding endItems
   end-count =
       count-if (p .cut) (x ++ y) (items r) (length ns) (length ns₂)
-      (omega (arith, count-append x y, edit-count (cutEnd (p .content) ds) (items r), edit-count (cutEnd (p .ellipsis) ds₂) (items e), m₁, m₂)) m₁
+      (omega (arith, count-append x y, edit-count (cutEnd (p .content) ds) (items r), edit-count (cutEnd (p .ellipsis) ds₂) (items e), f .entry-size, g .entry-size)) (sym (f .entry-size))
 
   pub end-text : plusIf (p .cut) n₁ n₂ ≡ length (textOf (endItems p (recording ds ns ts) (recording ds₂ ns₂ ts₂)))
   unfolding endItems
   end-text =
       text-if (p .cut) (x ++ y) (items r) n₁ n₂
-      (omega (arith, text-size x y, edit-text (cutEnd (p .content) ds) (items r), edit-text (cutEnd (p .ellipsis) ds₂) (items e), t₁, t₂)) (sym t₁)
+      (omega (arith, text-size x y, edit-text (cutEnd (p .content) ds) (items r), edit-text (cutEnd (p .ellipsis) ds₂) (items e), f .text-size, g .text-size)) (sym (f .text-size))
 
   pub end-data : p ≡ planEnd max ds ds₂ → p .content ≤ length ds → p .ellipsis ≤ length ds₂ → p .content + p .ellipsis ≡ length (dataOf (endItems p (recording ds ns ts) (recording ds₂ ns₂ ts₂)))
   end-data q a b = go (p .cut) refl
     where
       go : (t : Bool) → p .cut ≡ t → p .content + p .ellipsis ≡ length (dataOf (endItems p (recording ds ns ts) (recording ds₂ ns₂ ts₂)))
       go true z = omega (arith, ap (λ (l : List Item). length (dataOf l)) (end-cut p r e z), data-size-append x y, up-to-data (p .content) ds ns ts a, up-to-data (p .ellipsis) ds₂ ns₂ ts₂ b)
-      go false z = let u = end-uncut max ds ds₂ p q z in omega (arith, ap (λ (l : List Item). length (dataOf l)) (end-whole p r e z), data-size ds ns ts, u .0, u .1)
+      go false z = let u = end-uncut max ds ds₂ p q z in omega (arith, ap (λ (l : List Item). length (dataOf l)) (end-whole p r e z), f .data-size, u .0, u .1)
 
   -- the start call
   abbrev u : List Item
@@ -199,13 +169,13 @@ module _ (ds ns ts ds₂ ns₂ ts₂ : List ℕ) (max : ℕ) (k₁ : Checked) (f
   unfolding startItems
   start-count =
       let c = edit-count (cutStart (p .content)) (items r) in
-      count-if (p .cut) (u ++ w) w (length ns) (length ns₂) (omega (arith, count-append u w, c, edit-count (cutStart (p .ellipsis)) (items e), m₁, m₂)) (omega (arith, c, m₁))
+      count-if (p .cut) (u ++ w) w (length ns) (length ns₂) (omega (arith, count-append u w, c, edit-count (cutStart (p .ellipsis)) (items e), f .entry-size, g .entry-size)) (omega (arith, c, f .entry-size))
 
   pub start-text : plusIf (p .cut) n₁ n₂ ≡ length (textOf (startItems p (recording ds ns ts) (recording ds₂ ns₂ ts₂)))
   unfolding startItems
   start-text =
       let c = edit-text (cutStart (p .content)) (items r) in
-      text-if (p .cut) (u ++ w) w n₁ n₂ (omega (arith, text-size u w, c, edit-text (cutStart (p .ellipsis)) (items e), t₁, t₂)) (omega (arith, c, t₁))
+      text-if (p .cut) (u ++ w) w n₁ n₂ (omega (arith, text-size u w, c, edit-text (cutStart (p .ellipsis)) (items e), f .text-size, g .text-size)) (omega (arith, c, f .text-size))
 
   pub start-data : p ≡ planStart max ds ds₂ → (length ds - p .content) + (length ds₂ - p .ellipsis) ≡ length (dataOf (startItems p (recording ds ns ts) (recording ds₂ ns₂ ts₂)))
   start-data q = go (p .cut) refl

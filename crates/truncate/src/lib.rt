@@ -298,9 +298,6 @@ pub fn put_start(
 
 // Cuts a content wider than max_width at its end and writes the ellipsis after it. The number is the width kept.
 pub fn write_truncated_end(
-    bytes: &mut [u8],
-    numbers: &mut [u32],
-    texts: &mut [u8],
     content: &[u8],
     entries: &[u32],
     text: &[u8],
@@ -308,9 +305,14 @@ pub fn write_truncated_end(
     ellipsis_entries: &[u32],
     ellipsis_text: &[u8],
     max_width: u32,
+    bytes: &mut [u8],
+    numbers: &mut [u32],
+    texts: &mut [u8],
 ) -> Answer
     ensures { λ r. ⌜ answerOf r ≡ returned (outcome (callOn (truncateEnd «max_width» (recording (now (ellipsis .entry)) (now («ellipsis_entries» .entry)) (now («ellipsis_text» .entry)))) (now (bytes .entry)) (now (numbers .entry)) (now (texts .entry))) (recording (now (content .entry)) (now (entries .entry)) (now (text .entry)))) ⌝ }
-    ensures { λ r. ⌜ lentOf (now (bytes .exit)) (now (numbers .exit)) (now (texts .exit)) ≡ lentAfter (outcome (callOn (truncateEnd «max_width» (recording (now (ellipsis .entry)) (now («ellipsis_entries» .entry)) (now («ellipsis_text» .entry)))) (now (bytes .entry)) (now (numbers .entry)) (now (texts .entry))) (recording (now (content .entry)) (now (entries .entry)) (now (text .entry)))) (lentOf (now (bytes .entry)) (now (numbers .entry)) (now (texts .entry))) ⌝ }
+    ensures { λ r. ⌜ now (bytes .exit) ≡ lentAfter (outcome (callOn (truncateEnd «max_width» (recording (now (ellipsis .entry)) (now («ellipsis_entries» .entry)) (now («ellipsis_text» .entry)))) (now (bytes .entry)) (now (numbers .entry)) (now (texts .entry))) (recording (now (content .entry)) (now (entries .entry)) (now (text .entry)))) (lentOf (now (bytes .entry)) (now (numbers .entry)) (now (texts .entry))) .dataBytes ⌝ }
+    ensures { λ r. ⌜ now (numbers .exit) ≡ lentAfter (outcome (callOn (truncateEnd «max_width» (recording (now (ellipsis .entry)) (now («ellipsis_entries» .entry)) (now («ellipsis_text» .entry)))) (now (bytes .entry)) (now (numbers .entry)) (now (texts .entry))) (recording (now (content .entry)) (now (entries .entry)) (now (text .entry)))) (lentOf (now (bytes .entry)) (now (numbers .entry)) (now (texts .entry))) .entryNumbers ⌝ }
+    ensures { λ r. ⌜ now (texts .exit) ≡ lentAfter (outcome (callOn (truncateEnd «max_width» (recording (now (ellipsis .entry)) (now («ellipsis_entries» .entry)) (now («ellipsis_text» .entry)))) (now (bytes .entry)) (now (numbers .entry)) (now (texts .entry))) (recording (now (content .entry)) (now (entries .entry)) (now (text .entry)))) (lentOf (now (bytes .entry)) (now (numbers .entry)) (now (texts .entry))) .text ⌝ }
 {
     let t = LEADS;
     let checked = check(&t, content, entries, text);
@@ -366,9 +368,6 @@ pub fn write_truncated_end(
 
 // Cuts a content wider than max_width at its start and writes the ellipsis before it. The number is the width kept.
 pub fn write_truncated_start(
-    bytes: &mut [u8],
-    numbers: &mut [u32],
-    texts: &mut [u8],
     content: &[u8],
     entries: &[u32],
     text: &[u8],
@@ -376,9 +375,14 @@ pub fn write_truncated_start(
     ellipsis_entries: &[u32],
     ellipsis_text: &[u8],
     max_width: u32,
+    bytes: &mut [u8],
+    numbers: &mut [u32],
+    texts: &mut [u8],
 ) -> Answer
     ensures { λ r. ⌜ answerOf r ≡ returned (outcome (callOn (truncateStart «max_width» (recording (now (ellipsis .entry)) (now («ellipsis_entries» .entry)) (now («ellipsis_text» .entry)))) (now (bytes .entry)) (now (numbers .entry)) (now (texts .entry))) (recording (now (content .entry)) (now (entries .entry)) (now (text .entry)))) ⌝ }
-    ensures { λ r. ⌜ lentOf (now (bytes .exit)) (now (numbers .exit)) (now (texts .exit)) ≡ lentAfter (outcome (callOn (truncateStart «max_width» (recording (now (ellipsis .entry)) (now («ellipsis_entries» .entry)) (now («ellipsis_text» .entry)))) (now (bytes .entry)) (now (numbers .entry)) (now (texts .entry))) (recording (now (content .entry)) (now (entries .entry)) (now (text .entry)))) (lentOf (now (bytes .entry)) (now (numbers .entry)) (now (texts .entry))) ⌝ }
+    ensures { λ r. ⌜ now (bytes .exit) ≡ lentAfter (outcome (callOn (truncateStart «max_width» (recording (now (ellipsis .entry)) (now («ellipsis_entries» .entry)) (now («ellipsis_text» .entry)))) (now (bytes .entry)) (now (numbers .entry)) (now (texts .entry))) (recording (now (content .entry)) (now (entries .entry)) (now (text .entry)))) (lentOf (now (bytes .entry)) (now (numbers .entry)) (now (texts .entry))) .dataBytes ⌝ }
+    ensures { λ r. ⌜ now (numbers .exit) ≡ lentAfter (outcome (callOn (truncateStart «max_width» (recording (now (ellipsis .entry)) (now («ellipsis_entries» .entry)) (now («ellipsis_text» .entry)))) (now (bytes .entry)) (now (numbers .entry)) (now (texts .entry))) (recording (now (content .entry)) (now (entries .entry)) (now (text .entry)))) (lentOf (now (bytes .entry)) (now (numbers .entry)) (now (texts .entry))) .entryNumbers ⌝ }
+    ensures { λ r. ⌜ now (texts .exit) ≡ lentAfter (outcome (callOn (truncateStart «max_width» (recording (now (ellipsis .entry)) (now («ellipsis_entries» .entry)) (now («ellipsis_text» .entry)))) (now (bytes .entry)) (now (numbers .entry)) (now (texts .entry))) (recording (now (content .entry)) (now (entries .entry)) (now (text .entry)))) (lentOf (now (bytes .entry)) (now (numbers .entry)) (now (texts .entry))) .text ⌝ }
 {
     let t = LEADS;
     let checked = check(&t, content, entries, text);

@@ -1,3 +1,4 @@
+-- The plan is `planEnd`: its test is the one that the code makes, and each field is what its leaf promises.
 use native.Mathlib.Omega.{arith}
 use borrow.Author.Needs.{needs}
 use Rattle.truncate.proofs.PlanLaws.{end-plan-whole, end-plan-cut}

@@ -1,6 +1,5 @@
-use native.Mathlib.Omega.{arith}
+-- The sum, or its first part, by the test.
 use borrow.Author.Needs.{needs}
-use mathlib.Core.Path.{refl}
 use Rattle.truncate.specs.Plan.{plusIf}
 use Rattle.truncate.proofs.plus_if.Statement.{statement}
 use Rattle.truncate.proofs.plus_if.Tie as tie

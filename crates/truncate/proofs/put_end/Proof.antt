@@ -1,4 +1,4 @@
-use native.Mathlib.Omega.{arith}
+-- What is written are the items of the plan: one step if nothing is cut, else the content's items and then the ellipsis's.
 use borrow.Author.Needs.{needs}
 use mathlib.Core.Path.{sym, ap, _∙_}
 use mathlib.Core.List.{List}

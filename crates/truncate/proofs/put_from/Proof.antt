@@ -1,3 +1,4 @@
+-- The cut is two steps of the writer, the entries alone up to n and then bytes and entries: `both` of `proofs/CutLaws.antt`.
 use native.Mathlib.Omega.{arith}
 use borrow.Author.Needs.{needs}
 use mathlib.Core.Path.{refl}

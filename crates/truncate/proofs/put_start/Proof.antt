@@ -1,4 +1,4 @@
-use native.Mathlib.Omega.{arith}
+-- What is written are the items of the plan: the content's alone if nothing is cut, else the ellipsis's and then the content's.
 use borrow.Author.Needs.{needs}
 use mathlib.Core.Path.{sym, ap, _∙_}
 use mathlib.Core.List.{List}

@@ -1,3 +1,4 @@
+-- The cut is two steps of the writer, bytes and entries up to n and then the entries alone: `both` of `proofs/CutLaws.antt`.
 use native.Mathlib.Omega.{arith}
 use borrow.Author.Needs.{needs}
 use mathlib.Core.Path.{refl}

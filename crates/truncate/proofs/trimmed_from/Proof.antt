@@ -1,4 +1,4 @@
-use native.Mathlib.Omega.{arith}
+-- What is handed back is the ending without its leading zero-width characters, so its length says where it begins.
 use borrow.Author.Needs.{needs}
 use Rattle.truncate.proofs.CutLaws.{trimmed}
 use Rattle.truncate.proofs.trimmed_from.Statement.{statement}

@@ -1,16 +1,14 @@
+-- The outcome is that of `truncateEnd`: each refusal is found in its order, and what is measured, sized and written is the call's result (`proofs/PlanLaws.antt`).
 use native.Mathlib.Omega.{arith}
 use borrow.Author.Needs.{needs}
+use Rattle.layout.proofs.SecondLaws.{checked-fine, content-refused, second-refused, sizes-refused, room-left, written}
 use mathlib.Core.Path.{refl, _∙_}
 use Prim.Native.Nat.{_+_, _-_}
-use lib.ListN.{length}
 use Rattle.chars.specs.Leads.{leadTable}
 use Rattle.recording.specs.Recording.{recording}
-use Rattle.recording.proofs.CheckLaws.{fine-within}
-use Rattle.writer.proofs.Steps.{sound}
 use Rattle.layout.specs.Layout.{truncateEnd, secondFault, replacementFault, linesLeft}
-use Rattle.layout.proofs.OutcomeLaws.{first-stop, second-stop, size-stop, room-for, finished}
 use Rattle.truncate.specs.Plan.{endItems}
-use Rattle.truncate.proofs.PlanLaws.{end-items, end-number, end-data, end-count, end-text, fine, short}
+use Rattle.truncate.proofs.PlanLaws.{end-items, end-number, end-data, end-count, end-text}
 use Rattle.truncate.proofs.write_truncated_end.Statement.{statement}
 use Rattle.truncate.proofs.write_truncated_end.Tie as tie
 use Rattle.truncate.proofs.write_truncated_end.Reads as reads
@@ -38,7 +36,7 @@ returns c =
     let a = c .before .before .before .before .before .before .before .before .before .before .before .before .before .before .args in
     let k = c .before .before .before .check in
     let x = c .before .checked .given in
-    first-stop (truncateEnd (a .max-width) (recording (a .ellipsis .now) (a .ellipsis-entries .now) (a .ellipsis-text .now))) (recording (a .content .now) (a .entries .now) (a .text .now)) (recording (a .ellipsis .now) (a .ellipsis-entries .now) (a .ellipsis-text .now)) (a .bytes .now) (a .numbers .now) (a .texts .now) refl refl refl (k .result) (k .ensures .0) (x .0 .0) (x .1)
+    content-refused (a .content .now) (a .entries .now) (a .text .now) (a .ellipsis .now) (a .ellipsis-entries .now) (a .ellipsis-text .now) (a .bytes .now) (a .numbers .now) (a .texts .now) (truncateEnd (a .max-width) (recording (a .ellipsis .now) (a .ellipsis-entries .now) (a .ellipsis-text .now))) (k .result) (x .0 .0) (k .ensures .0) (x .1)
 
 -- src/lib.rt:321:23
 enum-known-checked-2 : tie.Need-enum-known-checked-2
@@ -62,8 +60,9 @@ returns-2 c =
     let k = c .before .before .before .before .before .before .before .before .check in
     let x = c .before .before .before .before .before .before .checked2 .given in
     let l = c .before .before .before .check2 in
+    let f = checked-fine (a .content .now) (a .entries .now) (a .text .now) (x .0 .0) (k .result) (x .1) (k .ensures .0) (k .ensures .1 .0) (k .ensures .1 .1) in
     let y = c .before .second .given in
-    second-stop (truncateEnd (a .max-width) (recording (a .ellipsis .now) (a .ellipsis-entries .now) (a .ellipsis-text .now))) (recording (a .content .now) (a .entries .now) (a .text .now)) (recording (a .ellipsis .now) (a .ellipsis-entries .now) (a .ellipsis-text .now)) (a .bytes .now) (a .numbers .now) (a .texts .now) refl refl refl (k .result) (k .ensures .0) (x .0 .0) (x .1) (l .result) (l .ensures .0) (y .0 .0) (y .1)
+    second-refused (a .content .now) (a .entries .now) (a .text .now) (a .ellipsis .now) (a .ellipsis-entries .now) (a .ellipsis-text .now) (a .bytes .now) (a .numbers .now) (a .texts .now) (truncateEnd (a .max-width) (recording (a .ellipsis .now) (a .ellipsis-entries .now) (a .ellipsis-text .now))) (x .0 .0) f refl (l .result) (y .0 .0) (l .ensures .0) (y .1)
 
 -- src/lib.rt:328:23
 enum-known-second-2 : tie.Need-enum-known-second-2
@@ -84,9 +83,9 @@ add-settle c =
     let l = c .before .before .before .before .before .before .check2 in
     let y = c .before .before .before .before .second2 .given in
     let m = c .before .measure-end in
-    let s = short (a .content .now) (a .entries .now) (a .text .now) (k .result) (k .ensures .0) (x .0 .0) (x .1) in
-    let t = short (a .ellipsis .now) (a .ellipsis-entries .now) (a .ellipsis-text .now) (l .result) (l .ensures .0) (y .0 .0) (y .1) in
-    omega (arith, s .0, t .0, m .ensures .1 .0, m .ensures .1 .1)
+    let f = checked-fine (a .content .now) (a .entries .now) (a .text .now) (x .0 .0) (k .result) (x .1) (k .ensures .0) (k .ensures .1 .0) (k .ensures .1 .1) in
+    let g = checked-fine (a .ellipsis .now) (a .ellipsis-entries .now) (a .ellipsis-text .now) (y .0 .0) (l .result) (y .1) (l .ensures .0) (l .ensures .1 .0) (l .ensures .1 .1) in
+    omega (arith, f .data-short, g .data-short, m .ensures .1 .0, m .ensures .1 .1)
 
 -- src/lib.rt:333:9
 plus-if-requires : tie.Need-plus-if-requires
@@ -97,9 +96,9 @@ plus-if-requires c κs =
     let l = c .before .before .before .before .before .before .check2 in
     let y = c .before .before .before .before .second2 .given in
     let m = c .before .measure-end in
-    let s = short (a .content .now) (a .entries .now) (a .text .now) (k .result) (k .ensures .0) (x .0 .0) (x .1) in
-    let t = short (a .ellipsis .now) (a .ellipsis-entries .now) (a .ellipsis-text .now) (l .result) (l .ensures .0) (y .0 .0) (y .1) in
-    omega (arith, s .1, t .1)
+    let f = checked-fine (a .content .now) (a .entries .now) (a .text .now) (x .0 .0) (k .result) (x .1) (k .ensures .0) (k .ensures .1 .0) (k .ensures .1 .1) in
+    let g = checked-fine (a .ellipsis .now) (a .ellipsis-entries .now) (a .ellipsis-text .now) (y .0 .0) (l .result) (y .1) (l .ensures .0) (l .ensures .1 .0) (l .ensures .1 .1) in
+    omega (arith, f .entries-short, g .entries-short)
 
 -- src/lib.rt:334:9
 plus-if-requires-2 : tie.Need-plus-if-requires-2
@@ -110,7 +109,9 @@ plus-if-requires-2 c κs =
     let l = c .before .before .before .before .before .before .before .check2 in
     let y = c .before .before .before .before .before .second2 .given in
     let m = c .before .before .measure-end in
-    omega (arith, fine-within (k .result) (x .0 .0) 268435456 (x .1) (k .ensures .1 .1), fine-within (l .result) (y .0 .0) 268435456 (y .1) (l .ensures .1 .1))
+    let f = checked-fine (a .content .now) (a .entries .now) (a .text .now) (x .0 .0) (k .result) (x .1) (k .ensures .0) (k .ensures .1 .0) (k .ensures .1 .1) in
+    let g = checked-fine (a .ellipsis .now) (a .ellipsis-entries .now) (a .ellipsis-text .now) (y .0 .0) (l .result) (y .1) (l .ensures .0) (l .ensures .1 .0) (l .ensures .1 .1) in
+    omega (arith, f .text-short, g .text-short)
 
 -- src/lib.rt:331:9
 settle-requires : tie.Need-settle-requires
@@ -130,11 +131,13 @@ returns-3 c =
     let l = c .before .before .before .before .before .before .before .before .before .before .before .before .check2 in
     let y = c .before .before .before .before .before .before .before .before .before .before .second2 .given in
     let m = c .before .before .before .before .before .before .before .measure-end in
+    let f = checked-fine (a .content .now) (a .entries .now) (a .text .now) (x .0 .0) (k .result) (x .1) (k .ensures .0) (k .ensures .1 .0) (k .ensures .1 .1) in
+    let g = checked-fine (a .ellipsis .now) (a .ellipsis-entries .now) (a .ellipsis-text .now) (y .0 .0) (l .result) (y .1) (l .ensures .0) (l .ensures .1 .0) (l .ensures .1 .1) in
     let n = c .before .before .before .before .before .plus-if in
     let u = c .before .before .before .before .plus-if2 in
     let v = c .before .before .before .settle in
     let z = c .before .verdict .given in
-    size-stop (truncateEnd (a .max-width) (recording (a .ellipsis .now) (a .ellipsis-entries .now) (a .ellipsis-text .now))) (recording (a .content .now) (a .entries .now) (a .text .now)) (recording (a .ellipsis .now) (a .ellipsis-entries .now) (a .ellipsis-text .now)) (a .bytes .now) (a .numbers .now) (a .texts .now) refl refl refl (k .result) (k .ensures .0) (x .0 .0) (x .1) (l .result) (l .ensures .0) (y .0 .0) (y .1) (endItems (m .result) (recording (a .content .now) (a .entries .now) (a .text .now)) (recording (a .ellipsis .now) (a .ellipsis-entries .now) (a .ellipsis-text .now))) (end-items (a .max-width) (recording (a .content .now) (a .entries .now) (a .text .now)) (recording (a .ellipsis .now) (a .ellipsis-entries .now) (a .ellipsis-text .now)) (m .result) (m .ensures .0)) (m .result .content + m .result .ellipsis) (n .result) (u .result) (end-data (a .content .now) (a .entries .now) (a .text .now) (a .ellipsis .now) (a .ellipsis-entries .now) (a .ellipsis-text .now) (a .max-width) (k .result) (k .ensures .0) (k .ensures .1 .0) (x .0 .0) (x .1) (l .result) (l .ensures .0) (l .ensures .1 .0) (y .0 .0) (y .1) (m .result) (m .ensures .0) (m .ensures .1 .0) (m .ensures .1 .1)) (n .ensures ∙ end-count (a .content .now) (a .entries .now) (a .text .now) (a .ellipsis .now) (a .ellipsis-entries .now) (a .ellipsis-text .now) (a .max-width) (k .result) (k .ensures .0) (k .ensures .1 .0) (x .0 .0) (x .1) (l .result) (l .ensures .0) (l .ensures .1 .0) (y .0 .0) (y .1) (m .result)) (u .ensures ∙ end-text (a .content .now) (a .entries .now) (a .text .now) (a .ellipsis .now) (a .ellipsis-entries .now) (a .ellipsis-text .now) (a .max-width) (k .result) (k .ensures .0) (k .ensures .1 .0) (x .0 .0) (x .1) (l .result) (l .ensures .0) (l .ensures .1 .0) (y .0 .0) (y .1) (m .result)) (v .result) (v .ensures) (z .0 .0) (z .1)
+    sizes-refused (a .content .now) (a .entries .now) (a .text .now) (a .ellipsis .now) (a .ellipsis-entries .now) (a .ellipsis-text .now) (a .bytes .now) (a .numbers .now) (a .texts .now) (truncateEnd (a .max-width) (recording (a .ellipsis .now) (a .ellipsis-entries .now) (a .ellipsis-text .now))) (x .0 .0) f refl (y .0 .0) g refl refl (endItems (m .result) (recording (a .content .now) (a .entries .now) (a .text .now)) (recording (a .ellipsis .now) (a .ellipsis-entries .now) (a .ellipsis-text .now))) (end-items (a .max-width) (recording (a .content .now) (a .entries .now) (a .text .now)) (recording (a .ellipsis .now) (a .ellipsis-entries .now) (a .ellipsis-text .now)) (m .result) (m .ensures .0)) (m .result .content + m .result .ellipsis) (n .result) (u .result) (end-data (a .content .now) (a .entries .now) (a .text .now) (a .ellipsis .now) (a .ellipsis-entries .now) (a .ellipsis-text .now) (x .0 .0) (y .0 .0) f g (a .max-width) (m .result) (m .ensures .0) (m .ensures .1 .0) (m .ensures .1 .1)) (n .ensures ∙ end-count (a .content .now) (a .entries .now) (a .text .now) (a .ellipsis .now) (a .ellipsis-entries .now) (a .ellipsis-text .now) (x .0 .0) (y .0 .0) f g (a .max-width) (m .result)) (u .ensures ∙ end-text (a .content .now) (a .entries .now) (a .text .now) (a .ellipsis .now) (a .ellipsis-entries .now) (a .ellipsis-text .now) (x .0 .0) (y .0 .0) f g (a .max-width) (m .result)) (v .result) (v .ensures) (z .0 .0) (z .1)
 
 enum-told : tie.Need-enum-told
 enum-told c = search needs
@@ -149,13 +152,13 @@ put-end-requires c κs =
     let l = c .before .before .before .before .before .before .before .before .before .before .before .before .before .before .check2 in
     let y = c .before .before .before .before .before .before .before .before .before .before .before .before .second2 .given in
     let m = c .before .before .before .before .before .before .before .before .before .measure-end in
+    let f = checked-fine (a .content .now) (a .entries .now) (a .text .now) (x .0 .0) (k .result) (x .1) (k .ensures .0) (k .ensures .1 .0) (k .ensures .1 .1) in
+    let g = checked-fine (a .ellipsis .now) (a .ellipsis-entries .now) (a .ellipsis-text .now) (y .0 .0) (l .result) (y .1) (l .ensures .0) (l .ensures .1 .0) (l .ensures .1 .1) in
     let n = c .before .before .before .before .before .before .before .plus-if in
     let u = c .before .before .before .before .before .before .plus-if2 in
     let v = c .before .before .before .before .before .settle in
     let z = c .before .before .before .enum-told .given in
-    let s = sound (a .content .now) (a .entries .now) (a .text .now) (fine (a .content .now) (a .entries .now) (a .text .now) (k .result) (k .ensures .0) (x .0 .0) (x .1)) in
-    let t = sound (a .ellipsis .now) (a .ellipsis-entries .now) (a .ellipsis-text .now) (fine (a .ellipsis .now) (a .ellipsis-entries .now) (a .ellipsis-text .now) (l .result) (l .ensures .0) (y .0 .0) (y .1)) in
-    (s, (t, (m .ensures .1, room-for (truncateEnd (a .max-width) (recording (a .ellipsis .now) (a .ellipsis-entries .now) (a .ellipsis-text .now))) (recording (a .content .now) (a .entries .now) (a .text .now)) (recording (a .ellipsis .now) (a .ellipsis-entries .now) (a .ellipsis-text .now)) (a .bytes .now) (a .numbers .now) (a .texts .now) refl refl refl (k .result) (k .ensures .0) (x .0 .0) (x .1) (l .result) (l .ensures .0) (y .0 .0) (y .1) (endItems (m .result) (recording (a .content .now) (a .entries .now) (a .text .now)) (recording (a .ellipsis .now) (a .ellipsis-entries .now) (a .ellipsis-text .now))) (end-items (a .max-width) (recording (a .content .now) (a .entries .now) (a .text .now)) (recording (a .ellipsis .now) (a .ellipsis-entries .now) (a .ellipsis-text .now)) (m .result) (m .ensures .0)) (m .result .content + m .result .ellipsis) (n .result) (u .result) (end-data (a .content .now) (a .entries .now) (a .text .now) (a .ellipsis .now) (a .ellipsis-entries .now) (a .ellipsis-text .now) (a .max-width) (k .result) (k .ensures .0) (k .ensures .1 .0) (x .0 .0) (x .1) (l .result) (l .ensures .0) (l .ensures .1 .0) (y .0 .0) (y .1) (m .result) (m .ensures .0) (m .ensures .1 .0) (m .ensures .1 .1)) (n .ensures ∙ end-count (a .content .now) (a .entries .now) (a .text .now) (a .ellipsis .now) (a .ellipsis-entries .now) (a .ellipsis-text .now) (a .max-width) (k .result) (k .ensures .0) (k .ensures .1 .0) (x .0 .0) (x .1) (l .result) (l .ensures .0) (l .ensures .1 .0) (y .0 .0) (y .1) (m .result)) (u .ensures ∙ end-text (a .content .now) (a .entries .now) (a .text .now) (a .ellipsis .now) (a .ellipsis-entries .now) (a .ellipsis-text .now) (a .max-width) (k .result) (k .ensures .0) (k .ensures .1 .0) (x .0 .0) (x .1) (l .result) (l .ensures .0) (l .ensures .1 .0) (y .0 .0) (y .1) (m .result)) (v .result) (v .ensures) (z .1))))
+    (f .whole, (g .whole, (m .ensures .1, room-left (a .content .now) (a .entries .now) (a .text .now) (a .ellipsis .now) (a .ellipsis-entries .now) (a .ellipsis-text .now) (a .bytes .now) (a .numbers .now) (a .texts .now) (truncateEnd (a .max-width) (recording (a .ellipsis .now) (a .ellipsis-entries .now) (a .ellipsis-text .now))) (x .0 .0) f refl (y .0 .0) g refl refl (endItems (m .result) (recording (a .content .now) (a .entries .now) (a .text .now)) (recording (a .ellipsis .now) (a .ellipsis-entries .now) (a .ellipsis-text .now))) (end-items (a .max-width) (recording (a .content .now) (a .entries .now) (a .text .now)) (recording (a .ellipsis .now) (a .ellipsis-entries .now) (a .ellipsis-text .now)) (m .result) (m .ensures .0)) (m .result .content + m .result .ellipsis) (n .result) (u .result) (end-data (a .content .now) (a .entries .now) (a .text .now) (a .ellipsis .now) (a .ellipsis-entries .now) (a .ellipsis-text .now) (x .0 .0) (y .0 .0) f g (a .max-width) (m .result) (m .ensures .0) (m .ensures .1 .0) (m .ensures .1 .1)) (n .ensures ∙ end-count (a .content .now) (a .entries .now) (a .text .now) (a .ellipsis .now) (a .ellipsis-entries .now) (a .ellipsis-text .now) (x .0 .0) (y .0 .0) f g (a .max-width) (m .result)) (u .ensures ∙ end-text (a .content .now) (a .entries .now) (a .text .now) (a .ellipsis .now) (a .ellipsis-entries .now) (a .ellipsis-text .now) (x .0 .0) (y .0 .0) f g (a .max-width) (m .result)) (v .result) (v .ensures) (z .1))))
 
 -- src/lib.rt:300:1
 same-length : tie.Need-same-length
@@ -179,11 +182,13 @@ returns-4 c =
     let l = c .before .before .before .before .before .before .before .before .before .before .before .before .before .before .before .before .before .before .before .before .before .check2 in
     let y = c .before .before .before .before .before .before .before .before .before .before .before .before .before .before .before .before .before .before .before .second2 .given in
     let m = c .before .before .before .before .before .before .before .before .before .before .before .before .before .before .before .before .measure-end in
+    let f = checked-fine (a .content .now) (a .entries .now) (a .text .now) (x .0 .0) (k .result) (x .1) (k .ensures .0) (k .ensures .1 .0) (k .ensures .1 .1) in
+    let g = checked-fine (a .ellipsis .now) (a .ellipsis-entries .now) (a .ellipsis-text .now) (y .0 .0) (l .result) (y .1) (l .ensures .0) (l .ensures .1 .0) (l .ensures .1 .1) in
     let n = c .before .before .before .before .before .before .before .before .before .before .before .before .before .before .plus-if in
     let u = c .before .before .before .before .before .before .before .before .before .before .before .before .before .plus-if2 in
     let v = c .before .before .before .before .before .before .before .before .before .before .before .before .settle in
     let z = c .before .before .before .before .before .before .before .before .before .before .enum-told .given in
-    finished (truncateEnd (a .max-width) (recording (a .ellipsis .now) (a .ellipsis-entries .now) (a .ellipsis-text .now))) (recording (a .content .now) (a .entries .now) (a .text .now)) (recording (a .ellipsis .now) (a .ellipsis-entries .now) (a .ellipsis-text .now)) (a .bytes .now) (a .numbers .now) (a .texts .now) refl refl refl (k .result) (k .ensures .0) (x .0 .0) (x .1) (l .result) (l .ensures .0) (y .0 .0) (y .1) (endItems (m .result) (recording (a .content .now) (a .entries .now) (a .text .now)) (recording (a .ellipsis .now) (a .ellipsis-entries .now) (a .ellipsis-text .now))) (end-items (a .max-width) (recording (a .content .now) (a .entries .now) (a .text .now)) (recording (a .ellipsis .now) (a .ellipsis-entries .now) (a .ellipsis-text .now)) (m .result) (m .ensures .0)) (m .result .content + m .result .ellipsis) (n .result) (u .result) (end-data (a .content .now) (a .entries .now) (a .text .now) (a .ellipsis .now) (a .ellipsis-entries .now) (a .ellipsis-text .now) (a .max-width) (k .result) (k .ensures .0) (k .ensures .1 .0) (x .0 .0) (x .1) (l .result) (l .ensures .0) (l .ensures .1 .0) (y .0 .0) (y .1) (m .result) (m .ensures .0) (m .ensures .1 .0) (m .ensures .1 .1)) (n .ensures ∙ end-count (a .content .now) (a .entries .now) (a .text .now) (a .ellipsis .now) (a .ellipsis-entries .now) (a .ellipsis-text .now) (a .max-width) (k .result) (k .ensures .0) (k .ensures .1 .0) (x .0 .0) (x .1) (l .result) (l .ensures .0) (l .ensures .1 .0) (y .0 .0) (y .1) (m .result)) (u .ensures ∙ end-text (a .content .now) (a .entries .now) (a .text .now) (a .ellipsis .now) (a .ellipsis-entries .now) (a .ellipsis-text .now) (a .max-width) (k .result) (k .ensures .0) (k .ensures .1 .0) (x .0 .0) (x .1) (l .result) (l .ensures .0) (l .ensures .1 .0) (y .0 .0) (y .1) (m .result)) (v .result) (v .ensures) (z .1) (m .result .width) (end-number (a .max-width) (recording (a .content .now) (a .entries .now) (a .text .now)) (recording (a .ellipsis .now) (a .ellipsis-entries .now) (a .ellipsis-text .now)) (m .result) (m .ensures .0)) _ _ _ (c .before .before .before .before .before .before .put-end .result) (c .before .before .before .before .before .before .put-end .ensures)
+    written (a .content .now) (a .entries .now) (a .text .now) (a .ellipsis .now) (a .ellipsis-entries .now) (a .ellipsis-text .now) (a .bytes .now) (a .numbers .now) (a .texts .now) (truncateEnd (a .max-width) (recording (a .ellipsis .now) (a .ellipsis-entries .now) (a .ellipsis-text .now))) (x .0 .0) f refl (y .0 .0) g refl refl (endItems (m .result) (recording (a .content .now) (a .entries .now) (a .text .now)) (recording (a .ellipsis .now) (a .ellipsis-entries .now) (a .ellipsis-text .now))) (end-items (a .max-width) (recording (a .content .now) (a .entries .now) (a .text .now)) (recording (a .ellipsis .now) (a .ellipsis-entries .now) (a .ellipsis-text .now)) (m .result) (m .ensures .0)) (m .result .content + m .result .ellipsis) (n .result) (u .result) (end-data (a .content .now) (a .entries .now) (a .text .now) (a .ellipsis .now) (a .ellipsis-entries .now) (a .ellipsis-text .now) (x .0 .0) (y .0 .0) f g (a .max-width) (m .result) (m .ensures .0) (m .ensures .1 .0) (m .ensures .1 .1)) (n .ensures ∙ end-count (a .content .now) (a .entries .now) (a .text .now) (a .ellipsis .now) (a .ellipsis-entries .now) (a .ellipsis-text .now) (x .0 .0) (y .0 .0) f g (a .max-width) (m .result)) (u .ensures ∙ end-text (a .content .now) (a .entries .now) (a .text .now) (a .ellipsis .now) (a .ellipsis-entries .now) (a .ellipsis-text .now) (x .0 .0) (y .0 .0) f g (a .max-width) (m .result)) (v .result) (v .ensures) (z .1) (m .result .width) _ _ _ (c .before .before .before .before .before .before .put-end .result) (end-number (a .max-width) (recording (a .content .now) (a .entries .now) (a .text .now)) (recording (a .ellipsis .now) (a .ellipsis-entries .now) (a .ellipsis-text .now)) (m .result) (m .ensures .0)) (c .before .before .before .before .before .before .put-end .ensures)
 
 pub write-truncated-end-spec : {M : Type 1} → statement M
 write-truncated-end-spec =
