@@ -11,3 +11,5 @@ pub mod BreakLaws
 pub mod TwiceLaws
 pub mod Demand3
 pub mod PinsHold
+pub mod OutcomeLaws
+pub mod SecondLaws

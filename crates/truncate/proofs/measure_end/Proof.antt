@@ -1,0 +1,64 @@
+-- The plan is `planEnd`: its test is the one that the code makes, and each field is what its leaf promises.
+use native.Mathlib.Omega.{arith}
+use borrow.Author.Needs.{needs}
+use Rattle.truncate.proofs.PlanLaws.{end-plan-whole, end-plan-cut}
+use Rattle.truncate.proofs.measure_end.Statement.{statement}
+use Rattle.truncate.proofs.measure_end.Tie as tie
+use Rattle.truncate.proofs.measure_end.Reads as reads
+use Rattle.truncate.proofs.measure_end.Lts as lts
+use Rattle.chars.proofs.text_width.Reads as text-width-reads
+use Rattle.chars.proofs.truncate_end_pos.Reads as truncate-end-pos-reads
+use Rattle.truncate.proofs.less.Reads as less-reads
+
+-- src/lib.rt:77:9
+text-width-requires : tie.Need-text-width-requires
+text-width-requires c κs = search needs
+
+-- src/lib.rt:79:9
+returns : tie.Need-returns
+returns c =
+    let a = c .before .before .before .before .args in
+    (end-plan-whole (a .max-width) (a .content .now) (a .ellipsis .now) (c .before .text-width .result) (c .before .text-width .ensures .0) (c .if1 .taken), (omega arith, omega arith))
+
+-- src/lib.rt:86:26
+text-width-requires-2 : tie.Need-text-width-requires-2
+text-width-requires-2 c κs = search needs
+
+-- src/lib.rt:86:9
+less-requires : tie.Need-less-requires
+less-requires c κs = search needs
+
+-- src/lib.rt:87:9
+truncate-end-pos-requires : tie.Need-truncate-end-pos-requires
+truncate-end-pos-requires c κs = search needs
+
+-- src/lib.rt:88:9
+truncate-end-pos-requires-2 : tie.Need-truncate-end-pos-requires-2
+truncate-end-pos-requires-2 c κs = search needs
+
+-- src/lib.rt:93:16
+add-t12 : tie.Need-add-t12
+add-t12 c = search needs
+
+-- src/lib.rt:71:1
+returns-2 : tie.Need-returns-2
+returns-2 c =
+    let a = c .before .before .before .before .before .before .before .before .before .before .args in
+    let w = c .before .before .before .before .before .before .before .text-width in
+    let v = c .before .before .before .before .before .text-width2 in
+    let x = c .before .before .before .truncate-end-pos in
+    let y = c .before .before .truncate-end-pos2 in
+    (end-plan-cut (a .max-width) (a .content .now) (a .ellipsis .now) (w .result) (w .ensures .0) (v .result) (c .before .before .before .before .less .result) (v .ensures .0) (c .before .before .before .before .less .ensures) (c .before .before .before .before .before .before .if1 .left) (x .result .pos) (x .result .width) (y .result .pos) (y .result .width) (x .ensures .0 .0) (x .ensures .0 .1) (y .ensures .0 .0) (y .ensures .0 .1), (x .ensures .1 .0, y .ensures .1 .0))
+
+pub measure-end-spec : {M : Type 1} → statement M
+measure-end-spec =
+    tie.close
+    (tie.spec
+    text-width-requires
+    returns
+    text-width-requires-2
+    less-requires
+    truncate-end-pos-requires
+    truncate-end-pos-requires-2
+    add-t12
+    returns-2)

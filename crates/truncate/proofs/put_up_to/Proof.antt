@@ -1,0 +1,59 @@
+-- The cut is two steps of the writer, bytes and entries up to n and then the entries alone: `both` of `proofs/CutLaws.antt`.
+use native.Mathlib.Omega.{arith}
+use borrow.Author.Needs.{needs}
+use mathlib.Core.Path.{refl}
+use mathlib.Core.List.{List}
+use Rattle.recording.specs.Recording.{Item}
+use Rattle.recording.specs.Edit.{entriesOnly}
+use Rattle.writer.specs.Write.{out}
+use Rattle.writer.proofs.Steps.{ready-start}
+use Rattle.truncate.proofs.CutLaws.{edit-up-to, first-room, second-room, both}
+use Rattle.truncate.proofs.put_up_to.Statement.{statement}
+use Rattle.truncate.proofs.put_up_to.Tie as tie
+use Rattle.truncate.proofs.put_up_to.Reads as reads
+use Rattle.truncate.proofs.put_up_to.Lts as lts
+use Rattle.writer.proofs.keep.Reads as keep-reads
+use Rattle.writer.proofs.skip.Reads as skip-reads
+
+-- src/lib.rt:148:9
+keep-requires : tie.Need-keep-requires
+unfolding out
+keep-requires c κs =
+    let a = c .before .before .before .before .before .before .before .before .before .args in
+    let p = c .before .before .before .before .before .before .before .before .before .pre in
+    (ready-start _ _ _ _ refl refl (p .0), ((omega arith, p .1 .0), first-room (λ (x : List Item). x) entriesOnly _ _ _ _ _ (edit-up-to (a .n) (a .content .now) (a .entries .now) (a .text .now)) _ refl refl _ (p .1 .1)))
+
+-- src/lib.rt:149:5
+skip-requires : tie.Need-skip-requires
+unfolding out
+skip-requires c κs =
+    let a = c .before .before .before .before .before .before .before .before .before .before .before .before .before .before .before .before .before .before .before .args in
+    let p = c .before .before .before .before .before .before .before .before .before .before .before .before .before .before .before .before .before .before .before .pre in
+    let k = c .before .before .before .before .before .before .before .before .before .keep .ensures in
+    (k .1 .1 .0, ((omega (arith, k .1 .1 .1, p .1 .0), omega arith), second-room (λ (x : List Item). x) entriesOnly _ _ _ _ _ (edit-up-to (a .n) (a .content .now) (a .entries .now) (a .text .now)) _ refl refl _ (p .1 .1) _ _ (k .0) (k .1 .0) (k .1 .1 .1)))
+
+-- src/lib.rt:126:1
+same-length : tie.Need-same-length
+same-length c = search needs
+
+-- src/lib.rt:126:1
+same-length-2 : tie.Need-same-length-2
+same-length-2 c = search needs
+
+-- src/lib.rt:126:1
+same-length-3 : tie.Need-same-length-3
+same-length-3 c = search needs
+
+-- src/lib.rt:126:1
+returns : tie.Need-returns
+unfolding out
+returns c =
+    let a = c .before .before .before .before .before .before .before .before .before .before .before .before .before .before .before .before .before .before .before .before .before .before .before .before .before .before .args in
+    let p = c .before .before .before .before .before .before .before .before .before .before .before .before .before .before .before .before .before .before .before .before .before .before .before .before .before .before .pre in
+    let k = c .before .before .before .before .before .before .before .before .before .before .before .before .before .before .before .before .keep .ensures in
+    both (λ (x : List Item). x) entriesOnly _ _ _ _ _ (edit-up-to (a .n) (a .content .now) (a .entries .now) (a .text .now)) _ refl refl _ (p .1 .1) _ _ (k .0) (k .1 .0) (k .1 .1 .1) _ (c .before .before .before .before .before .before .skip .ensures .0)
+
+pub put-up-to-spec : {M : Type 1} → statement M
+put-up-to-spec =
+    tie.close
+    (tie.spec keep-requires skip-requires same-length same-length-2 same-length-3 returns)

@@ -1,0 +1,437 @@
+// The two truncating calls (document 01, module 2): a content wider than max is cut, and an ellipsis stands for what is gone.
+// Each call checks both recordings, measures, asks whether the result fits, and only then writes. No entry is dropped, also not of what is cut.
+// `bytes`, `numbers` and `texts` are the lent buffers; `content`, `entries` and `text` the recording that is cut.
+use chars::LEADS;
+use chars::text_width;
+use chars::trim_start_zero_width_chars;
+use chars::truncate_end_pos;
+use chars::truncate_start_pos;
+use recording::Answer;
+use recording::Checked;
+use recording::check;
+use writer::Cursor;
+use writer::Settled;
+use writer::keep;
+use writer::put_recording;
+use writer::settle;
+use writer::skip;
+ghost use mathlib.Core.Path.{_≡_};
+ghost use Prim.Native.Nat.{_+_, _-_, _*_, _≤_, _<_};
+ghost use lib.ListN.{length, drop};
+ghost use Rattle.chars.specs.Leads.{leadTable};
+ghost use Rattle.chars.specs.Cut.{zeroWidthLen};
+ghost use Rattle.recording.specs.Recording.{recording, items};
+ghost use Rattle.recording.specs.Edit.{edit};
+ghost use Rattle.recording.specs.Outcome.{answerOf, returned, lentAfter};
+ghost use Rattle.writer.specs.Write.{out, add, Fits, Sound, blank};
+ghost use Rattle.layout.specs.Layout.{cutEnd, cutStart, truncateEnd, truncateStart, outcome};
+ghost use Rattle.layout.specs.Lent.{lentOf, callOn};
+ghost use Rattle.truncate.specs.Plan.{planEnd, planStart, endItems, startItems, plusIf};
+
+// What a call is about to keep: whether it cuts, the places in the content and the ellipsis where it does, and the width kept.
+pub struct Plan {
+    pub cut: bool,
+    pub content: usize,
+    pub ellipsis: usize,
+    pub width: u64,
+}
+
+// a less b, not below 0.
+pub fn less(a: u64, b: u64) -> u64
+    ensures { λ r. ⌜ r ≡ a - b ⌝ }
+{
+    if a < b {
+        return 0;
+    }
+    a - b
+}
+
+// a, and b more if so.
+pub fn plus_if(more: bool, a: usize, b: usize) -> usize
+    requires { ⌜ a + b ≤ 18446744073709551615 ⌝ }
+    ensures { λ r. ⌜ r ≡ plusIf more a b ⌝ }
+{
+    if more {
+        return a + b;
+    }
+    a
+}
+
+// Where the text from `start` on begins once its leading zero-width characters are removed.
+pub fn trimmed_from(s: &[u8], start: usize) -> usize
+    requires { ⌜ start ≤ length (now s) ⌝ }
+    ensures { λ r. ⌜ r ≡ start + zeroWidthLen (drop start (now (s .entry))) ⌝ }
+    ensures { λ r. ⌜ r ≤ length (now (s .entry)) ⌝ }
+{
+    let rest = trim_start_zero_width_chars(&s[start..]);
+    s.len() - rest.len()
+}
+
+// What the end call keeps: the content up to a place and the ellipsis up to one, or all of the content and nothing of the ellipsis.
+pub fn measure_end(t: &[u16; 256], content: &[u8], ellipsis: &[u8], max_width: u32) -> Plan
+    requires { ⌜ now t ≡ leadTable ⌝ }
+    ensures { λ r. ⌜ r ≡ planEnd «max_width» (now (content .entry)) (now (ellipsis .entry)) ⌝ }
+    ensures { λ r. ⌜ (r .content ≤ length (now (content .entry))) × (r .ellipsis ≤ length (now (ellipsis .entry))) ⌝ }
+{
+    let max = max_width as u64;
+    let w = text_width(t, content);
+    if w <= max {
+        return Plan {
+            cut: false,
+            content: content.len(),
+            ellipsis: 0,
+            width: w,
+        };
+    }
+    let room = less(max, text_width(t, ellipsis));
+    let a = truncate_end_pos(t, content, room);
+    let b = truncate_end_pos(t, ellipsis, max);
+    Plan {
+        cut: true,
+        content: a.pos,
+        ellipsis: b.pos,
+        width: a.width + b.width,
+    }
+}
+
+// What the start call keeps: the ellipsis from a place on and the content from one; nothing of the ellipsis if nothing is cut.
+// Each written text loses its leading zero-width characters, also when nothing is cut.
+pub fn measure_start(t: &[u16; 256], content: &[u8], ellipsis: &[u8], max_width: u32) -> Plan
+    requires { ⌜ now t ≡ leadTable ⌝ }
+    ensures { λ r. ⌜ r ≡ planStart «max_width» (now (content .entry)) (now (ellipsis .entry)) ⌝ }
+    ensures { λ r. ⌜ (r .content ≤ length (now (content .entry))) × (r .ellipsis ≤ length (now (ellipsis .entry))) ⌝ }
+{
+    let max = max_width as u64;
+    let w = text_width(t, content);
+    if w <= max {
+        return Plan {
+            cut: false,
+            content: trimmed_from(content, 0),
+            ellipsis: ellipsis.len(),
+            width: w,
+        };
+    }
+    let e = text_width(t, ellipsis);
+    let a = truncate_start_pos(t, content, w, less(max, e));
+    let b = truncate_start_pos(t, ellipsis, e, max);
+    Plan {
+        cut: true,
+        content: trimmed_from(content, a.pos),
+        ellipsis: trimmed_from(ellipsis, b.pos),
+        width: b.width + a.width,
+    }
+}
+
+// Writes a recording at the ends up to the byte n; of the rest the entries.
+pub fn put_up_to(
+    bytes: &mut [u8],
+    numbers: &mut [u32],
+    texts: &mut [u8],
+    content: &[u8],
+    entries: &[u32],
+    text: &[u8],
+    c: Cursor,
+    n: usize,
+) -> Cursor
+    requires { ⌜ Sound (now content) (now entries) (now text) ⌝ }
+    requires { ⌜ n ≤ length (now content) ⌝ }
+    requires { ⌜ Fits (edit (cutEnd n (now content)) (items (recording (now content) (now entries) (now text)))) (out (now bytes) (now numbers) (now texts) c) ⌝ }
+    ensures { λ r. ⌜ out (now (bytes .exit)) (now (numbers .exit)) (now (texts .exit)) r ≡ add (edit (cutEnd n (now (content .entry))) (items (recording (now (content .entry)) (now (entries .entry)) (now (text .entry))))) (out (now (bytes .entry)) (now (numbers .entry)) (now (texts .entry)) c) ⌝ }
+{
+    let from = Cursor {
+        at: 0,
+        k: 0,
+        d: c.d,
+        e: c.e,
+        t: c.t,
+    };
+    let there = keep(bytes, numbers, texts, content, entries, text, from, n);
+    skip(
+        bytes,
+        numbers,
+        texts,
+        content,
+        entries,
+        text,
+        there,
+        content.len(),
+    )
+}
+
+// Writes a recording at the ends from the byte n on; of what comes before it the entries.
+pub fn put_from(
+    bytes: &mut [u8],
+    numbers: &mut [u32],
+    texts: &mut [u8],
+    content: &[u8],
+    entries: &[u32],
+    text: &[u8],
+    c: Cursor,
+    n: usize,
+) -> Cursor
+    requires { ⌜ Sound (now content) (now entries) (now text) ⌝ }
+    requires { ⌜ n ≤ length (now content) ⌝ }
+    requires { ⌜ Fits (edit (cutStart n) (items (recording (now content) (now entries) (now text)))) (out (now bytes) (now numbers) (now texts) c) ⌝ }
+    ensures { λ r. ⌜ out (now (bytes .exit)) (now (numbers .exit)) (now (texts .exit)) r ≡ add (edit (cutStart n) (items (recording (now (content .entry)) (now (entries .entry)) (now (text .entry))))) (out (now (bytes .entry)) (now (numbers .entry)) (now (texts .entry)) c) ⌝ }
+{
+    let from = Cursor {
+        at: 0,
+        k: 0,
+        d: c.d,
+        e: c.e,
+        t: c.t,
+    };
+    let there = skip(bytes, numbers, texts, content, entries, text, from, n);
+    keep(
+        bytes,
+        numbers,
+        texts,
+        content,
+        entries,
+        text,
+        there,
+        content.len(),
+    )
+}
+
+// Writes what the end call keeps: content, then ellipsis.
+pub fn put_end(
+    bytes: &mut [u8],
+    numbers: &mut [u32],
+    texts: &mut [u8],
+    content: &[u8],
+    entries: &[u32],
+    text: &[u8],
+    ellipsis: &[u8],
+    ellipsis_entries: &[u32],
+    ellipsis_text: &[u8],
+    p: Plan,
+) -> Cursor
+    requires { ⌜ Sound (now content) (now entries) (now text) ⌝ }
+    requires { ⌜ Sound (now ellipsis) (now «ellipsis_entries») (now «ellipsis_text») ⌝ }
+    requires { ⌜ (p .content ≤ length (now content)) × (p .ellipsis ≤ length (now ellipsis)) ⌝ }
+    requires { ⌜ Fits (endItems p (recording (now content) (now entries) (now text)) (recording (now ellipsis) (now «ellipsis_entries») (now «ellipsis_text»))) (blank (now bytes) (now numbers) (now texts)) ⌝ }
+    ensures { λ r. ⌜ out (now (bytes .exit)) (now (numbers .exit)) (now (texts .exit)) r ≡ add (endItems p (recording (now (content .entry)) (now (entries .entry)) (now (text .entry))) (recording (now (ellipsis .entry)) (now («ellipsis_entries» .entry)) (now («ellipsis_text» .entry)))) (blank (now (bytes .entry)) (now (numbers .entry)) (now (texts .entry))) ⌝ }
+{
+    let start = Cursor {
+        at: 0,
+        k: 0,
+        d: 0,
+        e: 0,
+        t: 0,
+    };
+    if !p.cut {
+        return put_recording(bytes, numbers, texts, content, entries, text, start);
+    }
+    let c = put_up_to(
+        bytes,
+        numbers,
+        texts,
+        content,
+        entries,
+        text,
+        start,
+        p.content,
+    );
+    put_up_to(
+        bytes,
+        numbers,
+        texts,
+        ellipsis,
+        ellipsis_entries,
+        ellipsis_text,
+        c,
+        p.ellipsis,
+    )
+}
+
+// Writes what the start call keeps: ellipsis, then content.
+pub fn put_start(
+    bytes: &mut [u8],
+    numbers: &mut [u32],
+    texts: &mut [u8],
+    content: &[u8],
+    entries: &[u32],
+    text: &[u8],
+    ellipsis: &[u8],
+    ellipsis_entries: &[u32],
+    ellipsis_text: &[u8],
+    p: Plan,
+) -> Cursor
+    requires { ⌜ Sound (now content) (now entries) (now text) ⌝ }
+    requires { ⌜ Sound (now ellipsis) (now «ellipsis_entries») (now «ellipsis_text») ⌝ }
+    requires { ⌜ (p .content ≤ length (now content)) × (p .ellipsis ≤ length (now ellipsis)) ⌝ }
+    requires { ⌜ Fits (startItems p (recording (now content) (now entries) (now text)) (recording (now ellipsis) (now «ellipsis_entries») (now «ellipsis_text»))) (blank (now bytes) (now numbers) (now texts)) ⌝ }
+    ensures { λ r. ⌜ out (now (bytes .exit)) (now (numbers .exit)) (now (texts .exit)) r ≡ add (startItems p (recording (now (content .entry)) (now (entries .entry)) (now (text .entry))) (recording (now (ellipsis .entry)) (now («ellipsis_entries» .entry)) (now («ellipsis_text» .entry)))) (blank (now (bytes .entry)) (now (numbers .entry)) (now (texts .entry))) ⌝ }
+{
+    let start = Cursor {
+        at: 0,
+        k: 0,
+        d: 0,
+        e: 0,
+        t: 0,
+    };
+    if !p.cut {
+        return put_from(
+            bytes,
+            numbers,
+            texts,
+            content,
+            entries,
+            text,
+            start,
+            p.content,
+        );
+    }
+    let c = put_from(
+        bytes,
+        numbers,
+        texts,
+        ellipsis,
+        ellipsis_entries,
+        ellipsis_text,
+        start,
+        p.ellipsis,
+    );
+    put_from(bytes, numbers, texts, content, entries, text, c, p.content)
+}
+
+// Cuts a content wider than max_width at its end and writes the ellipsis after it. The number is the width kept.
+pub fn write_truncated_end(
+    content: &[u8],
+    entries: &[u32],
+    text: &[u8],
+    ellipsis: &[u8],
+    ellipsis_entries: &[u32],
+    ellipsis_text: &[u8],
+    max_width: u32,
+    bytes: &mut [u8],
+    numbers: &mut [u32],
+    texts: &mut [u8],
+) -> Answer
+    ensures { λ r. ⌜ answerOf r ≡ returned (outcome (callOn (truncateEnd «max_width» (recording (now (ellipsis .entry)) (now («ellipsis_entries» .entry)) (now («ellipsis_text» .entry)))) (now (bytes .entry)) (now (numbers .entry)) (now (texts .entry))) (recording (now (content .entry)) (now (entries .entry)) (now (text .entry)))) ⌝ }
+    ensures { λ r. ⌜ now (bytes .exit) ≡ lentAfter (outcome (callOn (truncateEnd «max_width» (recording (now (ellipsis .entry)) (now («ellipsis_entries» .entry)) (now («ellipsis_text» .entry)))) (now (bytes .entry)) (now (numbers .entry)) (now (texts .entry))) (recording (now (content .entry)) (now (entries .entry)) (now (text .entry)))) (lentOf (now (bytes .entry)) (now (numbers .entry)) (now (texts .entry))) .dataBytes ⌝ }
+    ensures { λ r. ⌜ now (numbers .exit) ≡ lentAfter (outcome (callOn (truncateEnd «max_width» (recording (now (ellipsis .entry)) (now («ellipsis_entries» .entry)) (now («ellipsis_text» .entry)))) (now (bytes .entry)) (now (numbers .entry)) (now (texts .entry))) (recording (now (content .entry)) (now (entries .entry)) (now (text .entry)))) (lentOf (now (bytes .entry)) (now (numbers .entry)) (now (texts .entry))) .entryNumbers ⌝ }
+    ensures { λ r. ⌜ now (texts .exit) ≡ lentAfter (outcome (callOn (truncateEnd «max_width» (recording (now (ellipsis .entry)) (now («ellipsis_entries» .entry)) (now («ellipsis_text» .entry)))) (now (bytes .entry)) (now (numbers .entry)) (now (texts .entry))) (recording (now (content .entry)) (now (entries .entry)) (now (text .entry)))) (lentOf (now (bytes .entry)) (now (numbers .entry)) (now (texts .entry))) .text ⌝ }
+{
+    let t = LEADS;
+    let checked = check(&t, content, entries, text);
+    let size = match checked {
+        Checked::Refused(f) => {
+            return Answer::Refused(f);
+        }
+        Checked::Fine(n) => n,
+    };
+    let second = check(&t, ellipsis, ellipsis_entries, ellipsis_text);
+    let more = match second {
+        Checked::Refused(f) => {
+            return Answer::Refused(f);
+        }
+        Checked::Fine(n) => n,
+    };
+    let p = measure_end(&t, content, ellipsis, max_width);
+    let verdict = settle(
+        p.content + p.ellipsis,
+        plus_if(p.cut, entries.len(), ellipsis_entries.len()),
+        plus_if(p.cut, size, more),
+        0,
+        bytes.len(),
+        numbers.len(),
+        texts.len(),
+        0,
+    );
+    match verdict {
+        Settled::Refused(f) => {
+            return Answer::Refused(f);
+        }
+        Settled::Room => {}
+    }
+    let c = put_end(
+        bytes,
+        numbers,
+        texts,
+        content,
+        entries,
+        text,
+        ellipsis,
+        ellipsis_entries,
+        ellipsis_text,
+        p,
+    );
+    Answer::Done {
+        data: c.d,
+        entries: c.e,
+        text: c.t,
+        number: p.width,
+    }
+}
+
+// Cuts a content wider than max_width at its start and writes the ellipsis before it. The number is the width kept.
+pub fn write_truncated_start(
+    content: &[u8],
+    entries: &[u32],
+    text: &[u8],
+    ellipsis: &[u8],
+    ellipsis_entries: &[u32],
+    ellipsis_text: &[u8],
+    max_width: u32,
+    bytes: &mut [u8],
+    numbers: &mut [u32],
+    texts: &mut [u8],
+) -> Answer
+    ensures { λ r. ⌜ answerOf r ≡ returned (outcome (callOn (truncateStart «max_width» (recording (now (ellipsis .entry)) (now («ellipsis_entries» .entry)) (now («ellipsis_text» .entry)))) (now (bytes .entry)) (now (numbers .entry)) (now (texts .entry))) (recording (now (content .entry)) (now (entries .entry)) (now (text .entry)))) ⌝ }
+    ensures { λ r. ⌜ now (bytes .exit) ≡ lentAfter (outcome (callOn (truncateStart «max_width» (recording (now (ellipsis .entry)) (now («ellipsis_entries» .entry)) (now («ellipsis_text» .entry)))) (now (bytes .entry)) (now (numbers .entry)) (now (texts .entry))) (recording (now (content .entry)) (now (entries .entry)) (now (text .entry)))) (lentOf (now (bytes .entry)) (now (numbers .entry)) (now (texts .entry))) .dataBytes ⌝ }
+    ensures { λ r. ⌜ now (numbers .exit) ≡ lentAfter (outcome (callOn (truncateStart «max_width» (recording (now (ellipsis .entry)) (now («ellipsis_entries» .entry)) (now («ellipsis_text» .entry)))) (now (bytes .entry)) (now (numbers .entry)) (now (texts .entry))) (recording (now (content .entry)) (now (entries .entry)) (now (text .entry)))) (lentOf (now (bytes .entry)) (now (numbers .entry)) (now (texts .entry))) .entryNumbers ⌝ }
+    ensures { λ r. ⌜ now (texts .exit) ≡ lentAfter (outcome (callOn (truncateStart «max_width» (recording (now (ellipsis .entry)) (now («ellipsis_entries» .entry)) (now («ellipsis_text» .entry)))) (now (bytes .entry)) (now (numbers .entry)) (now (texts .entry))) (recording (now (content .entry)) (now (entries .entry)) (now (text .entry)))) (lentOf (now (bytes .entry)) (now (numbers .entry)) (now (texts .entry))) .text ⌝ }
+{
+    let t = LEADS;
+    let checked = check(&t, content, entries, text);
+    let size = match checked {
+        Checked::Refused(f) => {
+            return Answer::Refused(f);
+        }
+        Checked::Fine(n) => n,
+    };
+    let second = check(&t, ellipsis, ellipsis_entries, ellipsis_text);
+    let more = match second {
+        Checked::Refused(f) => {
+            return Answer::Refused(f);
+        }
+        Checked::Fine(n) => n,
+    };
+    let p = measure_start(&t, content, ellipsis, max_width);
+    let verdict = settle(
+        (content.len() - p.content) + (ellipsis.len() - p.ellipsis),
+        plus_if(p.cut, entries.len(), ellipsis_entries.len()),
+        plus_if(p.cut, size, more),
+        0,
+        bytes.len(),
+        numbers.len(),
+        texts.len(),
+        0,
+    );
+    match verdict {
+        Settled::Refused(f) => {
+            return Answer::Refused(f);
+        }
+        Settled::Room => {}
+    }
+    let c = put_start(
+        bytes,
+        numbers,
+        texts,
+        content,
+        entries,
+        text,
+        ellipsis,
+        ellipsis_entries,
+        ellipsis_text,
+        p,
+    );
+    Answer::Done {
+        data: c.d,
+        entries: c.e,
+        text: c.t,
+        number: p.width,
+    }
+}
