@@ -12,3 +12,4 @@ pub mod TwiceLaws
 pub mod Demand3
 pub mod PinsHold
 pub mod OutcomeLaws
+pub mod SecondLaws

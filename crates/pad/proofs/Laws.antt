@@ -4,15 +4,15 @@ use mathlib.Core.List.{List, [], _∷_, _++_, append-assoc, append-nil}
 use Prim.Native.Nat.{ℕ, zero, suc, _+_, _-_, _*_, _≤_, _<_}
 use native.Mathlib.Numerals.{add-one}
 use native.Mathlib.Omega.{arith}
-use lib.ListN.{length, take, drop, set, length-append}
-use lib.Seq.{sets-eq, drop-drop}
-use Rattle.buffer.specs.Place.{over, overAt}
+use lib.ListN.{length, take, drop, set, getD, length-append}
+use lib.Seq.{sets-eq, drop-drop, drop-cons}
+use Rattle.buffer.specs.Place.{overAt, part}
 use Rattle.recording.specs.Recording.{Item, byteItems}
 use Rattle.recording.proofs.ItemsLaws.{bytes-append}
 use Rattle.writer.proofs.Laws.{over-twice}
 use Rattle.writer.proofs.Carry.{over-none}
 use Rattle.layout.specs.Layout.{copies}
-use Rattle.pad.specs.Padding.{repeated}
+use Rattle.pad.specs.Padding.{repeated, onceIf}
 
 -- ── one copy more
 repeated-snoc : (n : ℕ) (p : List ℕ) → repeated n p ++ p ≡ repeated (suc n) p
@@ -61,8 +61,32 @@ store-next at i b l old e h m =
     one-store l (at + i) b m ∙ ap (λ (x : List ℕ). overAt (at + i) (b ∷ []) x) e
     ∙ ap (λ (n : ℕ). overAt (at + n) (b ∷ []) (overAt at (repeated i (b ∷ [])) old)) (sym (length-single i b)) ∙ repeated-next at i (b ∷ []) old h
 
+-- ── a piece of no byte, and one of a single byte
+pub piece-none : (a b n at : ℕ) (s old : List ℕ) → a ≡ b → (at ≡ at + length (repeated n (part a b s))) × (old ≡ overAt at (repeated n (part a b s)) old)
+piece-none a b n at s old h =
+    let z : b - a ≡ 0 = omega arith in
+    let e : repeated n (part a b s) ≡ [] = ap (λ (m : ℕ). repeated n (take m (drop a s))) z ∙ repeated-none n in
+    rw e (omega arith, sym (over-none at old))
+
+pub piece-one : (a b : ℕ) (s : List ℕ) → a + 1 ≡ b → b ≤ length s → part a b s ≡ getD s a 0 ∷ []
+piece-one a b s h l =
+    let z : b - a ≡ 1 = omega arith in
+    let m : a < length s = omega arith in
+    ap (λ (k : ℕ). take k (drop a s)) z ∙ rw (drop-cons s a 0 m)
+
 -- ── the copies as items
 pub copies-bytes : (n : ℕ) (p : List ℕ) → copies n p ≡ byteItems (repeated n p)
 unfolding repeated
 copies-bytes zero p = refl
 copies-bytes (suc n) p = ap (λ (l : List Item). byteItems p ++ l) (copies-bytes n p) ∙ sym (bytes-append p (repeated n p))
+
+-- ── once a side
+pub once-none : (n x : ℕ) → n ≡ 0 → 0 ≡ onceIf n x
+unfolding onceIf
+once-none zero x h = refl
+once-none (suc n) x h = absurd (omega arith)
+
+pub once-more : (n x : ℕ) → 0 < n → x ≡ onceIf n x
+unfolding onceIf
+once-more zero x h = absurd (omega arith)
+once-more (suc n) x h = refl

@@ -1,10 +1,10 @@
--- Padding as the code does it: the bytes of a piece n times over, what is written once a side, and both sides at once.
-use Prim.Native.Nat.{ℕ, zero, suc}
+-- Padding as the code does it: the bytes of a piece n times over, what is written once a side, and the three calls as one with a side.
+use Prim.Native.Nat.{ℕ, zero, suc, _/_}
 use mathlib.Core.List.{List, [], _++_}
-use Rattle.recording.specs.Recording.{Recording, Item, items, encode}
-use Rattle.recording.specs.Refusals.{recordingFault}
-use Rattle.recording.specs.Outcome.{Room, Outcome, settle}
-use Rattle.layout.specs.Layout.{padding}
+use Rattle.recording.specs.Recording.{Recording, Item}
+use Rattle.layout.specs.Layout.{padding, Job, padStart, padEnd, padCentered}
+use Rattle.pad.specs.declared.Side.{Side}
+use Rattle.pad.specs.declared.Side.the-variants.{Start, End, Centered}
 
 -- the bytes of a piece, n times
 unfoldable pub repeated : ℕ → List ℕ → List ℕ
@@ -20,8 +20,14 @@ onceIf (suc n) x = x
 unfoldable pub sides : ℕ → ℕ → List Item → List Item → List Item
 sides l r f is = padding l f ++ (is ++ padding r f)
 
--- the outcome of padding with l times the fill before the content c and r times behind it
-unfoldable pub paddedOutcome : ℕ → ℕ → Recording → Room → Recording → Outcome
-paddedOutcome l r f o c =
-    settle (record { lengths = 0; content = recordingFault c; second = recordingFault f; added = 0; plain = 0; records = 0 }) o
-    (record { recording = encode (sides l r (items f) (items c)); lines = []; number = 0 })
+-- how many of n times come before the content
+unfoldable pub leftOf : Side → ℕ → ℕ
+leftOf Start n = n
+leftOf End n = 0
+leftOf Centered n = n / 2
+
+-- the call
+unfoldable pub jobOf : Side → ℕ → Recording → Job
+jobOf Start m f = padStart m f
+jobOf End m f = padEnd m f
+jobOf Centered m f = padCentered m f

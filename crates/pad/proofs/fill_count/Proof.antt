@@ -1,0 +1,26 @@
+use native.Mathlib.Omega.{arith}
+use borrow.Author.Needs.{needs}
+use Rattle.pad.proofs.fill_count.Statement.{statement}
+use Rattle.pad.proofs.fill_count.Tie as tie
+use Rattle.pad.proofs.fill_count.Reads as reads
+use Rattle.pad.proofs.fill_count.Lts as lts
+use Rattle.chars.proofs.text_width.Reads as text-width-reads
+
+-- src/lib.rt:138:9
+text-width-requires : tie.Need-text-width-requires
+text-width-requires c κs = search needs
+
+-- src/lib.rt:141:9
+returns : tie.Need-returns
+returns c = ?
+
+-- src/lib.rt:143:6
+sub-result : tie.Need-sub-result
+sub-result c = search needs
+
+-- src/lib.rt:133:1
+returns-2 : tie.Need-returns-2
+returns-2 c = ?
+
+pub fill-count-spec : {M : Type 1} → statement M
+fill-count-spec = tie.close (tie.spec text-width-requires returns sub-result returns-2)
