@@ -1,5 +1,7 @@
 use native.Mathlib.Omega.{arith}
 use borrow.Author.Needs.{needs}
+use mathlib.Core.Path.{_≡_, refl, sym, ap, _∙_}
+use Rattle.layout.specs.Layout.{fillCount}
 use Rattle.pad.proofs.fill_count.Statement.{statement}
 use Rattle.pad.proofs.fill_count.Tie as tie
 use Rattle.pad.proofs.fill_count.Reads as reads
@@ -12,7 +14,9 @@ text-width-requires c κs = search needs
 
 -- src/lib.rt:141:9
 returns : tie.Need-returns
-returns c = ?
+unfolding fillCount
+returns c =
+    (omega (arith, c .before .text-width .ensures .0, c .if1 .taken), omega arith)
 
 -- src/lib.rt:143:6
 sub-result : tie.Need-sub-result
@@ -20,7 +24,9 @@ sub-result c = search needs
 
 -- src/lib.rt:133:1
 returns-2 : tie.Need-returns-2
-returns-2 c = ?
+unfolding fillCount
+returns-2 c =
+    (omega (arith, c .before .text-width .ensures .0, c .if1 .left), omega (arith, c .before .before .before .fits))
 
 pub fill-count-spec : {M : Type 1} → statement M
 fill-count-spec = tie.close (tie.spec text-width-requires returns sub-result returns-2)

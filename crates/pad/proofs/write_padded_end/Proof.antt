@@ -1,5 +1,6 @@
 use native.Mathlib.Omega.{arith}
 use borrow.Author.Needs.{needs}
+use Rattle.pad.specs.Padding.{jobOf}
 use Rattle.pad.proofs.write_padded_end.Statement.{statement}
 use Rattle.pad.proofs.write_padded_end.Tie as tie
 use Rattle.pad.proofs.write_padded_end.Reads as reads
@@ -24,7 +25,9 @@ same-length-3 c = search needs
 
 -- src/lib.rt:305:1
 returns : tie.Need-returns
-returns c = ?
+unfolding jobOf
+returns c =
+    c .before .before .before .before .before .before .write-padded .ensures
 
 pub write-padded-end-spec : {M : Type 1} → statement M
 write-padded-end-spec =
