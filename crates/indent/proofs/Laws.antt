@@ -7,7 +7,7 @@ use native.Mathlib.Nat.{zero-mul, one-mul, add-mul}
 use native.Mathlib.Numerals.{add-one}
 use native.Mathlib.Omega.{arith}
 use lib.Dec.{eqb}
-use lib.ListN.{length, drop, getD}
+use lib.ListN.{length, drop, getD, drop-of-length-le}
 use lib.Seq.{drop-cons}
 use Rattle.recording.specs.Recording.{Item, byte, push, pop, raw}
 use Rattle.recording.specs.Edit.{Op, keep, skip, put, front, back, edit}
@@ -106,3 +106,38 @@ module _ (size : List Item → ℕ) (size-append : (a b : List Item) → size (a
           let x : List Item = edit (keep 1 ∷ indentOps p (eqb b 0x0A) bs) (back 0 is) in
           omega (arith, size-append (front 0 is) (p ++ x), size-append p x, split 0 is, kept f (back 0 is), add-mul 1 n (size p), one-mul (size p))
       go false f = kept f is ∙ ap (λ (k : ℕ). size is + k * size p) (omega arith)
+
+-- ── one byte of a pass over the data
+module _ (start : Bool) (at : ℕ) (d : List ℕ) (more : at < length d) where
+  pub filled-next : filledLines start (drop at d) ≡ firstByte start (getD d at 0) + filledLines (eqb (getD d at 0) 0x0A) (drop (at + 1) d)
+  unfolding filledLines
+  filled-next = rw (add-one, drop-cons d at 0 more)
+
+  next-is : toNext start (drop at d) ≡ cond (start && not (eqb (getD d at 0) 0x0A)) 0 (suc (toNext (eqb (getD d at 0) 0x0A) (drop (at + 1) d)))
+  unfolding toNext
+  next-is = rw (add-one, drop-cons d at 0 more)
+
+  pub next-here : firstByte start (getD d at 0) ≡ 1 → toNext start (drop at d) ≡ 0
+  unfolding firstByte
+  next-here h = next-is ∙ go (start && not (eqb (getD d at 0) 0x0A)) h
+    where
+      go : (t : Bool) → _≡_ {A = ℕ} (cond t 1 0) 1 → cond t 0 (suc (toNext (eqb (getD d at 0) 0x0A) (drop (at + 1) d))) ≡ 0
+      go true e = refl
+      go false e = absurd (omega (arith, e))
+
+  pub next-later : (firstByte start (getD d at 0) ≡ 1 → ⊥) → toNext start (drop at d) ≡ suc (toNext (eqb (getD d at 0) 0x0A) (drop (at + 1) d))
+  unfolding firstByte
+  next-later h = next-is ∙ go (start && not (eqb (getD d at 0) 0x0A)) h
+    where
+      go : (t : Bool) → (_≡_ {A = ℕ} (cond t 1 0) 1 → ⊥) → cond t 0 (suc (toNext (eqb (getD d at 0) 0x0A) (drop (at + 1) d))) ≡ suc (toNext (eqb (getD d at 0) 0x0A) (drop (at + 1) d))
+      go true e = absurd (e refl)
+      go false e = refl
+
+module _ (start : Bool) (at : ℕ) (d : List ℕ) (past : length d ≤ at) where
+  pub filled-end : filledLines start (drop at d) ≡ 0
+  unfolding filledLines
+  filled-end = rw (drop-of-length-le d {i = at} past)
+
+  pub next-end : toNext start (drop at d) ≡ 0
+  unfolding toNext
+  next-end = rw (drop-of-length-le d {i = at} past)
