@@ -141,3 +141,7 @@ module _ (start : Bool) (at : ℕ) (d : List ℕ) (past : length d ≤ at) where
   pub next-end : toNext start (drop at d) ≡ 0
   unfolding toNext
   next-end = rw (drop-of-length-le d {i = at} past)
+
+-- a byte that has its prefix is passed
+pub next-past : (at : ℕ) (d : List ℕ) → at < length d → 0 < toNext false (drop at d)
+next-past at d more = omega (arith, next-is false at d more)
