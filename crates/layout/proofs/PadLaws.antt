@@ -89,7 +89,7 @@ repeat-piece n q (push l ∷ is) h = rw (repeat-none n is h)
 repeat-piece n q (pop ∷ is) h = rw (repeat-none n is h)
 repeat-piece n q (raw t ∷ is) h = rw (repeat-none n is h)
 
-repeat-bytes : (n : ℕ) (q d : Bytes) (is : List Item) → repeatPieces n q (byteItems d ++ is) ≡ repeatPieces n (q ++ d) is
+pub repeat-bytes : (n : ℕ) (q d : Bytes) (is : List Item) → repeatPieces n q (byteItems d ++ is) ≡ repeatPieces n (q ++ d) is
 repeat-bytes n q [] is = rw (append-nil q)
 repeat-bytes n q (b ∷ d) is = repeat-bytes n (q ++ (b ∷ [])) d is ∙ ap (λ (l : Bytes). repeatPieces n l is) (append-assoc q (b ∷ []) d)
 

@@ -69,7 +69,7 @@ text-written at text old e b =
     ap (λ (n : ℕ). overAt at (take n (drop (e .start) text)) old) h ∙ ap (λ (x : List ℕ). overAt at x old) (sym (text-of-entry text e b))
 
 -- ── items put at the ends
-over-twice : (at : ℕ) (a b old : List ℕ) → at ≤ length old → overAt (at + length a) b (overAt at a old) ≡ overAt at (a ++ b) old
+pub over-twice : (at : ℕ) (a b old : List ℕ) → at ≤ length old → overAt (at + length a) b (overAt at a old) ≡ overAt at (a ++ b) old
 unfolding overAt
 over-twice at a b old h =
     let l : length (take at old) ≡ at = length-take-le at old h in

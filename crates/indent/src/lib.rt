@@ -1,0 +1,171 @@
+// Indenting: `write_indented` (document 01, module 3), the prefix, a recording, before every line that is not empty.
+// It has one equation: answer and buffers are those of `outcome` (layout) for the job `indent`.
+// `bytes`, `numbers` and `texts` are the lent buffers; `content`, `entries` and `text` the recording that is indented.
+use chars::LEADS;
+use recording::Answer;
+use recording::Checked;
+use recording::check;
+use writer::Cursor;
+use writer::Settled;
+use writer::keep;
+use writer::put_recording;
+use writer::settle;
+ghost use mathlib.Core.Path.{_≡_};
+ghost use mathlib.Core.Bool.{true, false};
+ghost use Prim.Native.Nat.{_+_, _-_, _*_, _≤_, _<_};
+ghost use lib.ListN.{length, drop};
+ghost use Rattle.recording.specs.Recording.{recording, items};
+ghost use Rattle.recording.specs.Edit.{edit};
+ghost use Rattle.recording.specs.Outcome.{answerOf, returned, lentAfter};
+ghost use Rattle.writer.specs.Write.{out, add, blank, Fits, Sound};
+ghost use Rattle.layout.specs.Layout.{indentOps, indent, outcome};
+ghost use Rattle.layout.specs.Lent.{lentOf, callOn};
+ghost use Rattle.indent.specs.Lines.{firstByte, filledLines, toNext};
+
+// 1 if b is the first byte of a line that is not empty, else 0; `start`: a line starts at b.
+fn first_byte(start: bool, b: u8) -> usize
+    ensures { λ r. ⌜ (r ≡ firstByte start b) × (r ≤ 1) ⌝ }
+{
+    if !start {
+        return 0;
+    }
+    if b == 10 {
+        return 0;
+    }
+    1
+}
+
+// How many lines are not empty.
+fn filled_lines(content: &[u8]) -> usize
+    ensures { λ r. ⌜ (r ≡ filledLines true (now (content .entry))) × (r ≤ length (now (content .entry))) ⌝ }
+{
+    let mut n = 0;
+    let mut at = 0;
+    let mut start = true;
+    while at < content.len() {
+        let b = content[at];
+        n += first_byte(start, b);
+        start = b == 10;
+        at += 1;
+    }
+    n
+}
+
+// The next place at which a line that is not empty starts, the data's end if there is none.
+fn next_line(content: &[u8], from: usize, at_start: bool) -> usize
+    requires { ⌜ from ≤ length (now content) ⌝ }
+    ensures { λ r. ⌜ r ≡ from + toNext «at_start» (drop from (now (content .entry))) ⌝ }
+    ensures { λ r. ⌜ (from ≤ r) × (r ≤ length (now (content .entry))) ⌝ }
+{
+    let mut at = from;
+    let mut start = at_start;
+    while at < content.len() {
+        let b = content[at];
+        if first_byte(start, b) == 1 {
+            return at;
+        }
+        start = b == 10;
+        at += 1;
+    }
+    at
+}
+
+// Writes the content with the prefix before every line that is not empty. The entries at a line's first byte come before the prefix, which stands under that byte's labels.
+fn put_indented(
+    bytes: &mut [u8],
+    numbers: &mut [u32],
+    texts: &mut [u8],
+    content: &[u8],
+    entries: &[u32],
+    text: &[u8],
+    prefix: &[u8],
+    prefix_entries: &[u32],
+    prefix_text: &[u8],
+) -> Cursor
+    requires { ⌜ Sound (now content) (now entries) (now text) × Sound (now prefix) (now «prefix_entries») (now «prefix_text») ⌝ }
+    requires { ⌜ Fits (edit (indentOps (items (recording (now prefix) (now «prefix_entries») (now «prefix_text»))) true (now content)) (items (recording (now content) (now entries) (now text)))) (blank (now bytes) (now numbers) (now texts)) ⌝ }
+    ensures { λ r. ⌜ out (now (bytes .exit)) (now (numbers .exit)) (now (texts .exit)) r ≡ add (edit (indentOps (items (recording (now (prefix .entry)) (now («prefix_entries» .entry)) (now («prefix_text» .entry)))) true (now (content .entry))) (items (recording (now (content .entry)) (now (entries .entry)) (now (text .entry))))) (blank (now (bytes .entry)) (now (numbers .entry)) (now (texts .entry))) ⌝ }
+{
+    let mut c = Cursor {
+        at: 0,
+        k: 0,
+        d: 0,
+        e: 0,
+        t: 0,
+    };
+    let mut p = next_line(content, 0, true);
+    while p < content.len() {
+        c = keep(bytes, numbers, texts, content, entries, text, c, p);
+        c = put_recording(bytes, numbers, texts, prefix, prefix_entries, prefix_text, c);
+        p = next_line(content, p, false);
+    }
+    keep(bytes, numbers, texts, content, entries, text, c, content.len())
+}
+
+// Writes the content with the prefix before every line that is not empty. The sizes come first, as exact products.
+pub fn write_indented(
+    content: &[u8],
+    entries: &[u32],
+    text: &[u8],
+    prefix: &[u8],
+    prefix_entries: &[u32],
+    prefix_text: &[u8],
+    bytes: &mut [u8],
+    numbers: &mut [u32],
+    texts: &mut [u8],
+) -> Answer
+    ensures { λ r. ⌜ answerOf r ≡ returned (outcome (callOn (indent (recording (now (prefix .entry)) (now («prefix_entries» .entry)) (now («prefix_text» .entry)))) (now (bytes .entry)) (now (numbers .entry)) (now (texts .entry))) (recording (now (content .entry)) (now (entries .entry)) (now (text .entry)))) ⌝ }
+    ensures { λ r. ⌜ now (bytes .exit) ≡ lentAfter (outcome (callOn (indent (recording (now (prefix .entry)) (now («prefix_entries» .entry)) (now («prefix_text» .entry)))) (now (bytes .entry)) (now (numbers .entry)) (now (texts .entry))) (recording (now (content .entry)) (now (entries .entry)) (now (text .entry)))) (lentOf (now (bytes .entry)) (now (numbers .entry)) (now (texts .entry))) .dataBytes ⌝ }
+    ensures { λ r. ⌜ now (numbers .exit) ≡ lentAfter (outcome (callOn (indent (recording (now (prefix .entry)) (now («prefix_entries» .entry)) (now («prefix_text» .entry)))) (now (bytes .entry)) (now (numbers .entry)) (now (texts .entry))) (recording (now (content .entry)) (now (entries .entry)) (now (text .entry)))) (lentOf (now (bytes .entry)) (now (numbers .entry)) (now (texts .entry))) .entryNumbers ⌝ }
+    ensures { λ r. ⌜ now (texts .exit) ≡ lentAfter (outcome (callOn (indent (recording (now (prefix .entry)) (now («prefix_entries» .entry)) (now («prefix_text» .entry)))) (now (bytes .entry)) (now (numbers .entry)) (now (texts .entry))) (recording (now (content .entry)) (now (entries .entry)) (now (text .entry)))) (lentOf (now (bytes .entry)) (now (numbers .entry)) (now (texts .entry))) .text ⌝ }
+{
+    let t = LEADS;
+    let checked = check(&t, content, entries, text);
+    let size = match checked {
+        Checked::Refused(f) => {
+            return Answer::Refused(f);
+        }
+        Checked::Fine(n) => n,
+    };
+    let second = check(&t, prefix, prefix_entries, prefix_text);
+    let prefix_size = match second {
+        Checked::Refused(f) => {
+            return Answer::Refused(f);
+        }
+        Checked::Fine(n) => n,
+    };
+    let count = filled_lines(content);
+    let verdict = settle(
+        content.len() + count * prefix.len(),
+        entries.len() + count * prefix_entries.len(),
+        size + count * prefix_size,
+        0,
+        bytes.len(),
+        numbers.len(),
+        texts.len(),
+        0,
+    );
+    match verdict {
+        Settled::Refused(f) => {
+            return Answer::Refused(f);
+        }
+        Settled::Room => {}
+    }
+    let c = put_indented(
+        bytes,
+        numbers,
+        texts,
+        content,
+        entries,
+        text,
+        prefix,
+        prefix_entries,
+        prefix_text,
+    );
+    Answer::Done {
+        data: c.d,
+        entries: c.e,
+        text: c.t,
+        number: 0,
+    }
+}
