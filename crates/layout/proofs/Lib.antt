@@ -8,3 +8,4 @@ pub mod ByteWordLaws
 pub mod BreakLaws
 pub mod TwiceLaws
 pub mod Demand3
+pub mod WordingLaws
