@@ -247,6 +247,39 @@ in-line (x ∷ d) h = go (eqb x 0x0A) h
     go true k = absurd (false≢true k)
     go false k = omega arith
 
+-- ── the search for a cut: i bytes of the word are read, and `left` is left of the limit
+pub record Search (word : List ℕ) (limit i left : ℕ) : Type 0 where
+  pub within : i ≤ length (wordText word)
+  pub left-within : left ≤ limit
+  -- what is read, and what is still kept of the rest, is the longest head
+  pub place : i + truncateEndPos left (drop i (wordText word)) ≡ truncateEndPos limit (wordText word)
+  pub width : (limit - left) + truncateEndWidth left (drop i (wordText word)) ≡ truncateEndWidth limit (wordText word)
+  pub small : limit - left ≤ 2 * i
+
+pub search-start : (word : List ℕ) (limit : ℕ) → Search word limit 0 limit
+search-start word limit = record { within = omega arith; left-within = omega arith; place = omega arith; width = omega arith; small = omega arith }
+
+module _ (word : List ℕ) (limit i left : ℕ) (S : Search word limit i left) (g : Seen) (e : g ≡ seenOf (chars (drop i (wordText word)))) where
+  -- one more character in the head
+  pub search-more : g .len ≢ 0 → g .width ≤ left → g .width ≤ 2 → i + g .len ≤ length (wordText word) → Search word limit (i + g .len) (left - g .width)
+  search-more z h two n =
+      let k = kept-more (wordText word) i g e z left h in
+      record {
+        within = n;
+        left-within = omega (arith, S .left-within);
+        place = omega (arith, k .0, S .place);
+        width = omega (arith, k .1, S .width, S .left-within);
+        small = omega (arith, S .small, S .left-within, z);
+      }
+
+  -- the word ends
+  pub search-end : g .len ≡ 0 → (i ≡ truncateEndPos limit (wordText word)) × (limit - left ≡ truncateEndWidth limit (wordText word))
+  search-end z = let k = kept-end (wordText word) i g e z left in (omega (arith, k .0, S .place), omega (arith, k .1, S .width))
+
+  -- the character would pass the width
+  pub search-pass : g .len ≢ 0 → left < g .width → (i ≡ truncateEndPos limit (wordText word)) × (limit - left ≡ truncateEndWidth limit (wordText word))
+  search-pass z h = let k = kept-pass (wordText word) i g e z left h in (omega (arith, k .0, S .place), omega (arith, k .1, S .width))
+
 -- ── a line under way: `word` is left of the data d from `here` on; the line began at `at` and its last word ends at `stop`; `run` is used
 pub record State (d : List ℕ) (at w : ℕ) (b : Bool) (word : List ℕ) (here stop run : ℕ) (first : Bool) : Type 0 where
   pub is : word ≡ drop here d
