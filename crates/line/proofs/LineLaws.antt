@@ -334,7 +334,7 @@ module _ (d : List ℕ) (at w : ℕ) (b : Bool) (word : List ℕ) (here stop run
 
 -- what `next_line` promises of its answer
 abbrev pub Promise : List ℕ → ℕ → ℕ → Bool → Next → Type 0
-Promise d at w b r = (restLines w b at (drop at d) ≡ lineOf at (r .end) ∷ following w b d r) × ((at ≤ r .end) × (r .end ≤ length d) × (r .next ≤ length d) × (r .more ≡ true → at < r .next))
+Promise d at w b r = (restLines w b at (drop at d) ≡ lineOf at (r .end) ∷ following w b d r) × ((at ≤ r .end) × (r .end ≤ length d) × (r .next ≤ length d) × (r .more ≡ true → (at < r .next) × (r .end ≤ r .next)))
 
 -- the line of the data ends here
 pub state-end : (d : List ℕ) (at w : ℕ) (b : Bool) (word : List ℕ) (here stop run : ℕ) (first : Bool) → State d at w b word here stop run first → inLine word ≡ false → Promise d at w b (afterLine stop here word)
@@ -347,7 +347,7 @@ state-end d at w b (x ∷ word) here stop run first S i = go (eqb x 0x0A) refl i
     go true e k =
         let r : drop (here + 1) d ≡ word = sym (drop-drop 1 here d) ∙ rw (← S .is) in
         let l : here + 1 ≤ length d = omega (arith, ap length (S .is), length-drop here d) in
-        (S .lines ∙ rw r (going-line w b first at stop here run x word (eqb-true x 0x0A e)), (S .low, omega (arith, S .high, S .within), l, λ e. omega (arith, S .past)))
+        (S .lines ∙ rw r (going-line w b first at stop here run x word (eqb-true x 0x0A e)), (S .low, omega (arith, S .high, S .within), l, λ e. (omega (arith, S .past), omega (arith, S .high))))
 
 after-in : (end here : ℕ) (s : List ℕ) → inLine s ≡ true → afterLine end here s ≡ record { end = end; next = here; more = true }
 unfolding afterLine inLine
@@ -367,7 +367,7 @@ state-new d at w b word here stop run false S n width s i en ew f =
     let p : 2 * length word ≤ unreached = omega (arith, left-len d at w b word here stop run false S, s) in
     let g = going-new w b at stop here run word n width (spaceLen (drop n word)) p (in-line word i) en ew refl f in
     rw (after-in stop here word i)
-    (S .lines ∙ g ∙ ap (λ (x : List ℕ). lineOf at stop ∷ restLines w b here x) (S .is), (S .low, omega (arith, S .high, S .within), S .within, λ e. S .some refl))
+    (S .lines ∙ g ∙ ap (λ (x : List ℕ). lineOf at stop ∷ restLines w b here x) (S .is), (S .low, omega (arith, S .high, S .within), S .within, λ e. (S .some refl, S .high)))
 
 -- ── a head that is known not to fit before its end is found
 head-not : (cut width : ℕ) (d : List ℕ) → eqb cut 0 ≡ false → headFrom cut width d .width ≡ width

@@ -165,7 +165,7 @@ pub fn next_line(t: &[u16; 256], data: &[u8], at: usize, width: u32, break_words
     requires { ⌜ now t ≡ leadTable ⌝ }
     requires { ⌜ at ≤ length (now «data») ⌝ }
     ensures { λ r. ⌜ restLines width «break_words» at (drop at (now («data» .entry))) ≡ lineOf at (r .end) ∷ following width «break_words» (now («data» .entry)) r ⌝ }
-    ensures { λ r. ⌜ (at ≤ r .end) × (r .end ≤ length (now («data» .entry))) × (r .next ≤ length (now («data» .entry))) × (r .more ≡ true → at < r .next) ⌝ }
+    ensures { λ r. ⌜ (at ≤ r .end) × (r .end ≤ length (now («data» .entry))) × (r .next ≤ length (now («data» .entry))) × (r .more ≡ true → (at < r .next) × (r .end ≤ r .next)) ⌝ }
 {
     let limit = limit_of(width, break_words);
     let mut word = &data[at..];
