@@ -8,14 +8,17 @@ use mathlib.Core.Path.{_≡_, refl, sym, ap, _∙_}
 use mathlib.Core.List.{List, [], _∷_, _++_, append-assoc, append-nil}
 use lib.ListN.{length, take, drop, set, length-append}
 use lib.Seq.{sets-eq, drop-drop}
+use borrow.Author.Tests.{lt-ltb, le-ltb}
 use Rattle.buffer.specs.Place.{over, overAt}
 use Rattle.buffer.proofs.Laws.{put-over}
+use Rattle.recording.specs.Refusals.{dataLimit}
+use Rattle.recording.specs.Outcome.{Outcome, refused, done, overLimit, noRoom, refusalOf, settle}
 use Rattle.layout.specs.Wrap.{Line, lineOf, lineNumbers, wrapLines}
 use Rattle.line.specs.Rest.{restLines}
 use Rattle.line.specs.Line.{following}
 use Rattle.line.specs.declared.Next.{Next}
 use Rattle.line.proofs.RestLaws.{rest-all}
-use Rattle.wrap.specs.WrapBytes.{lineSize, shownBytes}
+use Rattle.wrap.specs.WrapBytes.{lineSize, shownBytes, wrapResult, wrapBytesOutcome}
 
 -- two stores from k on
 pub two-stores : (l : List ℕ) (k a b : ℕ) → k + 2 ≤ length l → set (set l k a) (k + 1) b ≡ overAt k (a ∷ b ∷ []) l
@@ -106,3 +109,18 @@ module _ (w : ℕ) (b : Bool) (d old lines : List ℕ) (k at : ℕ) (S : Written
   last lines′ q m =
       let z : S .done ++ one ≡ lineNumbers (wrapLines w b d) = sym (append-nil (S .done ++ one)) ∙ rw m at more in
       put lines′ q ∙ ap (λ (l : List ℕ). over l old) z
+
+-- ── the outcome: refusal 1, refusal 24, or the lines
+module _ (w : ℕ) (b : Bool) (d : List ℕ) (room : ℕ) where
+  pub outcome-long : dataLimit < length d → wrapBytesOutcome w b d room ≡ refused 1
+  unfolding wrapBytesOutcome settle refusalOf
+  outcome-long h = simp (lt-ltb dataLimit (length d) h)
+
+  module _ (h : length d ≤ dataLimit) where
+    pub outcome-short : room < length (lineNumbers (wrapLines w b d)) → wrapBytesOutcome w b d room ≡ refused 24
+    unfolding wrapBytesOutcome settle refusalOf overLimit noRoom
+    outcome-short k = simp (le-ltb dataLimit (length d) h, lt-ltb room (length (lineNumbers (wrapLines w b d))) k)
+
+    pub outcome-done : length (lineNumbers (wrapLines w b d)) ≤ room → wrapBytesOutcome w b d room ≡ done (wrapResult w b d)
+    unfolding wrapBytesOutcome settle refusalOf overLimit noRoom
+    outcome-done k = simp (le-ltb dataLimit (length d) h, le-ltb room (length (lineNumbers (wrapLines w b d))) k)
