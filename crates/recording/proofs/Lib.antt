@@ -3,3 +3,6 @@ pub mod EditLaws
 pub mod ItemsLaws
 pub mod SizeLaws
 pub mod FaultLaws
+pub mod EntryLaws
+pub mod OutcomeLaws
+pub mod CheckLaws

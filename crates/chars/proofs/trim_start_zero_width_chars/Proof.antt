@@ -1,7 +1,7 @@
 -- The part from `zero_width_len` on is handed back; the lead table that is made here is the definitions' table.
 use native.Mathlib.Omega.{arith}
 use borrow.Author.Needs.{needs}
-use mathlib.Core.Path.{_∙_, ap}
+use mathlib.Core.Path.{_∙_, ap, refl}
 use Prim.Native.Nat.{ℕ}
 use lib.ListN.{drop}
 use borrow.Rule.Slice.PartAt.{part-to-end}
@@ -14,7 +14,7 @@ use Rattle.chars.proofs.zero_width_len.Reads as zero-width-len-reads
 
 zero-width-len-requires : tie.Need-zero-width-len-requires
 unfolding leadTable
-zero-width-len-requires c κs = search needs
+zero-width-len-requires c κs = refl
 
 sub-result : tie.Need-sub-result
 sub-result c = search needs

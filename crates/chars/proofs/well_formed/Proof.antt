@@ -5,7 +5,7 @@ use mathlib.Core.Path.{_≡_, refl, sym, ap, _∙_}
 use mathlib.Core.Bool.{Bool, true, false, cond, _&&_}
 use mathlib.Core.List.{List, [], _∷_}
 use Prim.Native.Nat.{ℕ, _+_, _-_, _*_, _≤_, _<_}
-use lib.ListN.{length, drop}
+use lib.ListN.{length, drop, getD}
 use Rattle.chars.specs.Chars.{Character, charIn, chars, allOk, wellFormed}
 use Rattle.chars.proofs.CharsLaws.{chars-end}
 use Rattle.chars.proofs.FoldLaws.{ascii-len, ascii-ok, ok-next}
@@ -52,7 +52,8 @@ loop-again c =
     let l = c .before .before .before in
     let s = l .before .before .args .s .now in
     let at = l .loop .at in
-    let n = ok-next s at 1 (c .before .before .loop-test .taken) (sym (ascii-len s at (c .if1 .taken))) true (ascii-ok s at (c .if1 .taken)) in
+    let ascii : getD s at 0 < 128 = omega (arith, c .if1 .taken) in
+    let n = ok-next s at 1 (c .before .before .loop-test .taken) (sym (ascii-len s at ascii)) true (ascii-ok s at ascii) in
     record { within = omega arith; rest = sym n ∙ l .loop .inv .rest }
 
 seen-any-requires : tie.Need-seen-any-requires Inv-loop μ-loop

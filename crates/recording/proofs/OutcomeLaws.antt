@@ -1,0 +1,104 @@
+-- For code that finds the refusals one after another: which refusal a call gives when it stops there (`stops-..`), and what it then has to answer and leave.
+use mathlib.Core.Path.{_≡_, refl, sym, ap, _∙_}
+use mathlib.Core.Bool.{Bool, true, false}
+use mathlib.Core.List.{List, [], _∷_}
+use Prim.Native.Nat.{ℕ, _≤_, _<_}
+use native.Mathlib.Omega.{arith}
+use lib.Dec.{eqb}
+use lib.ListN.{length}
+use borrow.Author.Tests.{eq-eqb, ne-eqb, eqb-true}
+use Rattle.recording.specs.declared.Refusal.{Refusal}
+use Rattle.recording.specs.declared.Refusal.the-variants.{DataTooLong, EntryNumbers, EntryShape, EntryPosition, TextPart, LabelIllFormed, TextIllFormed, ReplacementRange, ResultOverLimit, LengthOverBuffer, DataBufferTooShort, EntryBufferTooShort, TextBufferTooShort, LineListTooShort}
+use Rattle.recording.specs.declared.Answer.the-variants.{Refused, Done}
+use Rattle.recording.specs.Refusals.{numberOf, firstOf}
+use Rattle.recording.specs.Outcome.{Room, Result, Faults, Outcome, refused, done, overLimit, noRoom, refusalOf, settle, Lent, lentAfter, returned, answerOf}
+
+-- no refusal has the number 0
+pub number-pos : (f : Refusal) → 0 < numberOf f
+unfolding numberOf
+number-pos DataTooLong = omega arith
+number-pos EntryNumbers = omega arith
+number-pos EntryShape = omega arith
+number-pos EntryPosition = omega arith
+number-pos TextPart = omega arith
+number-pos LabelIllFormed = omega arith
+number-pos TextIllFormed = omega arith
+number-pos ReplacementRange = omega arith
+number-pos ResultOverLimit = omega arith
+number-pos LengthOverBuffer = omega arith
+number-pos DataBufferTooShort = omega arith
+number-pos EntryBufferTooShort = omega arith
+number-pos TextBufferTooShort = omega arith
+number-pos LineListTooShort = omega arith
+
+-- ── the first of some tests
+pub first-hit : (n : ℕ) (ns : List ℕ) → 0 < n → firstOf (n ∷ ns) ≡ n
+first-hit n ns h = rw (ne-eqb n 0 (λ z. omega (arith, h, z)))
+
+pub first-on : (n : ℕ) (ns : List ℕ) → n ≡ 0 → firstOf (n ∷ ns) ≡ firstOf ns
+first-on n ns h = rw (eq-eqb n 0 h)
+
+pub first-one : (n : ℕ) → firstOf (n ∷ []) ≡ n
+first-one n = go (eqb n 0) refl
+  where
+    go : (t : Bool) → eqb n 0 ≡ t → firstOf (n ∷ []) ≡ n
+    go true e = rw e (sym (eqb-true n 0 e))
+    go false e = rw e
+
+-- ── where a call stops
+module _ (f : Faults) (o : Room) (x : Result) where
+  pub stops-lengths : 0 < f .lengths → refusalOf f o x ≡ f .lengths
+  unfolding refusalOf
+  stops-lengths h = rw (ne-eqb (f .lengths) 0 (λ z. omega (arith, h, z)))
+
+  module _ (a : f .lengths ≡ 0) where
+    pub stops-content : 0 < f .content → refusalOf f o x ≡ f .content
+    unfolding refusalOf
+    stops-content h = rw (a, ne-eqb (f .content) 0 (λ z. omega (arith, h, z)))
+
+    module _ (b : f .content ≡ 0) where
+      pub stops-second : 0 < f .second → refusalOf f o x ≡ f .second
+      unfolding refusalOf
+      stops-second h = rw (a, b, ne-eqb (f .second) 0 (λ z. omega (arith, h, z)))
+
+      module _ (c : f .second ≡ 0) where
+        pub stops-added : 0 < f .added → refusalOf f o x ≡ f .added
+        unfolding refusalOf
+        stops-added h = rw (a, b, c, ne-eqb (f .added) 0 (λ z. omega (arith, h, z)))
+
+        module _ (d : f .added ≡ 0) where
+          pub stops-plain : 0 < f .plain → refusalOf f o x ≡ f .plain
+          unfolding refusalOf
+          stops-plain h = rw (a, b, c, d, ne-eqb (f .plain) 0 (λ z. omega (arith, h, z)))
+
+          module _ (e : f .plain ≡ 0) where
+            pub stops-records : 0 < f .records → refusalOf f o x ≡ f .records
+            unfolding refusalOf
+            stops-records h = rw (a, b, c, d, e, ne-eqb (f .records) 0 (λ z. omega (arith, h, z)))
+
+            -- only the result is left to be judged
+            pub stops-sizes : f .records ≡ 0 → refusalOf f o x ≡ firstOf (overLimit (x .recording) ∷ noRoom o x ∷ [])
+            unfolding refusalOf
+            stops-sizes g = rw (a, b, c, d, e, g)
+
+  -- ── what it then answers and leaves
+  pub is-refused : (r : Refusal) → refusalOf f o x ≡ numberOf r → settle f o x ≡ refused (numberOf r)
+  unfolding settle
+  is-refused r e = let z : eqb (numberOf r) 0 ≡ false = ne-eqb (numberOf r) 0 (λ q. omega (arith, number-pos r, q)) in rw (e, z)
+
+  pub is-done : refusalOf f o x ≡ 0 → settle f o x ≡ done x
+  unfolding settle
+  is-done e = rw e
+
+  pub refused-answer : (r : Refusal) → refusalOf f o x ≡ numberOf r → answerOf (Refused r) ≡ returned (settle f o x)
+  unfolding answerOf returned
+  refused-answer r e = rw (is-refused r e)
+
+  pub refused-lent : (r : Refusal) (b : Lent) → refusalOf f o x ≡ numberOf r → b ≡ lentAfter (settle f o x) b
+  unfolding lentAfter
+  refused-lent r b e = rw (is-refused r e)
+
+  pub done-answer : (d e t n : ℕ) → refusalOf f o x ≡ 0 → d ≡ length (x .recording .dataBytes) → e ≡ length (x .recording .entryNumbers) → t ≡ length (x .recording .text) → n ≡ x .number
+      → answerOf (Done d e t n) ≡ returned (settle f o x)
+  unfolding answerOf returned
+  done-answer d e t n z ed ee et en = rw (is-done z) (λ i. record { refusal = 0; dataBytes = ed i; entryNumbers = ee i; text = et i; number = en i })

@@ -1,0 +1,263 @@
+// Writing recordings into lent buffers, piece by piece: each piece and each entry at the current ends.
+// Document 01: "They write a recording's pieces and entries in order, each entry at the current end, dropping none."
+// `bytes`, `numbers` and `texts` are the lent buffers; `content`, `entries` and `text` the recording that is read.
+// Every step has one equation: the buffers at exit are those at entry with some items put at the ends (`add`).
+use buffer::put;
+use recording::Entry;
+use recording::Refusal;
+use recording::entry_at;
+ghost use mathlib.Core.Path.{_≡_};
+ghost use mathlib.Core.Bool.{true, false};
+ghost use Prim.Native.Nat.{_+_, _-_, _*_, _≤_, _<_};
+ghost use mathlib.Core.List.{[], _∷_, _++_};
+ghost use lib.ListN.{length, take, drop};
+ghost use Rattle.buffer.specs.Place.{overAt, part};
+ghost use Rattle.recording.specs.Recording.{recording, entriesOf, numbersOf, items, textOf, entriesFrom};
+ghost use Rattle.recording.specs.Edit.{front, back, entriesOnly};
+ghost use Rattle.recording.specs.Refusals.{badShape, dataLimit, textLimit};
+ghost use Rattle.writer.specs.Write.{out, add, Fits, Ready, Sound, left, placeOf, startOf, itemAt};
+ghost use Rattle.writer.specs.Sizes.{sizesFault, roomOf, settledFault};
+
+// A place in a content (data offset, index of the next entry's first number), and how far the three buffers are written.
+pub struct Cursor {
+    pub at: usize,
+    pub k: usize,
+    pub d: usize,
+    pub e: usize,
+    pub t: usize,
+}
+
+// Whether a result fits: its refusal, or that there is room.
+pub enum Settled {
+    Refused(Refusal),
+    Room,
+}
+
+// The position of the entry at k; past every data if there is none.
+pub fn place_at(entries: &[u32], k: usize) -> usize
+    requires { ⌜ k ≤ length (now entries) ⌝ }
+    ensures { λ r. ⌜ r ≡ placeOf (entriesOf (drop k (now (entries .entry)))) ⌝ }
+{
+    if entries.len() - k < 4 {
+        return 4294967296;
+    }
+    entries[k] as usize
+}
+
+// Writes an entry's four numbers from k on.
+pub fn set_entry(numbers: &mut [u32], k: usize, e: Entry)
+    requires { ⌜ k + 4 ≤ length (now numbers) ⌝ }
+    ensures { λ _. ⌜ now (numbers .exit) ≡ overAt k (numbersOf (e ∷ [])) (now (numbers .entry)) ⌝ }
+{
+    numbers[k] = e.position;
+    numbers[k + 1] = e.kind;
+    numbers[k + 2] = e.start;
+    numbers[k + 3] = e.len;
+}
+
+// Where an entry's text goes in a result: a pop has none, any other goes after the texts before it.
+pub fn start_of(kind: u32, used: u32) -> u32
+    ensures { λ r. ⌜ r ≡ startOf kind used ⌝ }
+{
+    if kind == 1 {
+        return 0;
+    }
+    used
+}
+
+// Writes the bytes of `from` from a up to b at the data's end.
+pub fn put_bytes(bytes: &mut [u8], from: &[u8], a: usize, b: usize, c: Cursor) -> Cursor
+    requires { ⌜ (a ≤ b) × (b ≤ length (now from)) × (c .d + (b - a) ≤ length (now bytes)) ⌝ }
+    ensures { λ r. ⌜ (r .at ≡ c .at) × (r .k ≡ c .k) × (r .d ≡ c .d + (b - a)) × (r .e ≡ c .e) × (r .t ≡ c .t) ⌝ }
+    ensures { λ r. ⌜ now (bytes .exit) ≡ overAt (c .d) (part a b (now (from .entry))) (now (bytes .entry)) ⌝ }
+{
+    let d = put(bytes, c.d, from, a, b);
+    Cursor {
+        at: c.at,
+        k: c.k,
+        d: d,
+        e: c.e,
+        t: c.t,
+    }
+}
+
+// Writes an entry, with its part of the text, at the ends, and passes it.
+pub fn put_entry(numbers: &mut [u32], texts: &mut [u8], text: &[u8], e: Entry, c: Cursor) -> Cursor
+    requires { ⌜ badShape (e .kind) (e .start) (e .len) ≡ false ⌝ }
+    requires { ⌜ e .start + e .len ≤ length (now text) ⌝ }
+    requires { ⌜ (c .e + 4 ≤ length (now numbers)) × (c .t + e .len ≤ length (now texts)) ⌝ }
+    requires { ⌜ (c .d ≤ dataLimit) × (c .t ≤ textLimit) × (c .k + 4 ≤ 18446744073709551615) ⌝ }
+    ensures { λ r. ⌜ (r .at ≡ e .position) × (r .k ≡ c .k + 4) × (r .d ≡ c .d) × (r .e ≡ c .e + 4) × (r .t ≡ c .t + e .len) ⌝ }
+    ensures { λ r. ⌜ now (numbers .exit) ≡ overAt (c .e) (numbersOf (entriesFrom (c .d) (c .t) (itemAt (now (text .entry)) e ∷ []))) (now (numbers .entry)) ⌝ }
+    ensures { λ r. ⌜ now (texts .exit) ≡ overAt (c .t) (textOf (itemAt (now (text .entry)) e ∷ [])) (now (texts .entry)) ⌝ }
+{
+    let start = e.start as usize;
+    let end = start + e.len as usize;
+    set_entry(
+        numbers,
+        c.e,
+        Entry {
+            position: c.d as u32,
+            kind: e.kind,
+            start: start_of(e.kind, c.t as u32),
+            len: e.len,
+        },
+    );
+    let t = put(texts, c.t, text, start, end);
+    Cursor {
+        at: e.position as usize,
+        k: c.k + 4,
+        d: c.d,
+        e: c.e + 4,
+        t: t,
+    }
+}
+
+// Carries the items before the byte n on, the entries at that place included.
+pub fn keep(
+    bytes: &mut [u8],
+    numbers: &mut [u32],
+    texts: &mut [u8],
+    content: &[u8],
+    entries: &[u32],
+    text: &[u8],
+    from: Cursor,
+    n: usize,
+) -> Cursor
+    requires { ⌜ Ready (now content) (now entries) (now text) from ⌝ }
+    requires { ⌜ (from .at ≤ n) × (n ≤ length (now content)) ⌝ }
+    requires { ⌜ Fits (front (n - from .at) (left (now content) (now entries) (now text) from)) (out (now bytes) (now numbers) (now texts) from) ⌝ }
+    ensures { λ r. ⌜ out (now (bytes .exit)) (now (numbers .exit)) (now (texts .exit)) r ≡ add (front (n - from .at) (left (now (content .entry)) (now (entries .entry)) (now (text .entry)) from)) (out (now (bytes .entry)) (now (numbers .entry)) (now (texts .entry)) from) ⌝ }
+    ensures { λ r. ⌜ left (now (content .entry)) (now (entries .entry)) (now (text .entry)) r ≡ back (n - from .at) (left (now (content .entry)) (now (entries .entry)) (now (text .entry)) from) ⌝ }
+    ensures { λ r. ⌜ Ready (now (content .entry)) (now (entries .entry)) (now (text .entry)) r × (r .at ≡ n) ⌝ }
+{
+    let mut c = from;
+    let mut p = place_at(entries, c.k);
+    while p <= n {
+        let e = entry_at(entries, c.k);
+        c = put_bytes(bytes, content, c.at, p, c);
+        c = put_entry(numbers, texts, text, e, c);
+        p = place_at(entries, c.k);
+    }
+    c = put_bytes(bytes, content, c.at, n, c);
+    Cursor {
+        at: n,
+        k: c.k,
+        d: c.d,
+        e: c.e,
+        t: c.t,
+    }
+}
+
+// Carries on the entries before the byte n, those at that place included, and leaves the bytes.
+// `bytes` is lent for the shape of the contract alone: all steps have the same.
+pub fn skip(
+    bytes: &mut [u8],
+    numbers: &mut [u32],
+    texts: &mut [u8],
+    content: &[u8],
+    entries: &[u32],
+    text: &[u8],
+    from: Cursor,
+    n: usize,
+) -> Cursor
+    requires { ⌜ Ready (now content) (now entries) (now text) from ⌝ }
+    requires { ⌜ (from .at ≤ n) × (n ≤ length (now content)) ⌝ }
+    requires { ⌜ Fits (entriesOnly (front (n - from .at) (left (now content) (now entries) (now text) from))) (out (now bytes) (now numbers) (now texts) from) ⌝ }
+    ensures { λ r. ⌜ out (now (bytes .exit)) (now (numbers .exit)) (now (texts .exit)) r ≡ add (entriesOnly (front (n - from .at) (left (now (content .entry)) (now (entries .entry)) (now (text .entry)) from))) (out (now (bytes .entry)) (now (numbers .entry)) (now (texts .entry)) from) ⌝ }
+    ensures { λ r. ⌜ left (now (content .entry)) (now (entries .entry)) (now (text .entry)) r ≡ back (n - from .at) (left (now (content .entry)) (now (entries .entry)) (now (text .entry)) from) ⌝ }
+    ensures { λ r. ⌜ Ready (now (content .entry)) (now (entries .entry)) (now (text .entry)) r × (r .at ≡ n) ⌝ }
+{
+    let mut c = from;
+    let mut p = place_at(entries, c.k);
+    while p <= n {
+        let e = entry_at(entries, c.k);
+        c = put_entry(numbers, texts, text, e, c);
+        p = place_at(entries, c.k);
+    }
+    Cursor {
+        at: n,
+        k: c.k,
+        d: c.d,
+        e: c.e,
+        t: c.t,
+    }
+}
+
+// Writes all of a recording at the ends; the place in the content that is read comes back as it was.
+pub fn put_recording(
+    bytes: &mut [u8],
+    numbers: &mut [u32],
+    texts: &mut [u8],
+    content: &[u8],
+    entries: &[u32],
+    text: &[u8],
+    c: Cursor,
+) -> Cursor
+    requires { ⌜ Sound (now content) (now entries) (now text) ⌝ }
+    requires { ⌜ Fits (items (recording (now content) (now entries) (now text))) (out (now bytes) (now numbers) (now texts) c) ⌝ }
+    ensures { λ r. ⌜ out (now (bytes .exit)) (now (numbers .exit)) (now (texts .exit)) r ≡ add (items (recording (now (content .entry)) (now (entries .entry)) (now (text .entry)))) (out (now (bytes .entry)) (now (numbers .entry)) (now (texts .entry)) c) ⌝ }
+    ensures { λ r. ⌜ (r .at ≡ c .at) × (r .k ≡ c .k) ⌝ }
+{
+    let from = Cursor {
+        at: 0,
+        k: 0,
+        d: c.d,
+        e: c.e,
+        t: c.t,
+    };
+    let r = keep(
+        bytes,
+        numbers,
+        texts,
+        content,
+        entries,
+        text,
+        from,
+        content.len(),
+    );
+    Cursor {
+        at: c.at,
+        k: c.k,
+        d: r.d,
+        e: r.e,
+        t: r.t,
+    }
+}
+
+// Refusals 9 and 21 to 24 of a result with d data bytes, e entry numbers, t text bytes and l line numbers, in buffers of these lengths.
+pub fn settle(
+    d: usize,
+    e: usize,
+    t: usize,
+    l: usize,
+    bytes: usize,
+    numbers: usize,
+    texts: usize,
+    lines: usize,
+) -> Settled
+    ensures { λ r. ⌜ settledFault r ≡ sizesFault d e t l (roomOf bytes numbers texts lines) ⌝ }
+{
+    if 1048576 < d {
+        return Settled::Refused(Refusal::ResultOverLimit);
+    }
+    if 16384 < e {
+        return Settled::Refused(Refusal::ResultOverLimit);
+    }
+    if 65536 < t {
+        return Settled::Refused(Refusal::ResultOverLimit);
+    }
+    if bytes < d {
+        return Settled::Refused(Refusal::DataBufferTooShort);
+    }
+    if numbers < e {
+        return Settled::Refused(Refusal::EntryBufferTooShort);
+    }
+    if texts < t {
+        return Settled::Refused(Refusal::TextBufferTooShort);
+    }
+    if lines < l {
+        return Settled::Refused(Refusal::LineListTooShort);
+    }
+    Settled::Room
+}
