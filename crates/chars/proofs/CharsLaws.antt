@@ -1,17 +1,16 @@
 -- Reading characters: their bytes are the text; any stretch of the characters of a text reads as those characters; and one character further in a loop.
 -- The idea: a character depends on its own bytes and on where its sequence stops (`Read`), and both survive when the text around it is cut at characters.
 use Prim.Native.Nat.{ℕ, zero, suc, _+_, _-_, _*_, _≤_, _<_}
-use native.Mathlib.Numerals.{add-one}
 use native.Mathlib.Omega.{arith}
 use mathlib.Core.Bool.{Bool, true, false, cond, _&&_}
 use mathlib.Core.Path.{_≡_, refl, sym, ap, _∙_}
-use mathlib.Core.List.{List, [], _∷_, _++_, tail, append-nil, append-assoc}
-use lib.Dec.{leb, eqb, T, leb→le}
-use lib.ListN.{length, take, drop, getD, take-append-drop, length-take, length-drop, length-append, drop-of-length-le}
+use mathlib.Core.List.{List, [], _∷_, _++_, tail, append-assoc}
+use lib.Dec.{leb, T, leb→le}
+use lib.ListN.{length, take, drop, getD, take-append-drop, length-drop, length-append, drop-of-length-le}
 use lib.Seq.{take-append-seam, length-take-le, drop-cons, drop-drop}
-use Rattle.chars.specs.Utf8.{Row, Span, within, table37, leads, rowIn, rowOf, matched, tailLen, complete, codePoint}
+use Rattle.chars.specs.Utf8.{Row, within, table37, leads, rowIn, rowOf, matched, tailLen, complete, codePoint}
 use Rattle.chars.specs.Width.{Range, ranges, widthIn, charWidth}
-use Rattle.chars.specs.Chars.{Character, charAt, charIn, charsFrom, chars, bytesOf, wide, widthOf, textWidth, allOk, wellFormed}
+use Rattle.chars.specs.Chars.{Character, charAt, charIn, charsFrom, chars, bytesOf, widthOf, textWidth}
 
 -- ── the bytes of the characters
 pub bytes-from : (k : ℕ) (bs : List ℕ) → bytesOf (charsFrom k bs) ≡ drop k bs

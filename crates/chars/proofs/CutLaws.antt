@@ -1,16 +1,16 @@
 -- Cutting from the last character back keeps the longest ending within the width, which a scan from the front finds: no code reads backwards.
 -- The idea: kept endings have falling widths, so the greedy choice on the reversed list stops at the first place whose rest is narrow enough.
-use Prim.Native.Nat.{ℕ, zero, suc, _+_, _-_, _≤_, _<_}
+use Prim.Native.Nat.{ℕ, _+_, _-_, _≤_, _<_}
 use native.Mathlib.Omega.{arith}
 use mathlib.Core.Bool.{Bool, true, false, cond}
 use mathlib.Core.Path.{_≡_, refl, sym, ap, _∙_}
 use mathlib.Core.List.{List, [], _∷_, _++_, reverse, reverse-cons, append-nil}
-use lib.Dec.{leb, eqb}
+use lib.Dec.{leb}
 use lib.ListN.{length, take, drop, length-append}
 use lib.Seq.{take-append-seam, drop-append-seam}
 use borrow.Author.Tests.{leb-false, leb-true, le-leb, lt-leb}
 use Rattle.chars.specs.Chars.{Character, chars, bytesOf, wide, widthOf}
-use Rattle.chars.specs.Cut.{keptWithin, truncateEndPos, truncateEndWidth, truncateStartPos, truncateStartWidth}
+use Rattle.chars.specs.Cut.{keptWithin, truncateEndPos, truncateStartPos, truncateStartWidth}
 use Rattle.chars.proofs.CharsLaws.{bytes-chars, bytes-append, width-append}
 
 -- the longest ending of whole characters within m

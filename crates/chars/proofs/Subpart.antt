@@ -1,17 +1,17 @@
 -- D93b and the Standard's conversion practice: a well-formed sequence at the front is read whole; anything else loses its maximal subpart, which is the character's bytes.
 -- The idea: the first columns of table 3-7 are apart, so only the row of the lead byte counts; in that row, `matched` is how far the bytes go along.
-use Prim.Native.Nat.{ℕ, zero, suc, _+_, _-_, _≤_, _<_}
+use Prim.Native.Nat.{ℕ, zero, suc, _-_, _≤_, _<_}
 use native.Mathlib.Omega.{arith}
 use mathlib.Core.Bool.{Bool, true, false, cond, _&&_, _||_, false≢true}
 use mathlib.Core.Logic.{_⊎_, inl, inr, ⊎-elim}
 use mathlib.Core.Path.{_≡_, refl, sym, ap, _∙_}
-use mathlib.Core.List.{List, [], _∷_, _++_, tail}
+use mathlib.Core.List.{List, [], _∷_, tail}
 use lib.Dec.{leb, ltb, eqb, T, leb→le, ltb→lt, leb·zero, leb·suc-zero, leb·suc-suc, eqb·zero-suc, eqb·suc-zero, eqb·suc-suc}
 use lib.ListN.{length, take}
 use lib.Seq.{length-take-le}
 use borrow.Author.Tests.{leb-true, le-leb, lt-leb, eq-eqb}
-use Rattle.chars.specs.Utf8.{Span, Row, within, table37, leads, rowIn, rowOf, matched, tailLen, complete, begins, fills, anyRow, initialPart, wellFormedSequence, MaximalSubpart}
-use Rattle.chars.specs.Chars.{Character, charAt}
+use Rattle.chars.specs.Utf8.{Row, within, table37, leads, rowIn, rowOf, matched, tailLen, complete, begins, fills, anyRow, initialPart, wellFormedSequence, MaximalSubpart}
+use Rattle.chars.specs.Chars.{charAt}
 use Rattle.chars.proofs.CharsLaws.{matched-le, tail-le}
 
 -- ── only the row of the lead byte counts

@@ -1,8 +1,8 @@
 -- The characters of any bytes (document 01, "Characters and widths"): well-formed sequences are read, each maximal ill-formed subpart is one U+FFFD.
 use Prim.Native.Nat.{ℕ, zero, suc, _+_}
-use mathlib.Core.Bool.{Bool, true, false, cond, _&&_}
+use mathlib.Core.Bool.{Bool, true, cond, _&&_}
 use mathlib.Core.List.{List, [], _∷_, _++_}
-use lib.ListN.{length, take, drop, getD}
+use lib.ListN.{take, drop, getD}
 use Rattle.chars.specs.Utf8.{tailLen, complete, codePoint}
 use Rattle.chars.specs.Width.{charWidth}
 

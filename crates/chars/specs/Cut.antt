@@ -1,9 +1,9 @@
 -- Cutting a text at a width (document 01, module 2): whole characters are kept while the sum of their widths stays within; and leading zero-width characters.
-use Prim.Native.Nat.{ℕ, _+_, _-_}
-use mathlib.Core.Bool.{Bool, cond}
+use Prim.Native.Nat.{ℕ, _-_}
+use mathlib.Core.Bool.{cond}
 use mathlib.Core.List.{List, [], _∷_, reverse}
 use lib.Dec.{leb, eqb}
-use lib.ListN.{length, drop}
+use lib.ListN.{length}
 use Rattle.chars.specs.Chars.{Character, chars, bytesOf, wide, widthOf}
 
 -- the first characters, kept while the sum of their widths stays within m

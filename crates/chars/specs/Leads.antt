@@ -1,6 +1,6 @@
 -- The table of 256 entries in which a lead byte is looked up, and the columns of table 3-7 that an entry stands for.
 -- For each byte three hexadecimal digits: the length of the sequences that it leads (0 for none), and the first digits of the second byte's bounds, which are x0 and yF.
-use Prim.Native.Nat.{ℕ, zero, suc, _+_, _*_, _/_, _%_}
+use Prim.Native.Nat.{ℕ, zero, suc}
 use mathlib.Core.List.{List, [], _∷_}
 use lib.ListN.{replicate}
 use Rattle.chars.specs.Utf8.{Row, span}

@@ -1,5 +1,5 @@
 -- UTF-8 as chapter 3 of the Unicode Standard has it: table 3-7 (well-formed byte sequences), table 3-6 (the bits of a code point), D93b (maximal subparts).
-use Prim.Native.Nat.{ℕ, zero, suc, _+_, _*_, _%_, _≤_, _<_}
+use Prim.Native.Nat.{ℕ, suc, _+_, _*_, _%_, _≤_, _<_}
 use mathlib.Core.Bool.{Bool, true, false, cond, _&&_, _||_}
 use mathlib.Core.List.{List, [], _∷_, tail}
 use mathlib.Core.Logic.{_⊎_}

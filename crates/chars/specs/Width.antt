@@ -1,6 +1,6 @@
 -- The width of a code point: document 01's nineteen ranges.
 use Prim.Native.Nat.{ℕ}
-use mathlib.Core.Bool.{Bool, cond}
+use mathlib.Core.Bool.{cond}
 use mathlib.Core.List.{List, [], _∷_}
 use Rattle.chars.specs.Utf8.{within}
 

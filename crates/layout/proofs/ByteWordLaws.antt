@@ -1,12 +1,11 @@
 -- The runs of a line: what they are, and that runs of that kind, put together, are read again.
-use Prim.Native.Nat.{ℕ, zero, suc, _+_, _-_, _≤_, _<_}
+use Prim.Native.Nat.{ℕ, zero, suc, _+_, _-_, _<_}
 use native.Mathlib.Omega.{arith}
-use mathlib.Core.Bool.{Bool, true, false, cond, _&&_, _||_, not, false≢true}
+use mathlib.Core.Bool.{Bool, true, false, cond, false≢true}
 use mathlib.Core.Logic.{_⊎_, inl, inr}
 use mathlib.Core.Path.{_≡_, refl, sym, ap, _∙_}
-use mathlib.Core.List.{List, [], _∷_, _++_, append-nil, append-assoc}
-use lib.Dec.{leb, ltb, eqb}
-use lib.ListN.{length}
+use mathlib.Core.List.{List, [], _∷_, _++_}
+use lib.Dec.{eqb}
 use Rattle.recording.specs.Recording.{isNil}
 use Rattle.layout.specs.Wrap.{ontoFirst, splitLines, ByteWord, byteWord, spaceBefore, byteBefore, byteWords}
 use Rattle.recording.proofs.Lists.{AllOf}

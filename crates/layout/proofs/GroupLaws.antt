@@ -1,11 +1,11 @@
 -- Grouping: a derivation that follows `groupsFrom`, and what it gives.
-use Prim.Native.Nat.{ℕ, zero, suc, _+_, _-_, _≤_, _<_}
+use Prim.Native.Nat.{ℕ, _+_, _-_, _<_}
 use native.Mathlib.Omega.{arith}
-use mathlib.Core.Bool.{Bool, true, false, cond, _&&_, _||_, not, false≢true}
-use mathlib.Core.Path.{_≡_, refl, sym, ap, _∙_}
-use mathlib.Core.List.{List, [], _∷_, _++_, append-nil, append-assoc}
+use mathlib.Core.Bool.{Bool, true, false}
+use mathlib.Core.Path.{_≡_, refl, ap, _∙_}
+use mathlib.Core.List.{List, [], _∷_, _++_}
 use lib.ListN.{length}
-use Rattle.recording.proofs.Lists.{AllOf, all-append, all-left, all-right}
+use Rattle.recording.proofs.Lists.{AllOf, all-left, all-right}
 use Rattle.layout.specs.Wrap.{ontoFirst, groupsFrom, groups}
 
 abbrev pub concat : {A : Type 0} → List (List A) → List A

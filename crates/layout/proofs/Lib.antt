@@ -1,7 +1,9 @@
 pub mod PadLaws
+pub mod PieceLaws
 pub mod StepLaws
 pub mod ListLaws
 pub mod StripLaws
+pub mod LeftLaws
 pub mod GroupLaws
 pub mod WordLaws
 pub mod ByteWordLaws
@@ -9,3 +11,5 @@ pub mod BreakLaws
 pub mod TwiceLaws
 pub mod Demand3
 pub mod WordingLaws
+pub mod PinsHold
+pub mod OutcomeLaws

@@ -1,12 +1,11 @@
 -- An edit of the items is the same edit of the coloured bytes (`edit-law`), keeps balance (`edit-bal`), and is the same edit of the data alone (`edit-data`).
 -- The idea: `front n` and `back n` of the items are `take n` and `drop n` of the coloured bytes, with the labels open after `front n` carried over.
-use Prim.Native.Nat.{ℕ, zero, suc, _+_, _-_, _*_}
+use Prim.Native.Nat.{ℕ, zero, suc, _+_, _-_}
 use native.Mathlib.Nat.{zero-add, suc-add}
-use mathlib.Core.Bool.{Bool, true, false, cond, _&&_, _||_, not, false≢true}
-use mathlib.Core.Path.{_≡_, refl, sym, ap, _∙_}
-use mathlib.Core.List.{List, [], _∷_, _++_, map, reverse, tail, append-assoc, append-nil, reverse-append}
-use lib.Dec.{leb, ltb, eqb}
-use lib.ListN.{length, take, drop, getD}
+use mathlib.Core.Bool.{true, false, false≢true}
+use mathlib.Core.Path.{_≡_, refl, ap}
+use mathlib.Core.List.{List, [], _∷_, _++_, reverse, tail, reverse-append}
+use lib.ListN.{length, take, drop}
 use Rattle.recording.specs.Recording.{Bytes, Item, byte, push, pop, raw, dataOf}
 use Rattle.recording.specs.Coloured.{Coloured, colouredFrom, balancedFrom}
 use Rattle.recording.specs.Edit.{Op, keep, skip, put, front, back, entriesOnly, edit, labelsAt, under, editColoured, editData}

@@ -1,22 +1,21 @@
 -- Refusals that are not given, taken apart and put together; and: items that a recording can hold, under the limits, are written as a recording without faults (`encoded`).
 -- The idea: a fault-free recording has only items that are `Ok`, every edit keeps them so, and what `entriesFrom` writes of them is in order by construction.
-use Prim.Native.Nat.{ℕ, zero, suc, _+_, _-_, _*_, _%_, _≤_, _<_}
+use Prim.Native.Nat.{ℕ, zero, suc, _+_, _-_, _*_, _%_, _≤_}
 use native.Mathlib.Omega.{arith}
 use mathlib.Core.Bool.{Bool, true, false, cond, _&&_, _||_, not, false≢true}
-use mathlib.Core.Path.{_≡_, refl, sym, ap, _∙_}
+use mathlib.Core.Path.{_≡_, refl, sym, _∙_}
 use mathlib.Core.List.{List, [], _∷_, _++_, append-assoc}
-use lib.Dec.{leb, ltb, eqb, eqb·suc-zero}
+use lib.Dec.{ltb, eqb, eqb·suc-zero}
 use lib.ListN.{length, take, drop, length-append}
 use lib.Seq.{take-append-seam, drop-at}
 use borrow.Author.Tests.{eqb-true, eqb-false, eq-eqb, ltb-false, le-ltb}
 use Rattle.chars.specs.Chars.{wellFormed}
-use Rattle.buffer.specs.Place.{over}
 use Rattle.buffer.proofs.Laws.{take-over}
 use Rattle.recording.specs.declared.Entry.{Entry}
-use Rattle.recording.specs.Recording.{Bytes, Recording, isNil, entry, entriesOf, numbersOf, partOf, Item, byte, push, pop, raw, byteItems, itemOf, itemsFrom, items, dataOf, textOf, entriesFrom, encode}
+use Rattle.recording.specs.Recording.{Bytes, Recording, isNil, entriesOf, numbersOf, partOf, Item, byte, push, pop, raw, byteItems, itemOf, itemsFrom, items, dataOf, textOf, entriesFrom, encode}
 use Rattle.recording.specs.Edit.{Op, keep, skip, put, front, back, entriesOnly, edit}
 use Rattle.recording.specs.Refusals.{firstOf, refuseIf, badShape, entryFault, entriesFault, recordingFault, dataLimit, entryLimit, textLimit}
-use Rattle.recording.specs.Outcome.{Room, Result, Faults, Outcome, refused, done, overLimit, noRoom, refusalOf, settle, Lent, lentAfter, Returned, returned}
+use Rattle.recording.specs.Outcome.{Room, Result, Faults, Outcome, done, overLimit, noRoom, refusalOf, Lent, lentAfter, returned}
 use Rattle.recording.proofs.Lists.{AllOf, all-append, or-left, or-right, not-false}
 use Rattle.recording.proofs.ItemsLaws.{entries-numbers}
 use Rattle.recording.proofs.SizeLaws.{entryCount, count-numbers}

@@ -1,15 +1,15 @@
 -- What is encoded is read back as the same items (`items-encode`); the data of a recording's items, and of its coloured bytes, is its data.
 -- The idea: `itemsFrom` is run on what `entriesFrom` wrote, with the bytes since the last entry (`q`) and the texts written so far (`pre`) as arguments.
 use Prim.Native.Nat.{ℕ, zero, suc, _+_, _-_}
-use native.Mathlib.Nat.{add-zero, add-suc, zero-add, suc-add}
+use native.Mathlib.Nat.{add-zero, add-suc}
 use native.Mathlib.Omega.{arith}
 use mathlib.Core.Path.{_≡_, refl, sym, ap, _∙_}
-use mathlib.Core.List.{List, [], _∷_, _++_, reverse, tail, append-assoc, append-nil}
+use mathlib.Core.List.{List, [], _∷_, _++_, tail, append-assoc, append-nil}
 use lib.ListN.{length, take, drop, length-append, take-append-drop}
-use lib.Seq.{take-append-seam, drop-append-seam, take-at, drop-at}
+use lib.Seq.{take-append-seam, drop-append-seam, drop-at}
 use Rattle.recording.specs.declared.Entry.{Entry}
-use Rattle.recording.specs.Recording.{Bytes, Recording, entry, entriesOf, numbersOf, partOf, Item, byte, push, pop, raw, byteItems, itemOf, itemsFrom, items, dataOf, textOf, entriesFrom, encode}
-use Rattle.recording.specs.Coloured.{Coloured, colouredFrom, coloured, values}
+use Rattle.recording.specs.Recording.{Bytes, Recording, entriesOf, numbersOf, partOf, Item, byte, push, pop, raw, byteItems, itemOf, itemsFrom, items, dataOf, textOf, entriesFrom, encode}
+use Rattle.recording.specs.Coloured.{colouredFrom, coloured, values}
 use Rattle.recording.proofs.EditLaws.{data-append}
 
 pub bytes-append : (a b : Bytes) → byteItems (a ++ b) ≡ byteItems a ++ byteItems b

@@ -1,6 +1,6 @@
 -- What is written adds at the ends (`entries-append`, `text-append`), and how much an edit writes: the content's entries and texts and those put in.
 -- Also the steps of a loop over content: an entry here, or bytes up to the next entry.
-use Prim.Native.Nat.{ℕ, zero, suc, _+_, _-_, _*_, _≤_, _<_}
+use Prim.Native.Nat.{ℕ, zero, suc, _+_, _-_, _*_, _≤_}
 use native.Mathlib.Omega.{arith}
 use mathlib.Core.Path.{_≡_, refl, sym, ap, _∙_}
 use mathlib.Core.List.{List, [], _∷_, _++_, append-assoc}
@@ -8,7 +8,7 @@ use lib.ListN.{length, take, drop, length-append, take-append-drop}
 use lib.Seq.{take-add, drop-drop}
 use Rattle.recording.proofs.ItemsLaws.{bytes-append}
 use Rattle.recording.specs.declared.Entry.{Entry}
-use Rattle.recording.specs.Recording.{Bytes, Recording, entry, numbersOf, partOf, Item, byte, push, pop, raw, byteItems, dataOf, textOf, entriesFrom, itemOf, itemsFrom}
+use Rattle.recording.specs.Recording.{Bytes, entry, numbersOf, partOf, Item, byte, push, pop, raw, byteItems, dataOf, textOf, entriesFrom, itemOf, itemsFrom}
 use Rattle.recording.specs.Edit.{Op, keep, skip, put, front, back, entriesOnly, edit}
 
 pub text-append : (a b : List Item) → textOf (a ++ b) ≡ textOf a ++ textOf b

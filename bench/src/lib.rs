@@ -1,0 +1,3 @@
+//! What the two drivers share: the texts and the timing.
+pub mod inputs;
+pub mod timing;

@@ -1,0 +1,49 @@
+//! Times the library against the Rust originals: `bench [--rounds N] [--one] [CASE...]`.
+mod cases;
+
+use std::process::ExitCode;
+
+use bench::inputs::{Input, KINDS, SIZES};
+use bench::timing;
+use cases::{CASES, Case};
+
+fn table(case: &Case, rounds: usize, many: usize) -> Result<(), String> {
+    println!("\n### {}\n", case.name);
+    let heads: Vec<_> = SIZES.iter().map(|(_, name)| *name).collect();
+    println!("| input | {} |\n|---|{}", heads.join(" | "), "---|".repeat(heads.len()));
+    for (kind, name) in KINDS {
+        let mut row = format!("| {name} |");
+        for (size, size_name) in SIZES {
+            let pair = (case.sides)(&Input::new(kind, size, many)).map_err(|e| format!("{}, {name}, {size_name}: {e}", case.name))?;
+            let times = timing::measure(&pair, rounds);
+            row += &format!(" **{:.2}** ({:.2} / {:.2}) |", times.ratio(), times.rattle / size as f64, times.rust / size as f64);
+        }
+        println!("{row}");
+    }
+    Ok(())
+}
+
+fn main() -> ExitCode {
+    let (mut rounds, mut many, mut names) = (30, 64, vec![]);
+    let mut words = std::env::args().skip(1);
+    while let Some(word) = words.next() {
+        match word.as_str() {
+            "--rounds" => rounds = words.next().and_then(|n| n.parse().ok()).filter(|n| *n > 0).expect("--rounds N"),
+            "--one" => many = 1,
+            _ => names.push(word),
+        }
+    }
+    if let Some(name) = names.iter().find(|name| CASES.iter().all(|case| case.name != **name)) {
+        eprintln!("bench: no case {name}");
+        return ExitCode::from(2);
+    }
+    println!("Time of Rattle as a part of Rust's, below 1 is faster (in brackets: Rattle / Rust, nanoseconds a byte).");
+    println!("The shortest of {rounds} rounds in turns; short inputs are {many} text(s) in a row.");
+    for case in CASES.iter().filter(|case| names.is_empty() || names.iter().any(|name| name == case.name)) {
+        if let Err(difference) = table(case, rounds, many) {
+            eprintln!("bench: the sides differ: {difference}");
+            return ExitCode::FAILURE;
+        }
+    }
+    ExitCode::SUCCESS
+}

@@ -1,0 +1,257 @@
+-- Rows that pin the definitions where the document's cases C1 to C16 leave them open: edges of tables, clauses of rules, every refusal and their order.
+-- `proofs/PinsHold.antt` computes them all. The crate `cases` sets them beside C1 to C16.
+use Prim.Native.Nat.{ℕ, zero, suc}
+use mathlib.Core.Bool.{Bool, true, false}
+use mathlib.Core.List.{List, [], _∷_}
+use Rattle.chars.specs.Width.{charWidth}
+use Rattle.chars.specs.Chars.{textWidth}
+use Rattle.recording.specs.Recording.{Bytes, Recording, recording}
+use Rattle.recording.specs.Outcome.{Room, Outcome, refused, done}
+use Rattle.layout.specs.declared.Replacement.{Replacement}
+use Rattle.layout.specs.Wrap.{Line, lineOf, wrapLines}
+use Rattle.layout.specs.Layout.{Job, truncateStart, truncateEnd, padStart, padEnd, padCentered, indent, wrap, replace, outcome}
+
+-- ── what a row asks, and what it expects
+pub data Question : Type 0 where
+  linesOf : ℕ → Bool → Bytes → Question
+  widthOf : Bytes → Question
+  charWidths : List ℕ → Question
+  call : Job → Room → Recording → Question
+
+pub data Reply : Type 0 where
+  lines : List Line → Reply
+  numbers : List ℕ → Reply
+  outcomeOf : Outcome → Reply
+
+abbrev eachWidth : List ℕ → List ℕ
+eachWidth [] = []
+eachWidth (c ∷ cs) = charWidth c ∷ eachWidth cs
+
+abbrev pub reply : Question → Reply
+reply (linesOf w b d) = lines (wrapLines w b d)
+reply (widthOf d) = numbers (textWidth d ∷ [])
+reply (charWidths cs) = numbers (eachWidth cs)
+reply (call j o r) = outcomeOf (outcome (record { job = j; room = o }) r)
+
+pub record Row : Type 0 where
+  pub question : Question
+  pub expected : Reply
+
+abbrev pub row : Question → Reply → Row
+row q a = record { question = q; expected = a }
+
+abbrev pub asked : List Row → List Reply
+asked [] = []
+asked (r ∷ rs) = reply (r .question) ∷ asked rs
+
+abbrev pub due : List Row → List Reply
+due [] = []
+due (r ∷ rs) = r .expected ∷ due rs
+
+-- ── short names
+abbrev pub room : ℕ → ℕ → ℕ → ℕ → Room
+room d e t l = record { dataBytes = d; entryNumbers = e; text = t; lines = l }
+
+abbrev pub roomy : Room
+roomy = room 100 100 100 100
+
+abbrev pub replacement : ℕ → ℕ → ℕ → ℕ → Replacement
+replacement a e f t = record { start = a; end = e; from = f; to = t }
+
+-- n times the same number
+abbrev pub fill : ℕ → ℕ → List ℕ
+fill zero b = []
+fill (suc n) b = b ∷ fill n b
+
+-- n pops at 0
+abbrev pub fill4 : ℕ → List ℕ
+fill4 zero = []
+fill4 (suc n) = 0 ∷ 1 ∷ 0 ∷ 0 ∷ fill4 n
+
+unfoldable pub pins : List Row
+pins =
+    -- U+0000 to U+001F: both ends, and one past each
+    row (charWidths (0x0 ∷ 0x1F ∷ 0x20 ∷ [])) (numbers (0 ∷ 0 ∷ 1 ∷ [])) ∷
+    -- U+007F to U+009F: both ends, and one past each
+    row (charWidths (0x7E ∷ 0x7F ∷ 0x9F ∷ 0xA0 ∷ [])) (numbers (1 ∷ 0 ∷ 0 ∷ 1 ∷ [])) ∷
+    -- U+0300 to U+036F: both ends, and one past each
+    row (charWidths (0x2FF ∷ 0x300 ∷ 0x36F ∷ 0x370 ∷ [])) (numbers (1 ∷ 0 ∷ 0 ∷ 1 ∷ [])) ∷
+    -- U+200B to U+200F: both ends, and one past each
+    row (charWidths (0x200A ∷ 0x200B ∷ 0x200F ∷ 0x2010 ∷ [])) (numbers (1 ∷ 0 ∷ 0 ∷ 1 ∷ [])) ∷
+    -- U+20D0 to U+20F0: both ends, and one past each
+    row (charWidths (0x20CF ∷ 0x20D0 ∷ 0x20F0 ∷ 0x20F1 ∷ [])) (numbers (1 ∷ 0 ∷ 0 ∷ 1 ∷ [])) ∷
+    -- U+FE00 to U+FE0F: both ends, and one past each
+    row (charWidths (0xFDFF ∷ 0xFE00 ∷ 0xFE0F ∷ 0xFE10 ∷ [])) (numbers (1 ∷ 0 ∷ 0 ∷ 1 ∷ [])) ∷
+    -- U+FE20 to U+FE2F: both ends, and one past each
+    row (charWidths (0xFE1F ∷ 0xFE20 ∷ 0xFE2F ∷ 0xFE30 ∷ [])) (numbers (1 ∷ 0 ∷ 0 ∷ 2 ∷ [])) ∷
+    -- U+1100 to U+115F: both ends, and one past each
+    row (charWidths (0x10FF ∷ 0x1100 ∷ 0x115F ∷ 0x1160 ∷ [])) (numbers (1 ∷ 2 ∷ 2 ∷ 1 ∷ [])) ∷
+    -- U+2E80 to U+303E: both ends, and one past each
+    row (charWidths (0x2E7F ∷ 0x2E80 ∷ 0x303E ∷ 0x303F ∷ [])) (numbers (1 ∷ 2 ∷ 2 ∷ 1 ∷ [])) ∷
+    -- U+3041 to U+33FF: both ends, and one past each
+    row (charWidths (0x3040 ∷ 0x3041 ∷ 0x33FF ∷ 0x3400 ∷ [])) (numbers (1 ∷ 2 ∷ 2 ∷ 2 ∷ [])) ∷
+    -- U+3400 to U+4DBF: both ends, and one past each
+    row (charWidths (0x33FF ∷ 0x3400 ∷ 0x4DBF ∷ 0x4DC0 ∷ [])) (numbers (2 ∷ 2 ∷ 2 ∷ 1 ∷ [])) ∷
+    -- U+4E00 to U+A4CF: both ends, and one past each
+    row (charWidths (0x4DFF ∷ 0x4E00 ∷ 0xA4CF ∷ 0xA4D0 ∷ [])) (numbers (1 ∷ 2 ∷ 2 ∷ 1 ∷ [])) ∷
+    -- U+AC00 to U+D7A3: both ends, and one past each
+    row (charWidths (0xABFF ∷ 0xAC00 ∷ 0xD7A3 ∷ 0xD7A4 ∷ [])) (numbers (1 ∷ 2 ∷ 2 ∷ 1 ∷ [])) ∷
+    -- U+F900 to U+FAFF: both ends, and one past each
+    row (charWidths (0xF8FF ∷ 0xF900 ∷ 0xFAFF ∷ 0xFB00 ∷ [])) (numbers (1 ∷ 2 ∷ 2 ∷ 1 ∷ [])) ∷
+    -- U+FE30 to U+FE6F: both ends, and one past each
+    row (charWidths (0xFE2F ∷ 0xFE30 ∷ 0xFE6F ∷ 0xFE70 ∷ [])) (numbers (0 ∷ 2 ∷ 2 ∷ 1 ∷ [])) ∷
+    -- U+FF00 to U+FF60: both ends, and one past each
+    row (charWidths (0xFEFF ∷ 0xFF00 ∷ 0xFF60 ∷ 0xFF61 ∷ [])) (numbers (1 ∷ 2 ∷ 2 ∷ 1 ∷ [])) ∷
+    -- U+FFE0 to U+FFE6: both ends, and one past each
+    row (charWidths (0xFFDF ∷ 0xFFE0 ∷ 0xFFE6 ∷ 0xFFE7 ∷ [])) (numbers (1 ∷ 2 ∷ 2 ∷ 1 ∷ [])) ∷
+    -- U+20000 to U+2FFFD: both ends, and one past each
+    row (charWidths (0x1FFFF ∷ 0x20000 ∷ 0x2FFFD ∷ 0x2FFFE ∷ [])) (numbers (1 ∷ 2 ∷ 2 ∷ 1 ∷ [])) ∷
+    -- U+30000 to U+3FFFD: both ends, and one past each
+    row (charWidths (0x2FFFF ∷ 0x30000 ∷ 0x3FFFD ∷ 0x3FFFE ∷ [])) (numbers (1 ∷ 2 ∷ 2 ∷ 1 ∷ [])) ∷
+    -- width, a wide character
+    row (widthOf (0xE6 ∷ 0x9C ∷ 0xA8 ∷ [])) (numbers (2 ∷ [])) ∷
+    -- width, a combining mark
+    row (widthOf (0xCC ∷ 0x81 ∷ [])) (numbers (0 ∷ [])) ∷
+    -- width, E0 80: three ill-formed bytes
+    row (widthOf (0xE0 ∷ 0x80 ∷ 0x80 ∷ [])) (numbers (3 ∷ [])) ∷
+    -- width, ED A0: a surrogate, three
+    row (widthOf (0xED ∷ 0xA0 ∷ 0x80 ∷ [])) (numbers (3 ∷ [])) ∷
+    -- width, F0 80: four
+    row (widthOf (0xF0 ∷ 0x80 ∷ 0x80 ∷ 0x80 ∷ [])) (numbers (4 ∷ [])) ∷
+    -- width, F4 90: four
+    row (widthOf (0xF4 ∷ 0x90 ∷ 0x80 ∷ 0x80 ∷ [])) (numbers (4 ∷ [])) ∷
+    -- width, C0 AF: two
+    row (widthOf (0xC0 ∷ 0xAF ∷ [])) (numbers (2 ∷ [])) ∷
+    -- width, F5 leads nothing
+    row (widthOf (0xF5 ∷ 0x80 ∷ [])) (numbers (2 ∷ [])) ∷
+    -- width, cut short: one maximal subpart
+    row (widthOf (0xE6 ∷ 0x9C ∷ [])) (numbers (1 ∷ [])) ∷
+    -- width, U+FFFD itself
+    row (widthOf (0xEF ∷ 0xBF ∷ 0xBD ∷ [])) (numbers (1 ∷ [])) ∷
+    -- wrap: whitespace does not count in the fit test of its own word
+    row (linesOf 5 false (0x31 ∷ 0x32 ∷ 0x20 ∷ 0x66 ∷ 0x74 ∷ 0x20 ∷ 0x62 ∷ [])) (lines (lineOf 0 5 ∷ lineOf 6 7 ∷ [])) ∷
+    -- wrap: a tab is no separator
+    row (linesOf 2 false (0x61 ∷ 0x09 ∷ 0x62 ∷ 0x20 ∷ 0x63 ∷ [])) (lines (lineOf 0 3 ∷ lineOf 4 5 ∷ [])) ∷
+    -- wrap: a carriage return is no separator
+    row (linesOf 9 false (0x61 ∷ 0x0D ∷ 0x0A ∷ 0x62 ∷ [])) (lines (lineOf 0 2 ∷ lineOf 3 4 ∷ [])) ∷
+    -- wrap: breaking, place 0: one character and the zero-width ones after it
+    row (linesOf 1 true (0xE6 ∷ 0x9C ∷ 0xA8 ∷ 0xCC ∷ 0x81 ∷ 0x61 ∷ [])) (lines (lineOf 0 5 ∷ lineOf 5 6 ∷ [])) ∷
+    -- wrap: breaking: a zero-width character before a wide one is a head by itself
+    row (linesOf 1 true (0xCC ∷ 0x81 ∷ 0xE6 ∷ 0x9C ∷ 0xA8 ∷ [])) (lines (lineOf 0 2 ∷ lineOf 2 5 ∷ [])) ∷
+    -- wrap: breaking: a head is never empty
+    row (linesOf 1 true (0xE6 ∷ 0x9C ∷ 0xA8 ∷ [])) (lines (lineOf 0 3 ∷ [])) ∷
+    -- wrap: breaking: the last head keeps the whitespace
+    row (linesOf 2 true (0x61 ∷ 0x62 ∷ 0x63 ∷ 0x20 ∷ 0x64 ∷ [])) (lines (lineOf 0 2 ∷ lineOf 2 3 ∷ lineOf 4 5 ∷ [])) ∷
+    -- wrap: width 0 does not break
+    row (linesOf 0 true (0x61 ∷ 0x62 ∷ 0x63 ∷ [])) (lines (lineOf 0 3 ∷ [])) ∷
+    -- wrap: spaces only: one empty line
+    row (linesOf 3 false (0x20 ∷ 0x20 ∷ 0x20 ∷ 0x20 ∷ [])) (lines (lineOf 0 0 ∷ [])) ∷
+    -- wrap: trailing spaces are not shown
+    row (linesOf 3 false (0x61 ∷ 0x62 ∷ 0x20 ∷ 0x20 ∷ [])) (lines (lineOf 0 2 ∷ [])) ∷
+    -- wrap: 0A at both ends
+    row (linesOf 3 false (0x0A ∷ 0x61 ∷ 0x62 ∷ 0x0A ∷ [])) (lines (lineOf 0 0 ∷ lineOf 1 3 ∷ lineOf 4 4 ∷ [])) ∷
+    -- start cutter: leading zero-width characters are removed also when nothing was cut
+    row (call (truncateStart 4 (recording [] [] [])) roomy (recording (0xCC ∷ 0x81 ∷ 0x61 ∷ []) [] [])) (outcomeOf (done (record { recording = recording (0x61 ∷ []) [] []; lines = []; number = 1 }))) ∷
+    -- start cutter: and from what was cut
+    row (call (truncateStart 1 (recording [] [] [])) roomy (recording (0x61 ∷ 0xCC ∷ 0x81 ∷ 0x62 ∷ []) [] [])) (outcomeOf (done (record { recording = recording (0x62 ∷ []) [] []; lines = []; number = 1 }))) ∷
+    -- end cutter: zero-width characters before the cut stay
+    row (call (truncateEnd 0 (recording [] [] [])) roomy (recording (0xCC ∷ 0x81 ∷ 0x61 ∷ []) [] [])) (outcomeOf (done (record { recording = recording (0xCC ∷ 0x81 ∷ []) [] []; lines = []; number = 0 }))) ∷
+    -- end cutter: not cut, no ellipsis and none of its entries, the width of the content
+    row (call (truncateEnd 4 (recording (0x2E ∷ []) (0 ∷ 2 ∷ 0 ∷ 1 ∷ []) (0x1B ∷ []))) roomy (recording (0x61 ∷ 0x62 ∷ []) [] [])) (outcomeOf (done (record { recording = recording (0x61 ∷ 0x62 ∷ []) [] []; lines = []; number = 2 }))) ∷
+    -- end cutter: the ellipsis is cut to max, the content to 0
+    row (call (truncateEnd 2 (recording (0x2E ∷ 0x2E ∷ 0x2E ∷ []) [] [])) roomy (recording (0x61 ∷ 0x62 ∷ 0x63 ∷ []) [] [])) (outcomeOf (done (record { recording = recording (0x2E ∷ 0x2E ∷ []) [] []; lines = []; number = 2 }))) ∷
+    -- start cutter: an ellipsis keeps its tail
+    row (call (truncateStart 2 (recording (0x78 ∷ 0x79 ∷ 0x7A ∷ []) [] [])) roomy (recording (0x61 ∷ 0x62 ∷ 0x63 ∷ []) [] [])) (outcomeOf (done (record { recording = recording (0x79 ∷ 0x7A ∷ []) [] []; lines = []; number = 2 }))) ∷
+    -- start cutter: a wide character that does not fit goes whole
+    row (call (truncateStart 2 (recording (0x2E ∷ []) [] [])) roomy (recording (0xE6 ∷ 0x9C ∷ 0xA8 ∷ 0xE6 ∷ 0x9C ∷ 0xA8 ∷ []) [] [])) (outcomeOf (done (record { recording = recording (0x2E ∷ []) [] []; lines = []; number = 1 }))) ∷
+    -- centred padding with count 1: all of it on the right, entries too
+    row (call (padCentered 3 (recording (0x2E ∷ []) (0 ∷ 0 ∷ 0 ∷ 1 ∷ 1 ∷ 1 ∷ 0 ∷ 0 ∷ []) (0x66 ∷ []))) roomy (recording (0x61 ∷ 0x62 ∷ []) [] [])) (outcomeOf (done (record { recording = recording (0x61 ∷ 0x62 ∷ 0x2E ∷ []) (2 ∷ 0 ∷ 0 ∷ 1 ∷ 3 ∷ 1 ∷ 0 ∷ 0 ∷ []) (0x66 ∷ []); lines = []; number = 0 }))) ∷
+    -- padding with count 0: no entry of the fill
+    row (call (padStart 2 (recording (0x2E ∷ []) (0 ∷ 0 ∷ 0 ∷ 1 ∷ 1 ∷ 1 ∷ 0 ∷ 0 ∷ []) (0x66 ∷ []))) roomy (recording (0x61 ∷ 0x62 ∷ []) [] [])) (outcomeOf (done (record { recording = recording (0x61 ∷ 0x62 ∷ []) [] []; lines = []; number = 0 }))) ∷
+    -- padding: a fill of two pieces, twice, each piece before the next
+    row (call (padStart 4 (recording (0x61 ∷ 0x62 ∷ []) (1 ∷ 2 ∷ 0 ∷ 1 ∷ []) (0x1B ∷ []))) roomy (recording (0x66 ∷ 0x69 ∷ []) [] [])) (outcomeOf (done (record { recording = recording (0x61 ∷ 0x61 ∷ 0x62 ∷ 0x62 ∷ 0x66 ∷ 0x69 ∷ []) (2 ∷ 2 ∷ 0 ∷ 1 ∷ []) (0x1B ∷ []); lines = []; number = 0 }))) ∷
+    -- padding: a wide fill counts by its times, not by its width
+    row (call (padEnd 2 (recording (0xE6 ∷ 0x9C ∷ 0xA8 ∷ []) [] [])) roomy (recording [] [] [])) (outcomeOf (done (record { recording = recording (0xE6 ∷ 0x9C ∷ 0xA8 ∷ 0xE6 ∷ 0x9C ∷ 0xA8 ∷ []) [] []; lines = []; number = 0 }))) ∷
+    -- indent: the last line without 0A, an empty line, nothing after the last 0A
+    row (call (indent (recording (0x3E ∷ 0x20 ∷ []) [] [])) roomy (recording (0x61 ∷ 0x0A ∷ 0x0A ∷ 0x62 ∷ 0x0A ∷ []) [] [])) (outcomeOf (done (record { recording = recording (0x3E ∷ 0x20 ∷ 0x61 ∷ 0x0A ∷ 0x0A ∷ 0x3E ∷ 0x20 ∷ 0x62 ∷ 0x0A ∷ []) [] []; lines = []; number = 0 }))) ∷
+    -- indent: a line of spaces is not empty
+    row (call (indent (recording (0x3E ∷ []) [] [])) roomy (recording (0x20 ∷ 0x0A ∷ []) [] [])) (outcomeOf (done (record { recording = recording (0x3E ∷ 0x20 ∷ 0x0A ∷ []) [] []; lines = []; number = 0 }))) ∷
+    -- indent: entries at the line start come before the prefix
+    row (call (indent (recording (0x3E ∷ 0x20 ∷ []) [] [])) roomy (recording (0x61 ∷ 0x0A ∷ 0x62 ∷ 0x0A ∷ []) (0 ∷ 0 ∷ 0 ∷ 1 ∷ 2 ∷ 1 ∷ 0 ∷ 0 ∷ 2 ∷ 2 ∷ 1 ∷ 2 ∷ []) (0x4C ∷ 0x07 ∷ 0x07 ∷ []))) (outcomeOf (done (record { recording = recording (0x3E ∷ 0x20 ∷ 0x61 ∷ 0x0A ∷ 0x3E ∷ 0x20 ∷ 0x62 ∷ 0x0A ∷ []) (0 ∷ 0 ∷ 0 ∷ 1 ∷ 4 ∷ 1 ∷ 0 ∷ 0 ∷ 4 ∷ 2 ∷ 1 ∷ 2 ∷ []) (0x4C ∷ 0x07 ∷ 0x07 ∷ []); lines = []; number = 0 }))) ∷
+    -- wrap: an entry in dropped white space comes after the 0A
+    row (call (wrap 2 false) roomy (recording (0x61 ∷ 0x62 ∷ 0x20 ∷ 0x20 ∷ 0x63 ∷ 0x64 ∷ []) (3 ∷ 2 ∷ 0 ∷ 1 ∷ []) (0x1B ∷ []))) (outcomeOf (done (record { recording = recording (0x61 ∷ 0x62 ∷ 0x0A ∷ 0x63 ∷ 0x64 ∷ []) (3 ∷ 2 ∷ 0 ∷ 1 ∷ []) (0x1B ∷ []); lines = (0 ∷ 2 ∷ 4 ∷ 6 ∷ []); number = 2 }))) ∷
+    -- wrap: empty data writes no byte and leaves its entries and one line
+    row (call (wrap 2 false) roomy (recording [] (0 ∷ 2 ∷ 0 ∷ 1 ∷ []) (0x1B ∷ []))) (outcomeOf (done (record { recording = recording [] (0 ∷ 2 ∷ 0 ∷ 1 ∷ []) (0x1B ∷ []); lines = (0 ∷ 0 ∷ []); number = 1 }))) ∷
+    -- replace: entries at start before the new bytes, later ones after; records at one place in list order
+    row (call (replace (replacement 1 1 0 1 ∷ replacement 1 2 1 2 ∷ []) (0x58 ∷ 0x59 ∷ [])) roomy (recording (0x61 ∷ 0x62 ∷ 0x63 ∷ []) (1 ∷ 0 ∷ 0 ∷ 1 ∷ 2 ∷ 1 ∷ 0 ∷ 0 ∷ []) (0x4C ∷ []))) (outcomeOf (done (record { recording = recording (0x61 ∷ 0x58 ∷ 0x59 ∷ 0x63 ∷ []) (1 ∷ 0 ∷ 0 ∷ 1 ∷ 3 ∷ 1 ∷ 0 ∷ 0 ∷ []) (0x4C ∷ []); lines = []; number = 0 }))) ∷
+    -- texts are copied in entry order from 0, unused text goes
+    row (call (wrap 9 false) roomy (recording [] (0 ∷ 0 ∷ 2 ∷ 1 ∷ 0 ∷ 0 ∷ 1 ∷ 1 ∷ []) (0x78 ∷ 0x79 ∷ 0x7A ∷ []))) (outcomeOf (done (record { recording = recording [] (0 ∷ 0 ∷ 0 ∷ 1 ∷ 0 ∷ 0 ∷ 1 ∷ 1 ∷ []) (0x7A ∷ 0x79 ∷ []); lines = (0 ∷ 0 ∷ []); number = 1 }))) ∷
+    -- 2: entry numbers not a multiple of 4
+    row (call (wrap 9 false) roomy (recording [] (0 ∷ 1 ∷ 0 ∷ []) [])) (outcomeOf (refused 2)) ∷
+    -- 2: entry numbers over 16,384
+    row (call (wrap 9 false) roomy (recording [] (fill 16388 1) [])) (outcomeOf (refused 2)) ∷
+    -- 5: text over 65,536
+    row (call (wrap 9 false) roomy (recording [] [] (fill 65537 0x61))) (outcomeOf (refused 5)) ∷
+    -- 3: kind over 2
+    row (call (wrap 9 false) roomy (recording [] (0 ∷ 3 ∷ 0 ∷ 0 ∷ []) [])) (outcomeOf (refused 3)) ∷
+    -- 3: a pop with a start
+    row (call (wrap 9 false) roomy (recording [] (0 ∷ 1 ∷ 1 ∷ 0 ∷ []) (0x78 ∷ []))) (outcomeOf (refused 3)) ∷
+    -- 3: a pop with a length
+    row (call (wrap 9 false) roomy (recording [] (0 ∷ 1 ∷ 0 ∷ 1 ∷ []) (0x78 ∷ []))) (outcomeOf (refused 3)) ∷
+    -- 3: an empty raw sequence
+    row (call (wrap 9 false) roomy (recording [] (0 ∷ 2 ∷ 0 ∷ 0 ∷ []) [])) (outcomeOf (refused 3)) ∷
+    -- 4: a position beyond the data
+    row (call (wrap 9 false) roomy (recording (0x61 ∷ []) (2 ∷ 1 ∷ 0 ∷ 0 ∷ []) [])) (outcomeOf (refused 4)) ∷
+    -- 4: a position that falls
+    row (call (wrap 9 false) roomy (recording (0x61 ∷ []) (1 ∷ 1 ∷ 0 ∷ 0 ∷ 0 ∷ 1 ∷ 0 ∷ 0 ∷ []) [])) (outcomeOf (refused 4)) ∷
+    -- 5: a part that passes the text's end
+    row (call (wrap 9 false) roomy (recording [] (0 ∷ 0 ∷ 1 ∷ 1 ∷ []) (0x78 ∷ []))) (outcomeOf (refused 5)) ∷
+    -- 6: an ill-formed label
+    row (call (wrap 9 false) roomy (recording [] (0 ∷ 0 ∷ 0 ∷ 1 ∷ []) (0xFF ∷ []))) (outcomeOf (refused 6)) ∷
+    -- an empty label at the text's end is no fault
+    row (call (wrap 9 false) roomy (recording [] (0 ∷ 0 ∷ 1 ∷ 0 ∷ []) (0x78 ∷ []))) (outcomeOf (done (record { recording = recording [] (0 ∷ 0 ∷ 0 ∷ 0 ∷ []) []; lines = (0 ∷ 0 ∷ []); number = 1 }))) ∷
+    -- 8: start > end
+    row (call (replace (replacement 2 1 0 0 ∷ []) (0x58 ∷ [])) roomy (recording (0x61 ∷ 0x62 ∷ 0x63 ∷ []) [] [])) (outcomeOf (refused 8)) ∷
+    -- 8: end beyond the data
+    row (call (replace (replacement 0 4 0 0 ∷ []) (0x58 ∷ [])) roomy (recording (0x61 ∷ 0x62 ∷ 0x63 ∷ []) [] [])) (outcomeOf (refused 8)) ∷
+    -- 8: start below the previous end
+    row (call (replace (replacement 0 2 0 0 ∷ replacement 1 3 0 0 ∷ []) (0x58 ∷ [])) roomy (recording (0x61 ∷ 0x62 ∷ 0x63 ∷ []) [] [])) (outcomeOf (refused 8)) ∷
+    -- 8: from > to
+    row (call (replace (replacement 0 1 1 0 ∷ []) (0x58 ∷ [])) roomy (recording (0x61 ∷ 0x62 ∷ 0x63 ∷ []) [] [])) (outcomeOf (refused 8)) ∷
+    -- 8: to beyond its text
+    row (call (replace (replacement 0 1 0 2 ∷ []) (0x58 ∷ [])) roomy (recording (0x61 ∷ 0x62 ∷ 0x63 ∷ []) [] [])) (outcomeOf (refused 8)) ∷
+    -- 9: result entries over their limit
+    row (call (truncateEnd 0 (recording [] (fill4 4096) [])) roomy (recording (0x61 ∷ []) (fill4 1) [])) (outcomeOf (refused 9)) ∷
+    -- 9: result text over its limit: parts that overlap count each
+    row (call (wrap 9 false) roomy (recording [] (0 ∷ 2 ∷ 0 ∷ 65536 ∷ 0 ∷ 2 ∷ 0 ∷ 1 ∷ []) (fill 65536 0x61))) (outcomeOf (refused 9)) ∷
+    -- 21: data buffer
+    row (call (wrap 9 false) (room 0 4 1 2) (recording (0x61 ∷ []) (0 ∷ 0 ∷ 0 ∷ 1 ∷ []) (0x78 ∷ []))) (outcomeOf (refused 21)) ∷
+    -- 22: entry buffer
+    row (call (wrap 9 false) (room 1 3 1 2) (recording (0x61 ∷ []) (0 ∷ 0 ∷ 0 ∷ 1 ∷ []) (0x78 ∷ []))) (outcomeOf (refused 22)) ∷
+    -- 23: text buffer
+    row (call (wrap 9 false) (room 1 4 0 2) (recording (0x61 ∷ []) (0 ∷ 0 ∷ 0 ∷ 1 ∷ []) (0x78 ∷ []))) (outcomeOf (refused 23)) ∷
+    -- 24: line list, two numbers a line
+    row (call (wrap 9 false) (room 1 4 1 1) (recording (0x61 ∷ []) (0 ∷ 0 ∷ 0 ∷ 1 ∷ []) (0x78 ∷ []))) (outcomeOf (refused 24)) ∷
+    -- each buffer exactly full
+    row (call (wrap 9 false) (room 1 4 1 2) (recording (0x61 ∷ []) (0 ∷ 0 ∷ 0 ∷ 1 ∷ []) (0x78 ∷ []))) (outcomeOf (done (record { recording = recording (0x61 ∷ []) (0 ∷ 0 ∷ 0 ∷ 1 ∷ []) (0x78 ∷ []); lines = (0 ∷ 1 ∷ []); number = 1 }))) ∷
+    -- 21: before 22, 23 and 24
+    row (call (wrap 9 false) (room 0 0 0 0) (recording (0x61 ∷ []) (0 ∷ 0 ∷ 0 ∷ 1 ∷ []) (0x78 ∷ []))) (outcomeOf (refused 21)) ∷
+    -- 3: 3 before 4, in one entry
+    row (call (wrap 9 false) roomy (recording [] (1 ∷ 3 ∷ 0 ∷ 0 ∷ []) [])) (outcomeOf (refused 3)) ∷
+    -- 4: 4 before 5
+    row (call (wrap 9 false) roomy (recording [] (1 ∷ 0 ∷ 1 ∷ 1 ∷ []) [])) (outcomeOf (refused 4)) ∷
+    -- 5: 5 before 6
+    row (call (wrap 9 false) roomy (recording [] (0 ∷ 0 ∷ 0 ∷ 2 ∷ []) (0xFF ∷ []))) (outcomeOf (refused 5)) ∷
+    -- 6: an entry's 6 before the next one's 3
+    row (call (wrap 9 false) roomy (recording [] (0 ∷ 0 ∷ 0 ∷ 1 ∷ 0 ∷ 3 ∷ 0 ∷ 0 ∷ []) (0xFF ∷ []))) (outcomeOf (refused 6)) ∷
+    -- 2: 2 before 5 for length
+    row (call (wrap 9 false) roomy (recording [] (1 ∷ []) (fill 65537 0x61))) (outcomeOf (refused 2)) ∷
+    -- 4: the content before the second recording
+    row (call (indent (recording [] (0 ∷ []) [])) roomy (recording [] (1 ∷ 1 ∷ 0 ∷ 0 ∷ []) [])) (outcomeOf (refused 4)) ∷
+    -- 6: the second recording, though nothing of it would be written
+    row (call (padStart 0 (recording [] (0 ∷ 0 ∷ 0 ∷ 1 ∷ []) (0xFF ∷ []))) roomy (recording (0x61 ∷ 0x62 ∷ []) [] [])) (outcomeOf (refused 6)) ∷
+    -- 8: 8 before 9
+    row (call (replace (replacement 1 0 0 0 ∷ []) (0x58 ∷ [])) roomy (recording [] (0 ∷ 2 ∷ 0 ∷ 65536 ∷ 0 ∷ 2 ∷ 0 ∷ 1 ∷ []) (fill 65536 0x61))) (outcomeOf (refused 8)) ∷
+    -- 9: 9 before 21
+    row (call (truncateEnd 0 (recording [] (fill4 4096) [])) (room 0 0 0 0) (recording (0x61 ∷ []) (fill4 1) [])) (outcomeOf (refused 9)) ∷
+    []
