@@ -146,13 +146,15 @@ module _ (ds ns ts : List ℕ) (w : ℕ) (b : Bool) (o₀ o : Out) (c : Cursor) 
     parted : r .more ≡ true → left-over ≡ turn ++ (newline ++ later)
     unfolding following
     parted m =
-        ap (λ (ls : List Line). edit (wrapOps (length ds) (c .at) ls) (left ds ns ts c)) (e ∙ rw m)
+        let k : restLines w b at (drop at ds) ≡ lineOf at (r .end) ∷ restLines w b (r .next) (drop (r .next) ds) = e ∙ rw m in
+        ap (λ (ls : List Line). edit (wrapOps (length ds) (c .at) ls) (left ds ns ts c)) k
         ∙ plan-more (length ds) (c .at) (lineOf at (r .end)) (restLines w b (r .next) (drop (r .next) ds)) (left ds ns ts c) (rest-some w b (r .next) (drop (r .next) ds))
 
     parted-last : r .more ≡ false → left-over ≡ turn ++ (tail ++ back (length ds - r .end) gone)
     unfolding following
     parted-last m =
-        ap (λ (ls : List Line). edit (wrapOps (length ds) (c .at) ls) (left ds ns ts c)) (e ∙ rw m) ∙ plan-last (length ds) (c .at) (lineOf at (r .end)) (left ds ns ts c)
+        let k : restLines w b at (drop at ds) ≡ lineOf at (r .end) ∷ [] = e ∙ rw m in
+        ap (λ (ls : List Line). edit (wrapOps (length ds) (c .at) ls) (left ds ns ts c)) k ∙ plan-last (length ds) (c .at) (lineOf at (r .end)) (left ds ns ts c)
 
     pub room-line : Fits turn o
     room-line = go (r .more) refl

@@ -18,8 +18,10 @@ use writer::settle;
 use writer::skip;
 ghost use mathlib.Core.Path.{_≡_};
 ghost use Prim.Native.Nat.{_+_, _-_, _≤_};
+ghost use mathlib.Core.List.{[], _∷_};
 ghost use lib.ListN.{length};
 ghost use Rattle.chars.specs.Leads.{leadTable};
+ghost use Rattle.buffer.specs.Place.{overAt};
 ghost use Rattle.recording.specs.Recording.{recording};
 ghost use Rattle.recording.specs.Outcome.{answerOf, returned, lentAfter};
 ghost use Rattle.writer.specs.Write.{out, add, Fits, Ready, Sound, left, blank};
@@ -47,6 +49,15 @@ fn put_line(
 {
     let c = skip(bytes, numbers, texts, content, entries, text, from, first);
     keep(bytes, numbers, texts, content, entries, text, c, end)
+}
+
+// The 0A between a line and the next.
+fn put_newline(bytes: &mut [u8], c: Cursor) -> Cursor
+    requires { ⌜ c .d + 1 ≤ length (now bytes) ⌝ }
+    ensures { λ r. ⌜ (r .at ≡ c .at) × (r .k ≡ c .k) × (r .d ≡ c .d + 1) × (r .e ≡ c .e) × (r .t ≡ c .t) ⌝ }
+    ensures { λ r. ⌜ now (bytes .exit) ≡ overAt (c .d) (0x0A ∷ []) (now (bytes .entry)) ⌝ }
+{
+    put_bytes(bytes, b"\n", 0, 1, c)
 }
 
 // All lines, joined by 0A, and the entries after the last one.
@@ -80,7 +91,7 @@ fn put_wrapped(
         if !l.more {
             break;
         }
-        c = put_bytes(bytes, b"\n", 0, 1, c);
+        c = put_newline(bytes, c);
         at = l.next;
     }
     skip(
@@ -93,4 +104,65 @@ fn put_wrapped(
         c,
         content.len(),
     )
+}
+
+// A recording whose lines are wrapped, and the lines in `lines`; the number that comes back is their count.
+pub fn write_wrapped(
+    bytes: &mut [u8],
+    numbers: &mut [u32],
+    texts: &mut [u8],
+    content: &[u8],
+    entries: &[u32],
+    text: &[u8],
+    width: u32,
+    break_words: bool,
+    lines: &mut [u32],
+) -> Answer
+    ensures { λ r. ⌜ answerOf r ≡ returned (layout.outcome (callLined (layout.wrap width «break_words») (now (bytes .entry)) (now (numbers .entry)) (now (texts .entry)) (now (lines .entry))) (recording (now (content .entry)) (now (entries .entry)) (now (text .entry)))) ⌝ }
+    ensures { λ r. ⌜ lentLined (now (bytes .exit)) (now (numbers .exit)) (now (texts .exit)) (now (lines .exit)) ≡ lentAfter (layout.outcome (callLined (layout.wrap width «break_words») (now (bytes .entry)) (now (numbers .entry)) (now (texts .entry)) (now (lines .entry))) (recording (now (content .entry)) (now (entries .entry)) (now (text .entry)))) (lentLined (now (bytes .entry)) (now (numbers .entry)) (now (texts .entry)) (now (lines .entry))) ⌝ }
+{
+    let t = LEADS;
+    let checked = check(&t, content, entries, text);
+    let size = match checked {
+        Checked::Refused(f) => {
+            return Answer::Refused(f);
+        }
+        Checked::Fine(n) => n,
+    };
+    let found = count_lines(&t, content, width, break_words);
+    let count = found.count;
+    let verdict = settle(
+        found.bytes + (count - 1),
+        entries.len(),
+        size,
+        numbers_of(count),
+        bytes.len(),
+        numbers.len(),
+        texts.len(),
+        lines.len(),
+    );
+    match verdict {
+        Settled::Refused(f) => {
+            return Answer::Refused(f);
+        }
+        Settled::Room => {}
+    }
+    let c = put_wrapped(
+        &t,
+        bytes,
+        numbers,
+        texts,
+        content,
+        entries,
+        text,
+        width,
+        break_words,
+    );
+    write_lines(&t, content, width, break_words, lines);
+    Answer::Done {
+        data: c.d,
+        entries: c.e,
+        text: c.t,
+        number: count as u64,
+    }
 }
