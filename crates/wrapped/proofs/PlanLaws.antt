@@ -66,6 +66,26 @@ plan-last n at l is =
     let r : List Item = entriesOnly (front (n - l .end) (back b (back a is))) ++ back (n - l .end) (back b (back a is)) in
     sym (append-assoc (entriesOnly (front a is)) (front b (back a is)) r)
 
+-- ── a line is written in two steps
+pub skip-fits : (a b : ℕ) (is : List Item) (o : Out) → Fits (lineItems a b is) o → Fits (entriesOnly (front a is)) o
+unfolding lineItems
+skip-fits a b is o room = fits-first (entriesOnly (front a is)) (front b (back a is)) (lineItems a b is) o refl room
+
+module _ (a b : ℕ) (is : List Item) (o o₁ : Out) (n : ℕ) (is₁ : List Item) (room : Fits (lineItems a b is) o) (v₁ : o₁ ≡ add (entriesOnly (front a is)) o) (l₁ : is₁ ≡ back a is) (en : n ≡ b) where
+  parted-line : lineItems a b is ≡ entriesOnly (front a is) ++ front n is₁
+  unfolding lineItems
+  parted-line = λ i. entriesOnly (front a is) ++ front (sym en i) (sym l₁ i)
+
+  pub keep-fits : Fits (front n is₁) o₁
+  keep-fits = fits-then (entriesOnly (front a is)) (front n is₁) (lineItems a b is) o o₁ parted-line room v₁
+
+  pub line-wrote : (o₂ : Out) → o₂ ≡ add (front n is₁) o₁ → o₂ ≡ add (lineItems a b is) o
+  line-wrote o₂ v₂ = then (entriesOnly (front a is)) (front n is₁) (lineItems a b is) o o₁ o₂ parted-line room v₁ v₂
+
+  pub line-left : (is₂ : List Item) → is₂ ≡ back n is₁ → is₂ ≡ lineLeft a b is
+  unfolding lineLeft
+  line-left is₂ e = e ∙ (λ i. back (en i) (l₁ i))
+
 rest-some : (w : ℕ) (b : Bool) (at : ℕ) (d : List ℕ) → 0 < length (restLines w b at d)
 unfolding restLines
 rest-some w b at d = some-all w b at (splitLines d) (some-lines d)
