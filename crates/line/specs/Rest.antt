@@ -1,6 +1,6 @@
 -- Wrapping read from any place on: what is left of the data, its first word, the first head of that word, and the lines that are still to come.
 -- The rest from the middle of a word is read as if it were fresh data; `proofs/RestLaws.antt` shows that the lines are the same.
-use Prim.Native.Nat.{ℕ, zero, suc, _+_}
+use Prim.Native.Nat.{ℕ, suc, _+_}
 use mathlib.Core.Bool.{Bool, true, false, cond, _&&_, _||_}
 use mathlib.Core.List.{List, [], _∷_, _++_}
 use lib.Dec.{leb, ltb, eqb}

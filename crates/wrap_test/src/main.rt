@@ -74,27 +74,81 @@ fn words() {
     wrap(b"leading spaces fit", b"  ab", 4, false, 10);
     wrap(b"trailing spaces", b"ab   ", 2, false, 10);
     wrap(b"only spaces", b"   ", 1, false, 10);
-    wrap(b"the space after a word is not counted in its own test", b"ab cd", 5, false, 10);
+    wrap(
+        b"the space after a word is not counted in its own test",
+        b"ab cd",
+        5,
+        false,
+        10,
+    );
     wrap(b"but in the next one", b"ab  cd", 5, false, 10);
     wrap(b"a word as wide as the width", b"abcd e", 4, false, 10);
     wrap(b"width 0, not broken", b"ab c  d", 0, false, 10);
-    wrap(b"width 0, zero-width word joins", b"\xCC\x81 \xCC\x81", 0, false, 10);
-    wrap(b"zero-width word after a full line", b"ab \xCC\x81", 2, false, 10);
+    wrap(
+        b"width 0, zero-width word joins",
+        b"\xCC\x81 \xCC\x81",
+        0,
+        false,
+        10,
+    );
+    wrap(
+        b"zero-width word after a full line",
+        b"ab \xCC\x81",
+        2,
+        false,
+        10,
+    );
     wrap(b"greatest width", b"ab cd", 4294967295, true, 10);
 }
 
 fn heads() {
-    wrap(b"zero-width before a wide one", b"\xCC\x81\xE6\x9C\xA8", 1, true, 10);
-    wrap(b"wide one with zero-width after it", b"\xE6\x9C\xA8\xCC\x81a", 1, true, 10);
-    wrap(b"zero-width at the end of a head", b"ab\xCC\x81cd", 2, true, 10);
-    wrap(b"wide ones in an odd width", b"\xE6\x9C\xA8\xE6\x9C\xA8\xE6\x9C\xA8", 3, true, 10);
+    wrap(
+        b"zero-width before a wide one",
+        b"\xCC\x81\xE6\x9C\xA8",
+        1,
+        true,
+        10,
+    );
+    wrap(
+        b"wide one with zero-width after it",
+        b"\xE6\x9C\xA8\xCC\x81a",
+        1,
+        true,
+        10,
+    );
+    wrap(
+        b"zero-width at the end of a head",
+        b"ab\xCC\x81cd",
+        2,
+        true,
+        10,
+    );
+    wrap(
+        b"wide ones in an odd width",
+        b"\xE6\x9C\xA8\xE6\x9C\xA8\xE6\x9C\xA8",
+        3,
+        true,
+        10,
+    );
     wrap(b"ill-formed bytes", b"\xE6\x9C\xFF\x80a", 1, true, 10);
     wrap(b"a sequence cut by a space", b"\xE6\x9C \xA8", 1, true, 10);
-    wrap(b"a sequence cut by a newline", b"\xE6\x9C\n\xA8", 1, true, 10);
+    wrap(
+        b"a sequence cut by a newline",
+        b"\xE6\x9C\n\xA8",
+        1,
+        true,
+        10,
+    );
     wrap(b"the last head and the next word", b"abc d", 2, true, 10);
     wrap(b"the last head keeps its space", b"abc  d", 3, true, 10);
     wrap(b"no empty last head", b"abcd", 2, true, 10);
-    wrap(b"a head goes on no line that has words", b"a bcd", 2, true, 10);
+    wrap(
+        b"a head goes on no line that has words",
+        b"a bcd",
+        2,
+        true,
+        10,
+    );
     wrap(b"a head joins a line where it fits", b"a bcd", 3, true, 10);
 }
 

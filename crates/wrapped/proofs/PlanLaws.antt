@@ -6,15 +6,15 @@ use mathlib.Core.Bool.{Bool, true, false}
 use mathlib.Core.Path.{_≡_, refl, sym, ap, _∙_}
 use mathlib.Core.List.{List, [], _∷_, _++_, append-assoc, append-nil}
 use lib.ListN.{length, drop, length-drop}
-use Rattle.recording.specs.Recording.{recording, entriesOf, Item, byte, push, pop, raw, items, itemsFrom, dataOf}
+use Rattle.recording.specs.Recording.{recording, entriesOf, Item, byte, push, pop, raw, itemsFrom}
 use Rattle.recording.specs.Edit.{front, back, entriesOnly, edit}
 use Rattle.recording.proofs.ItemsLaws.{data-itemsFrom}
 use Rattle.writer.specs.declared.Cursor.{Cursor}
-use Rattle.writer.specs.Write.{Out, out, add, Fits, Ready, Sound, left, blank}
+use Rattle.writer.specs.Write.{Out, add, Fits, Ready, Sound, left}
 use Rattle.writer.proofs.Laws.{fits-left, fits-right, add-append, add-long, Long}
 use Rattle.writer.proofs.Carry.{add-nil}
 use Rattle.writer.proofs.Steps.{fits-first, fits-then, then, back-all, left-start, ready-start}
-use Rattle.layout.specs.Wrap.{Line, lineOf, splitLines, linesFrom, wrapLines}
+use Rattle.layout.specs.Wrap.{Line, lineOf, splitLines}
 use Rattle.layout.specs.Layout.{wrapOps, wrap, resultItems}
 use Rattle.layout.proofs.WordLaws.{some-lines, some-all}
 use Rattle.line.specs.Rest.{restLines}

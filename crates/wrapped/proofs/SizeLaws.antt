@@ -1,16 +1,16 @@
 -- The sizes of a wrapped content: the bytes that the lines show and a 0A between neighbours; entries and texts are the content's.
 -- The idea: the lines are in order and within the data, so that each keep of the plan is as long as its line.
-use Prim.Native.Nat.{ℕ, zero, suc, _+_, _-_, _*_, _≤_, _<_}
+use Prim.Native.Nat.{ℕ, suc, _+_, _-_, _*_, _≤_, _<_}
 use native.Mathlib.Omega.{arith}
 use mathlib.Core.Bool.{Bool, true, false, cond, _||_}
-use mathlib.Core.Path.{_≡_, refl, sym, ap, _∙_}
-use mathlib.Core.List.{List, [], _∷_, _++_}
+use mathlib.Core.Path.{_≡_, refl, ap, _∙_}
+use mathlib.Core.List.{List, [], _∷_}
 use lib.Dec.{ltb, eqb}
 use lib.ListN.{length, take, drop, length-append, length-drop}
 use lib.Seq.{length-take-le}
 use borrow.Author.Tests.{ltb-false}
 use Rattle.recording.specs.Recording.{recording, Item, items, dataOf, textOf}
-use Rattle.recording.specs.Edit.{edit, editData}
+use Rattle.recording.specs.Edit.{editData}
 use Rattle.recording.specs.Refusals.{recordingFault, firstOf, refuseIf, dataLimit, entryLimit, textLimit}
 use Rattle.recording.specs.Outcome.{Room}
 use Rattle.recording.proofs.Lists.{AllOf, all-append}
@@ -20,7 +20,7 @@ use Rattle.recording.proofs.EditLaws.{edit-data}
 use Rattle.recording.proofs.SizeLaws.{entryCount, count-numbers, putCount, edit-count, putText, edit-text}
 use Rattle.writer.specs.Sizes.{sizesFault}
 use Rattle.writer.proofs.Sizes.{numbers-items, quads-of}
-use Rattle.layout.specs.Wrap.{ontoFirst, splitLines, Word, Line, shownLen, wholeLen, groupLines, wrappedLine, linesFrom, wrapLines}
+use Rattle.layout.specs.Wrap.{ontoFirst, splitLines, Word, Line, wholeLen, groupLines, wrappedLine, linesFrom, wrapLines}
 use Rattle.layout.specs.Layout.{wrapOps, wrap, resultItems}
 use Rattle.layout.proofs.StepLaws.{Ordered}
 use Rattle.layout.proofs.WordLaws.{shown-whole, wholes, wholes-fitted, wrap-ordered}

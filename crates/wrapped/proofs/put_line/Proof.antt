@@ -1,9 +1,8 @@
 use native.Mathlib.Omega.{arith}
 use borrow.Author.Needs.{needs}
 use Rattle.wrapped.proofs.PlanLaws as laws
-use lib.ListN.{length}
-use mathlib.Core.Path.{_≡_, refl, sym, ap, _∙_}
-use Prim.Native.Nat.{ℕ, _+_, _-_, _≤_}
+use mathlib.Core.Path.{ap}
+use Prim.Native.Nat.{ℕ, _-_}
 use Rattle.wrapped.proofs.put_line.Statement.{statement}
 use Rattle.wrapped.proofs.put_line.Tie as tie
 use Rattle.wrapped.proofs.put_line.Reads as reads

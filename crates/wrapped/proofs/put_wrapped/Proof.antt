@@ -1,13 +1,12 @@
 use native.Mathlib.Omega.{arith}
-use borrow.Author.Needs.{needs}
 use Rattle.wrapped.proofs.PlanLaws as laws
 use Rattle.writer.proofs.Carry.{bytes-wrote}
 use Rattle.writer.specs.Write.{out, blank}
 use borrow.Author.Tests.{not-true, not-false}
 use lib.ListN.{length}
-use mathlib.Core.Path.{_≡_, refl, sym, ap, _∙_}
-use mathlib.Core.List.{List, [], _∷_}
-use Prim.Native.Nat.{ℕ, _+_, _-_, _≤_, _<_}
+use mathlib.Core.Path.{refl, _∙_}
+use mathlib.Core.List.{[], _∷_}
+use Prim.Native.Nat.{_-_}
 use Rattle.wrapped.proofs.put_wrapped.Statement.{statement}
 use Rattle.wrapped.proofs.put_wrapped.Tie as tie
 use Rattle.wrapped.proofs.put_wrapped.Reads as reads
