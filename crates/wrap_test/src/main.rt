@@ -118,9 +118,16 @@ fn words() {
     wrap(b"a word as wide as the width", b"abcd e", 4, false, 10);
     wrap(b"width 0, not broken", b"ab c  d", 0, false, 10);
     wrap(
-        b"width 0, zero-width word joins",
+        b"width 0, zero-width words",
         b"\xCC\x81 \xCC\x81",
         0,
+        false,
+        10,
+    );
+    wrap(
+        b"zero-width word where the space fits",
+        b"a \xCC\x81",
+        2,
         false,
         10,
     );
