@@ -10,6 +10,7 @@ pub mod ByteWordLaws
 pub mod BreakLaws
 pub mod TwiceLaws
 pub mod Demand3
+pub mod WordingLaws
 pub mod PinsHold
 pub mod OutcomeLaws
 pub mod SecondLaws

@@ -1,0 +1,168 @@
+// `write_wrapped` (document 01, module 4): a recording whose lines are wrapped and joined by 0A, and the lines in a lent line list.
+// The call checks the content, counts its lines, asks whether the result fits, and only then writes. No entry is dropped.
+// An added 0A comes after the entries at the finished line's end, so it has the labels of the content byte there.
+// `bytes`, `numbers` and `texts` are the lent buffers; `content`, `entries` and `text` the recording that is wrapped.
+use chars::LEADS;
+use line::next_line;
+use recording::Answer;
+use recording::Checked;
+use recording::check;
+use wrap::count_lines;
+use wrap::numbers_of;
+use wrap::write_lines;
+use writer::Cursor;
+use writer::Settled;
+use writer::keep;
+use writer::put_bytes;
+use writer::settle;
+use writer::skip;
+ghost use mathlib.Core.Path.{_≡_};
+ghost use Prim.Native.Nat.{_+_, _-_, _≤_};
+ghost use mathlib.Core.List.{[], _∷_};
+ghost use lib.ListN.{length};
+ghost use Rattle.chars.specs.Leads.{leadTable};
+ghost use Rattle.buffer.specs.Place.{overAt};
+ghost use Rattle.recording.specs.Recording.{recording};
+ghost use Rattle.recording.specs.Outcome.{answerOf, returned, lentAfter};
+ghost use Rattle.writer.specs.Write.{out, add, Fits, Ready, Sound, left, blank};
+ghost use Rattle.layout.specs.Layout as layout;
+ghost use Rattle.wrapped.specs.Plan.{lineItems, lineLeft, lentLined, callLined};
+
+// One line: leaves the bytes up to `first` out and carries those up to `end` on.
+fn put_line(
+    bytes: &mut [u8],
+    numbers: &mut [u32],
+    texts: &mut [u8],
+    content: &[u8],
+    entries: &[u32],
+    text: &[u8],
+    from: Cursor,
+    first: usize,
+    end: usize,
+) -> Cursor
+    requires { ⌜ Ready (now content) (now entries) (now text) from ⌝ }
+    requires { ⌜ (from .at ≤ first) × (first ≤ end) × (end ≤ length (now content)) ⌝ }
+    requires { ⌜ Fits (lineItems (first - from .at) (end - first) (left (now content) (now entries) (now text) from)) (out (now bytes) (now numbers) (now texts) from) ⌝ }
+    ensures { λ r. ⌜ out (now (bytes .exit)) (now (numbers .exit)) (now (texts .exit)) r ≡ add (lineItems (first - from .at) (end - first) (left (now (content .entry)) (now (entries .entry)) (now (text .entry)) from)) (out (now (bytes .entry)) (now (numbers .entry)) (now (texts .entry)) from) ⌝ }
+    ensures { λ r. ⌜ left (now (content .entry)) (now (entries .entry)) (now (text .entry)) r ≡ lineLeft (first - from .at) (end - first) (left (now (content .entry)) (now (entries .entry)) (now (text .entry)) from) ⌝ }
+    ensures { λ r. ⌜ Ready (now (content .entry)) (now (entries .entry)) (now (text .entry)) r × (r .at ≡ end) ⌝ }
+{
+    let c = skip(bytes, numbers, texts, content, entries, text, from, first);
+    keep(bytes, numbers, texts, content, entries, text, c, end)
+}
+
+// The 0A between a line and the next.
+fn put_newline(bytes: &mut [u8], c: Cursor) -> Cursor
+    requires { ⌜ c .d + 1 ≤ length (now bytes) ⌝ }
+    ensures { λ r. ⌜ (r .at ≡ c .at) × (r .k ≡ c .k) × (r .d ≡ c .d + 1) × (r .e ≡ c .e) × (r .t ≡ c .t) ⌝ }
+    ensures { λ r. ⌜ now (bytes .exit) ≡ overAt (c .d) (0x0A ∷ []) (now (bytes .entry)) ⌝ }
+{
+    put_bytes(bytes, b"\n", 0, 1, c)
+}
+
+// All lines, joined by 0A, and the entries after the last one.
+fn put_wrapped(
+    t: &[u16; 256],
+    bytes: &mut [u8],
+    numbers: &mut [u32],
+    texts: &mut [u8],
+    content: &[u8],
+    entries: &[u32],
+    text: &[u8],
+    width: u32,
+    break_words: bool,
+) -> Cursor
+    requires { ⌜ now t ≡ leadTable ⌝ }
+    requires { ⌜ Sound (now content) (now entries) (now text) ⌝ }
+    requires { ⌜ Fits (layout.resultItems (layout.wrap width «break_words») (recording (now content) (now entries) (now text))) (blank (now bytes) (now numbers) (now texts)) ⌝ }
+    ensures { λ r. ⌜ out (now (bytes .exit)) (now (numbers .exit)) (now (texts .exit)) r ≡ add (layout.resultItems (layout.wrap width «break_words») (recording (now (content .entry)) (now (entries .entry)) (now (text .entry)))) (blank (now (bytes .entry)) (now (numbers .entry)) (now (texts .entry))) ⌝ }
+{
+    let mut c = Cursor {
+        at: 0,
+        k: 0,
+        d: 0,
+        e: 0,
+        t: 0,
+    };
+    let mut at = 0;
+    loop {
+        let l = next_line(t, content, at, width, break_words);
+        c = put_line(bytes, numbers, texts, content, entries, text, c, at, l.end);
+        if !l.more {
+            break;
+        }
+        c = put_newline(bytes, c);
+        at = l.next;
+    }
+    skip(
+        bytes,
+        numbers,
+        texts,
+        content,
+        entries,
+        text,
+        c,
+        content.len(),
+    )
+}
+
+// A recording whose lines are wrapped, and the lines in `lines`; the number that comes back is their count.
+pub fn write_wrapped(
+    bytes: &mut [u8],
+    numbers: &mut [u32],
+    texts: &mut [u8],
+    content: &[u8],
+    entries: &[u32],
+    text: &[u8],
+    width: u32,
+    break_words: bool,
+    lines: &mut [u32],
+) -> Answer
+    ensures { λ r. ⌜ answerOf r ≡ returned (layout.outcome (callLined (layout.wrap width «break_words») (now (bytes .entry)) (now (numbers .entry)) (now (texts .entry)) (now (lines .entry))) (recording (now (content .entry)) (now (entries .entry)) (now (text .entry)))) ⌝ }
+    ensures { λ r. ⌜ lentLined (now (bytes .exit)) (now (numbers .exit)) (now (texts .exit)) (now (lines .exit)) ≡ lentAfter (layout.outcome (callLined (layout.wrap width «break_words») (now (bytes .entry)) (now (numbers .entry)) (now (texts .entry)) (now (lines .entry))) (recording (now (content .entry)) (now (entries .entry)) (now (text .entry)))) (lentLined (now (bytes .entry)) (now (numbers .entry)) (now (texts .entry)) (now (lines .entry))) ⌝ }
+{
+    let t = LEADS;
+    let checked = check(&t, content, entries, text);
+    let size = match checked {
+        Checked::Refused(f) => {
+            return Answer::Refused(f);
+        }
+        Checked::Fine(n) => n,
+    };
+    let found = count_lines(&t, content, width, break_words);
+    let count = found.count;
+    let verdict = settle(
+        found.bytes + (count - 1),
+        entries.len(),
+        size,
+        numbers_of(count),
+        bytes.len(),
+        numbers.len(),
+        texts.len(),
+        lines.len(),
+    );
+    match verdict {
+        Settled::Refused(f) => {
+            return Answer::Refused(f);
+        }
+        Settled::Room => {}
+    }
+    let c = put_wrapped(
+        &t,
+        bytes,
+        numbers,
+        texts,
+        content,
+        entries,
+        text,
+        width,
+        break_words,
+    );
+    write_lines(&t, content, width, break_words, lines);
+    Answer::Done {
+        data: c.d,
+        entries: c.e,
+        text: c.t,
+        number: count as u64,
+    }
+}
