@@ -1,0 +1,104 @@
+// Replacing stretches of a recording's data (document 01, module 5): `write_replaced`.
+use layout::Replacement;
+ghost use mathlib.Core.Path.{_≡_};
+ghost use Prim.Native.Nat.{_+_, _≤_};
+ghost use mathlib.Core.Bool.{true, false};
+ghost use mathlib.Core.List.{_∷_};
+ghost use lib.ListN.{length, drop};
+ghost use Rattle.layout.specs.Layout.{badRecord};
+ghost use Rattle.replace.specs.Records.{recordsOf, capped, scan, checkStep, checkAll};
+
+// What the records so far say: whether one of them is bad, the end of the last one, and the size of the result up to there, capped above the limit.
+pub struct Scan {
+    pub bad: bool,
+    pub at: u32,
+    pub size: usize,
+}
+
+// The record whose numbers start at k: the records from k on are this one and those from k + 4 on.
+pub fn record_at(records: &[u32], k: usize) -> Replacement
+    requires { ⌜ k + 4 ≤ length (now records) ⌝ }
+    ensures { λ r. ⌜ recordsOf (drop k (now (records .entry))) ≡ r ∷ recordsOf (drop (k + 4) (now (records .entry))) ⌝ }
+{
+    Replacement {
+        start: records[k],
+        end: records[k + 1],
+        from: records[k + 2],
+        to: records[k + 3],
+    }
+}
+
+// Refusal 8 of one record after another that ends at `at`, for n data bytes and a replacement text of t bytes.
+pub fn bad_record(at: u32, x: Replacement, n: usize, t: usize) -> bool
+    ensures { λ r. ⌜ r ≡ badRecord at n t x ⌝ }
+{
+    if x.end < x.start {
+        return true;
+    }
+    if n < x.end as usize {
+        return true;
+    }
+    if x.start < at {
+        return true;
+    }
+    if x.to < x.from {
+        return true;
+    }
+    t < x.to as usize
+}
+
+// A size and some bytes more, capped above the limit of data: sizes of any number of records can be summed.
+pub fn capped_add(size: usize, more: usize) -> usize
+    ensures { λ r. ⌜ r ≡ capped (size + more) ⌝ }
+{
+    if 1048576 < size {
+        return 1048577;
+    }
+    if 1048576 - size < more {
+        return 1048577;
+    }
+    size + more
+}
+
+// One record more of the scan.
+pub fn check_step(s: Scan, x: Replacement, n: usize, t: usize) -> Scan
+    ensures { λ r. ⌜ r ≡ checkStep n t x s ⌝ }
+{
+    if s.bad {
+        return Scan {
+            bad: true,
+            at: 0,
+            size: 0,
+        };
+    }
+    if bad_record(s.at, x, n, t) {
+        return Scan {
+            bad: true,
+            at: 0,
+            size: 0,
+        };
+    }
+    let kept = capped_add(s.size, (x.start - s.at) as usize);
+    Scan {
+        bad: false,
+        at: x.end,
+        size: capped_add(kept, (x.to - x.from) as usize),
+    }
+}
+
+// The scan over all records.
+pub fn check_records(records: &[u32], n: usize, t: usize) -> Scan
+    ensures { λ r. ⌜ r ≡ checkAll n t (recordsOf (now (records .entry))) (scan false 0 0) ⌝ }
+{
+    let mut s = Scan {
+        bad: false,
+        at: 0,
+        size: 0,
+    };
+    let mut k = 0;
+    while k + 4 <= records.len() {
+        s = check_step(s, record_at(records, k), n, t);
+        k += 4;
+    }
+    s
+}
