@@ -1,5 +1,6 @@
 pub mod Wrap
 pub mod Layout
+pub mod Lent
 pub mod Pins
 pub mod Plain
 pub mod Theorem

@@ -5,3 +5,4 @@ pub mod SizeLaws
 pub mod FaultLaws
 pub mod EntryLaws
 pub mod OutcomeLaws
+pub mod CheckLaws

@@ -3,3 +3,4 @@ pub mod Coloured
 pub mod Edit
 pub mod Refusals
 pub mod Outcome
+pub mod Check
