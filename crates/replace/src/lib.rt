@@ -1,12 +1,18 @@
 // Replacing stretches of a recording's data (document 01, module 5): `write_replaced`.
 use layout::Replacement;
+use writer::Cursor;
+use writer::keep;
+use writer::put_bytes;
+use writer::skip;
 ghost use mathlib.Core.Path.{_≡_};
 ghost use Prim.Native.Nat.{_+_, _≤_};
 ghost use mathlib.Core.Bool.{true, false};
 ghost use mathlib.Core.List.{_∷_};
 ghost use lib.ListN.{length, drop};
+ghost use Rattle.writer.specs.Write.{out};
 ghost use Rattle.layout.specs.Layout.{badRecord};
 ghost use Rattle.replace.specs.Records.{recordsOf, capped, scan, checkStep, checkAll};
+ghost use Rattle.replace.specs.Turn.{Turn, Turned};
 
 // What the records so far say: whether one of them is bad, the end of the last one, and the size of the result up to there, capped above the limit.
 pub struct Scan {
@@ -101,4 +107,42 @@ pub fn check_records(records: &[u32], n: usize, t: usize) -> Scan
         k += 4;
     }
     s
+}
+
+// Writes one record: keeps the content up to its start, puts the new bytes in, and passes the stretch that goes, whose entries stay.
+pub fn write_step(
+    c: Cursor,
+    x: Replacement,
+    content: &[u8],
+    entries: &[u32],
+    text: &[u8],
+    new: &[u8],
+    bytes: &mut [u8],
+    numbers: &mut [u32],
+    texts: &mut [u8],
+) -> Cursor
+    requires { ⌜ Turn (now content) (now entries) (now text) (now new) x c (out (now bytes) (now numbers) (now texts) c) ⌝ }
+    ensures { λ r. ⌜ Turned (now (content .entry)) (now (entries .entry)) (now (text .entry)) (now (new .entry)) x c r (out (now (bytes .entry)) (now (numbers .entry)) (now (texts .entry)) c) (out (now (bytes .exit)) (now (numbers .exit)) (now (texts .exit)) r) ⌝ }
+{
+    let a = keep(
+        bytes,
+        numbers,
+        texts,
+        content,
+        entries,
+        text,
+        c,
+        x.start as usize,
+    );
+    let b = put_bytes(bytes, new, x.from as usize, x.to as usize, a);
+    skip(
+        bytes,
+        numbers,
+        texts,
+        content,
+        entries,
+        text,
+        b,
+        x.end as usize,
+    )
 }
