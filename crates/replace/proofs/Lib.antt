@@ -1,2 +1,4 @@
 pub mod RecordLaws
 pub mod TurnLaws
+pub mod PlanLaws
+pub mod ScanLaws

@@ -9,8 +9,10 @@ ghost use Prim.Native.Nat.{_+_, _≤_};
 ghost use mathlib.Core.Bool.{true, false};
 ghost use mathlib.Core.List.{_∷_};
 ghost use lib.ListN.{length, drop};
-ghost use Rattle.writer.specs.Write.{out};
-ghost use Rattle.layout.specs.Layout.{badRecord};
+ghost use Rattle.recording.specs.Recording.{recording, items};
+ghost use Rattle.recording.specs.Edit.{edit};
+ghost use Rattle.writer.specs.Write.{out, add, blank, Fits, Sound};
+ghost use Rattle.layout.specs.Layout.{badRecord, recordsFault, replaceOps};
 ghost use Rattle.replace.specs.Records.{recordsOf, capped, scan, checkStep, checkAll};
 ghost use Rattle.replace.specs.Turn.{Turn, Turned};
 
@@ -145,4 +147,45 @@ pub fn write_step(
         b,
         x.end as usize,
     )
+}
+
+// Writes all records, and the rest of the content after the last one.
+pub fn write_records(
+    bytes: &mut [u8],
+    numbers: &mut [u32],
+    texts: &mut [u8],
+    content: &[u8],
+    entries: &[u32],
+    text: &[u8],
+    records: &[u32],
+    new: &[u8],
+) -> Cursor
+    requires { ⌜ Sound (now content) (now entries) (now text) ⌝ }
+    requires { ⌜ recordsFault 0 (length (now content)) (length (now new)) (recordsOf (now records)) ≡ 0 ⌝ }
+    requires { ⌜ Fits (edit (replaceOps (now new) 0 (recordsOf (now records))) (items (recording (now content) (now entries) (now text)))) (blank (now bytes) (now numbers) (now texts)) ⌝ }
+    ensures { λ r. ⌜ out (now (bytes .exit)) (now (numbers .exit)) (now (texts .exit)) r ≡ add (edit (replaceOps (now (new .entry)) 0 (recordsOf (now (records .entry)))) (items (recording (now (content .entry)) (now (entries .entry)) (now (text .entry))))) (blank (now (bytes .entry)) (now (numbers .entry)) (now (texts .entry))) ⌝ }
+{
+    let mut c = Cursor {
+        at: 0,
+        k: 0,
+        d: 0,
+        e: 0,
+        t: 0,
+    };
+    let mut k = 0;
+    while k + 4 <= records.len() {
+        c = write_step(
+            c,
+            record_at(records, k),
+            content,
+            entries,
+            text,
+            new,
+            bytes,
+            numbers,
+            texts,
+        );
+        k += 4;
+    }
+    keep(bytes, numbers, texts, content, entries, text, c, content.len())
 }
