@@ -17,6 +17,7 @@ use Rattle.writer.proofs.Steps.{fits-first, front-all, left-start, ready-start}
 use Rattle.layout.specs.declared.Replacement.{Replacement}
 use Rattle.layout.specs.Layout.{replaceOps, badRecord, recordsFault}
 use Rattle.replace.specs.Turn.{turnItems, turnLeft, Turn, Turned}
+use Rattle.replace.proofs.RecordLaws.{no-eight}
 
 -- the entries at the offset are in front of it already
 front-back : (k : ℕ) (is : List Item) → front 0 (back k is) ≡ []
@@ -46,11 +47,6 @@ plan-next new at x xs is =
     let r : List Item = edit (replaceOps new (x .end) xs) (back (x .end - x .start) (back (x .start - at) is)) in
     rw (front-back (x .start - at) is, back-back (x .start - at) is)
     (sym (append-assoc a (p ++ b) r ∙ ap (λ (l : List Item). a ++ l) (append-assoc p b r)))
-
--- no refusal 8: the first record is not bad, and the others have none
-no-eight : (b : Bool) (m : ℕ) → cond b 8 m ≡ 0 → (b ≡ false) × (m ≡ 0)
-no-eight true m h = absurd (omega (arith, h))
-no-eight false m h = (refl, h)
 
 pub record State (ds ns ts new : List ℕ) (all rest : List Replacement) (o₀ o : Out) (c : Cursor) : Type 0 where
   pub done : List Item

@@ -1,4 +1,4 @@
--- Replacement records behind numbers, what a record that is not bad says (`Good`), capped sizes, and what the scan finds: refusal 8 of all records, and the data size of the result.
+-- Replacement records behind numbers, what a record that is not bad says (`Good`), capped sizes, and the turns of the scan over numbers.
 use mathlib.Core.Path.{_≡_, refl, sym, ap, _∙_}
 use mathlib.Core.Bool.{Bool, true, false, cond, _||_, false≢true}
 use mathlib.Core.List.{List, [], _∷_, _++_}
@@ -57,6 +57,11 @@ good at n t x h =
       part = ltb-false (x .to) (x .from) (or-right (a || b || c) d h₄);
       within = ltb-false t (x .to) (or-right (a || b || c || d) e h);
     }
+
+-- no refusal 8: the first record is not bad, and the others have none
+pub no-eight : (b : Bool) (m : ℕ) → cond b 8 m ≡ 0 → (b ≡ false) × (m ≡ 0)
+no-eight true m h = absurd (omega (arith, h))
+no-eight false m h = (refl, h)
 
 -- ── capped sizes
 pub capped-over : (n : ℕ) → 1048576 < n → capped n ≡ 1048577

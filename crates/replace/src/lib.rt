@@ -187,5 +187,14 @@ pub fn write_records(
         );
         k += 4;
     }
-    keep(bytes, numbers, texts, content, entries, text, c, content.len())
+    keep(
+        bytes,
+        numbers,
+        texts,
+        content,
+        entries,
+        text,
+        c,
+        content.len(),
+    )
 }

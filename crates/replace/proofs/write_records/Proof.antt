@@ -16,6 +16,7 @@ use Rattle.replace.proofs.write_records.Lts as lts
 use Rattle.replace.proofs.record_at.Reads as record-at-reads
 use Rattle.replace.proofs.write_step.Reads as write-step-reads
 use Rattle.writer.proofs.keep.Reads as keep-reads
+
 -- <pre>
 -- fewer than four numbers are left
 none-left : (ns : List ℕ) (k : ℕ) → length ns < k + 4 → recordsOf (drop k ns) ≡ []
