@@ -1,8 +1,15 @@
 // Replacing stretches of a recording's data (document 01, module 5): `write_replaced`.
+use chars::LEADS;
 use layout::Replacement;
+use recording::Answer;
+use recording::Checked;
+use recording::Refusal;
+use recording::check;
 use writer::Cursor;
+use writer::Settled;
 use writer::keep;
 use writer::put_bytes;
+use writer::settle;
 use writer::skip;
 ghost use mathlib.Core.Path.{_≡_};
 ghost use Prim.Native.Nat.{_+_, _≤_};
@@ -11,8 +18,10 @@ ghost use mathlib.Core.List.{_∷_};
 ghost use lib.ListN.{length, drop};
 ghost use Rattle.recording.specs.Recording.{recording, items};
 ghost use Rattle.recording.specs.Edit.{edit};
+ghost use Rattle.recording.specs.Outcome.{answerOf, returned, lentAfter};
 ghost use Rattle.writer.specs.Write.{out, add, blank, Fits, Sound};
-ghost use Rattle.layout.specs.Layout.{badRecord, recordsFault, replaceOps};
+ghost use Rattle.layout.specs.Layout.{badRecord, recordsFault, replaceOps, replace, outcome};
+ghost use Rattle.layout.specs.Lent.{lentOf, callOn};
 ghost use Rattle.replace.specs.Records.{recordsOf, capped, scan, checkStep, checkAll};
 ghost use Rattle.replace.specs.Turn.{Turn, Turned};
 
@@ -151,14 +160,14 @@ pub fn write_step(
 
 // Writes all records, and the rest of the content after the last one.
 pub fn write_records(
-    bytes: &mut [u8],
-    numbers: &mut [u32],
-    texts: &mut [u8],
     content: &[u8],
     entries: &[u32],
     text: &[u8],
     records: &[u32],
     new: &[u8],
+    bytes: &mut [u8],
+    numbers: &mut [u32],
+    texts: &mut [u8],
 ) -> Cursor
     requires { ⌜ Sound (now content) (now entries) (now text) ⌝ }
     requires { ⌜ recordsFault 0 (length (now content)) (length (now new)) (recordsOf (now records)) ≡ 0 ⌝ }
@@ -197,4 +206,58 @@ pub fn write_records(
         c,
         content.len(),
     )
+}
+
+// Writes the content with each record's stretch gone and its part of the replacement text `new` in its stead. A record is four numbers; a rest of fewer is none.
+pub fn write_replaced(
+    content: &[u8],
+    entries: &[u32],
+    text: &[u8],
+    records: &[u32],
+    new: &[u8],
+    bytes: &mut [u8],
+    numbers: &mut [u32],
+    texts: &mut [u8],
+) -> Answer
+    ensures { λ r. ⌜ answerOf r ≡ returned (outcome (callOn (replace (recordsOf (now (records .entry))) (now (new .entry))) (now (bytes .entry)) (now (numbers .entry)) (now (texts .entry))) (recording (now (content .entry)) (now (entries .entry)) (now (text .entry)))) ⌝ }
+    ensures { λ r. ⌜ now (bytes .exit) ≡ lentAfter (outcome (callOn (replace (recordsOf (now (records .entry))) (now (new .entry))) (now (bytes .entry)) (now (numbers .entry)) (now (texts .entry))) (recording (now (content .entry)) (now (entries .entry)) (now (text .entry)))) (lentOf (now (bytes .entry)) (now (numbers .entry)) (now (texts .entry))) .dataBytes ⌝ }
+    ensures { λ r. ⌜ now (numbers .exit) ≡ lentAfter (outcome (callOn (replace (recordsOf (now (records .entry))) (now (new .entry))) (now (bytes .entry)) (now (numbers .entry)) (now (texts .entry))) (recording (now (content .entry)) (now (entries .entry)) (now (text .entry)))) (lentOf (now (bytes .entry)) (now (numbers .entry)) (now (texts .entry))) .entryNumbers ⌝ }
+    ensures { λ r. ⌜ now (texts .exit) ≡ lentAfter (outcome (callOn (replace (recordsOf (now (records .entry))) (now (new .entry))) (now (bytes .entry)) (now (numbers .entry)) (now (texts .entry))) (recording (now (content .entry)) (now (entries .entry)) (now (text .entry)))) (lentOf (now (bytes .entry)) (now (numbers .entry)) (now (texts .entry))) .text ⌝ }
+{
+    let t = LEADS;
+    let checked = check(&t, content, entries, text);
+    let size = match checked {
+        Checked::Refused(f) => {
+            return Answer::Refused(f);
+        }
+        Checked::Fine(n) => n,
+    };
+    let s = check_records(records, content.len(), new.len());
+    if s.bad {
+        return Answer::Refused(Refusal::ReplacementRange);
+    }
+    let d = capped_add(s.size, content.len() - s.at as usize);
+    let verdict = settle(
+        d,
+        entries.len(),
+        size,
+        0,
+        bytes.len(),
+        numbers.len(),
+        texts.len(),
+        0,
+    );
+    match verdict {
+        Settled::Refused(f) => {
+            return Answer::Refused(f);
+        }
+        Settled::Room => {}
+    }
+    let c = write_records(content, entries, text, records, new, bytes, numbers, texts);
+    Answer::Done {
+        data: c.d,
+        entries: c.e,
+        text: c.t,
+        number: 0,
+    }
 }

@@ -25,11 +25,11 @@ none-left ns k h = records-few (drop k ns) (omega (arith, length-drop k ns))
 -- </pre>
 
 abbrev Inv-loop : tie.InvT-loop
-Inv-loop bytes₀ numbers₀ texts₀ content entries text records new c₀ k₀ bytes numbers texts c k =
+Inv-loop content entries text records new bytes₀ numbers₀ texts₀ c₀ k₀ bytes numbers texts c k =
     (k ≤ length records) × State content entries text new (recordsOf records) (recordsOf (drop k records)) (blank bytes₀ numbers₀ texts₀) (out bytes numbers texts c) c
 
 abbrev μ-loop : tie.MeasureT-loop
-μ-loop bytes₀ numbers₀ texts₀ content entries text records new c₀ k₀ bytes numbers texts c k =
+μ-loop content entries text records new bytes₀ numbers₀ texts₀ c₀ k₀ bytes numbers texts c k =
     length records - k
 
 -- src/lib.rt:176:5
