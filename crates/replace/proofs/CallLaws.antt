@@ -2,8 +2,8 @@
 -- and none comes in, so the entry numbers and the text are the content's; the data is the scan's size.
 use mathlib.Core.Path.{_≡_, refl, sym, ap, _∙_}
 use mathlib.Core.Bool.{Bool, true, false, cond, false≢true}
-use mathlib.Core.List.{List, [], _∷_, _++_}
-use Prim.Native.Nat.{ℕ, zero, suc, _+_, _-_, _*_, _%_, _≤_}
+use mathlib.Core.List.{List, [], _∷_}
+use Prim.Native.Nat.{ℕ, _+_, _-_, _*_, _≤_}
 use native.Mathlib.Omega.{arith}
 use lib.ListN.{length}
 use Rattle.buffer.specs.Place.{part}
@@ -13,11 +13,11 @@ use Rattle.recording.specs.declared.Checked.{Checked}
 use Rattle.recording.specs.declared.Checked.the-variants as CV
 use Rattle.recording.specs.declared.Refusal.{Refusal}
 use Rattle.recording.specs.declared.Refusal.the-variants.{ReplacementRange}
-use Rattle.recording.specs.Recording.{Recording, recording, Item, byteItems, items, dataOf, textOf}
+use Rattle.recording.specs.Recording.{Recording, recording, Item, items, dataOf, textOf}
 use Rattle.recording.specs.Edit.{edit, editData}
 use Rattle.recording.specs.Refusals.{numberOf, recordingFault}
 use Rattle.recording.specs.Check.{faultOf, Counted}
-use Rattle.recording.specs.Outcome.{Outcome, refused, done, Lent, lentAfter, returned, answerOf}
+use Rattle.recording.specs.Outcome.{Outcome, refused, Lent, lentAfter, returned, answerOf}
 use Rattle.recording.proofs.ItemsLaws.{data-items}
 use Rattle.recording.proofs.EditLaws.{edit-data}
 use Rattle.recording.proofs.SizeLaws.{entryCount, count-numbers, edit-count, edit-text, putCount, putText}
@@ -31,7 +31,7 @@ use Rattle.writer.proofs.Carry.{text-none, count-none}
 use Rattle.writer.proofs.Sizes.{numbers-items, quads-of}
 use Rattle.writer.proofs.Steps.{sound}
 use Rattle.layout.specs.declared.Replacement.{Replacement}
-use Rattle.layout.specs.Layout.{replaceOps, recordsFault, Job, replace, resultItems, linesLeft, number, secondFault, replacementFault, outcome}
+use Rattle.layout.specs.Layout.{replaceOps, recordsFault, replace, resultItems, linesLeft, number, secondFault, replacementFault, outcome}
 use Rattle.layout.specs.Wrap.{lineNumbers}
 use Rattle.layout.specs.Lent.{lentOf, callOn}
 use Rattle.layout.proofs.OutcomeLaws.{content-stops, records-stop, sizes-stop, accepted, has-room, refused-call, done-call}

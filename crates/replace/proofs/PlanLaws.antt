@@ -1,16 +1,16 @@
 -- The writing of all records. `State`: what is written and what the records that are left make of the rest of the content are together the whole result; a turn moves its items from one to the other.
 use mathlib.Core.Path.{_≡_, refl, sym, ap, _∙_}
-use mathlib.Core.Bool.{Bool, true, false, cond}
+use mathlib.Core.Bool.{false}
 use mathlib.Core.List.{List, [], _∷_, _++_, append-assoc, append-nil}
 use Prim.Native.Nat.{ℕ, zero, suc, _+_, _-_, _≤_}
 use native.Mathlib.Omega.{arith}
 use lib.ListN.{length, drop, length-drop}
 use Rattle.buffer.specs.Place.{part}
-use Rattle.recording.specs.Recording.{recording, Item, byte, push, pop, raw, byteItems, items, dataOf, entriesOf}
+use Rattle.recording.specs.Recording.{recording, Item, byte, push, pop, raw, byteItems, items, entriesOf}
 use Rattle.recording.specs.Edit.{front, back, entriesOnly, edit}
 use Rattle.recording.proofs.ItemsLaws.{data-itemsFrom}
 use Rattle.writer.specs.declared.Cursor.{Cursor}
-use Rattle.writer.specs.Write.{Out, out, add, Fits, Sound, Ready, left}
+use Rattle.writer.specs.Write.{Out, add, Fits, Sound, Ready, left}
 use Rattle.writer.proofs.Laws.{fits-left, fits-right, add-append, add-long, Long}
 use Rattle.writer.proofs.Carry.{add-nil, valid-in}
 use Rattle.writer.proofs.Steps.{fits-first, front-all, left-start, ready-start}

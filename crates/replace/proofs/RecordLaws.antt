@@ -1,19 +1,19 @@
 -- Replacement records behind numbers, what a record that is not bad says (`Good`), capped sizes, and the turns of the scan over numbers.
 use mathlib.Core.Path.{_≡_, refl, sym, ap, _∙_}
-use mathlib.Core.Bool.{Bool, true, false, cond, _||_, false≢true}
-use mathlib.Core.List.{List, [], _∷_, _++_}
-use Prim.Native.Nat.{ℕ, zero, suc, _+_, _-_, _≤_, _<_}
+use mathlib.Core.Bool.{Bool, true, false, cond, _||_}
+use mathlib.Core.List.{List, [], _∷_}
+use Prim.Native.Nat.{ℕ, suc, _+_, _-_, _≤_, _<_}
 use native.Mathlib.Numerals.{add-one, add-two, add-three, add-four}
 use native.Mathlib.Omega.{arith}
 use lib.Dec.{ltb}
 use lib.ListN.{length, drop, getD}
 use lib.Seq.{drop-cons}
-use borrow.Author.Tests.{ltb-true, ltb-false, lt-ltb, le-ltb}
+use borrow.Author.Tests.{ltb-false, lt-ltb, le-ltb}
 use Rattle.recording.proofs.Lists.{or-left, or-right}
 use Rattle.layout.specs.declared.Replacement.{Replacement}
-use Rattle.layout.specs.Layout.{badRecord, recordsFault}
+use Rattle.layout.specs.Layout.{badRecord}
 use Rattle.replace.specs.declared.Scan.{Scan}
-use Rattle.replace.specs.Records.{replacement, recordsOf, capped, scan, checkStep, checkAll}
+use Rattle.replace.specs.Records.{replacement, recordsOf, capped, checkStep, checkAll}
 
 -- ── records behind numbers
 pub records-next : (ns : List ℕ) (k : ℕ) → k + 4 ≤ length ns

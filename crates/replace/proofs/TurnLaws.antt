@@ -1,5 +1,5 @@
 -- One record's turn: its three steps (keep up to the start, put the new bytes, pass the stretch that goes) write `turnItems`, each with the room that the whole turn has.
-use mathlib.Core.Path.{_≡_, refl, sym, ap, _∙_}
+use mathlib.Core.Path.{_≡_, refl, ap, _∙_}
 use mathlib.Core.List.{List, _++_}
 use Prim.Native.Nat.{ℕ, _+_, _-_, _≤_}
 use native.Mathlib.Omega.{arith}

@@ -1,4 +1,6 @@
 // Replacing stretches of a recording's data (document 01, module 5): `write_replaced`.
+// All records are scanned first, for refusal 8 and for the size of the result, and written only then. Both scans hand each record, with a state by value, to a step.
+// What the call answers and leaves is the `outcome` of the job `replace` in `layout/specs/Layout.antt`; the records behind the numbers are `recordsOf` of `specs/Records.antt`.
 use chars::LEADS;
 use layout::Replacement;
 use recording::Answer;
@@ -13,7 +15,7 @@ use writer::settle;
 use writer::skip;
 ghost use mathlib.Core.Path.{_≡_};
 ghost use Prim.Native.Nat.{_+_, _≤_};
-ghost use mathlib.Core.Bool.{true, false};
+ghost use mathlib.Core.Bool.{false};
 ghost use mathlib.Core.List.{_∷_};
 ghost use lib.ListN.{length, drop};
 ghost use Rattle.recording.specs.Recording.{recording, items};
@@ -112,10 +114,10 @@ pub fn check_records(records: &[u32], n: usize, t: usize) -> Scan
         at: 0,
         size: 0,
     };
-    let mut k = 0;
-    while k + 4 <= records.len() {
-        s = check_step(s, record_at(records, k), n, t);
-        k += 4;
+    let mut i = 0;
+    while i + 4 <= records.len() {
+        s = check_step(s, record_at(records, i), n, t);
+        i += 4;
     }
     s
 }

@@ -1,4 +1,4 @@
-use native.Mathlib.Omega.{arith}
+-- `bad_record` is `badRecord`: its five tests are that definition's, in the same order.
 use borrow.Author.Needs.{needs}
 use borrow.Author.Tests.{lt-ltb, le-ltb}
 use Rattle.replace.proofs.bad_record.Statement.{statement}

@@ -1,3 +1,4 @@
+-- `capped_add` is the capped sum: both early returns are above the limit, and what is left is within it.
 use native.Mathlib.Omega.{arith}
 use borrow.Author.Needs.{needs}
 use Rattle.replace.proofs.RecordLaws.{capped-over, capped-in}

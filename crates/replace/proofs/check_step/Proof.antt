@@ -1,3 +1,4 @@
+-- `check_step` is `checkStep`; a record that is not bad (`good`) has no difference below 0.
 use native.Mathlib.Omega.{arith}
 use borrow.Author.Needs.{needs}
 use Rattle.replace.proofs.RecordLaws.{good}

@@ -1,4 +1,4 @@
-use native.Mathlib.Omega.{arith}
+-- `record_at` reads four numbers; by `records-next` they are the next record.
 use borrow.Author.Needs.{needs}
 use Rattle.replace.proofs.RecordLaws.{records-next}
 use Rattle.replace.proofs.record_at.Statement.{statement}

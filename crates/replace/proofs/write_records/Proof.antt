@@ -1,10 +1,10 @@
+-- `write_records` writes the whole result. Invariant: `PlanLaws.State`, what is written and what is to come are the result.
 use native.Mathlib.Omega.{arith}
 use borrow.Author.Needs.{needs}
 use mathlib.Core.Path.{_≡_, refl, _∙_}
 use mathlib.Core.List.{List, []}
 use Prim.Native.Nat.{ℕ, _+_, _-_, _≤_, _<_}
 use lib.ListN.{length, drop, length-drop}
-use Rattle.layout.specs.declared.Replacement.{Replacement}
 use Rattle.writer.specs.Write.{out, blank}
 use Rattle.replace.specs.Records.{recordsOf}
 use Rattle.replace.proofs.RecordLaws.{records-few}
@@ -17,12 +17,9 @@ use Rattle.replace.proofs.record_at.Reads as record-at-reads
 use Rattle.replace.proofs.write_step.Reads as write-step-reads
 use Rattle.writer.proofs.keep.Reads as keep-reads
 
--- <pre>
 -- fewer than four numbers are left
 none-left : (ns : List ℕ) (k : ℕ) → length ns < k + 4 → recordsOf (drop k ns) ≡ []
 none-left ns k h = records-few (drop k ns) (omega (arith, length-drop k ns))
-
--- </pre>
 
 abbrev Inv-loop : tie.InvT-loop
 Inv-loop content entries text records new bytes₀ numbers₀ texts₀ c₀ k₀ bytes numbers texts c k =

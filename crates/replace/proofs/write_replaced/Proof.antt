@@ -1,4 +1,4 @@
-use native.Mathlib.Omega.{arith}
+-- `write_replaced` answers and leaves what the outcome has: at each return, the law of `CallLaws` for the place where it stops.
 use borrow.Author.Needs.{needs}
 use Rattle.chars.specs.Leads.{leadTable}
 use Rattle.replace.specs.Records.{recordsOf}

@@ -1,7 +1,7 @@
+-- `write_step` makes one turn: keep, put_bytes and skip write the three parts of `turnItems`, each in the room that the turn has (`TurnLaws`).
 use native.Mathlib.Omega.{arith}
 use borrow.Author.Needs.{needs}
 use mathlib.Core.Path.{_∙_}
-use Rattle.writer.specs.Write.{out}
 use Rattle.buffer.specs.Place.{part}
 use Rattle.buffer.proofs.Laws.{length-part}
 use Rattle.replace.proofs.TurnLaws.{is-good, room-keep, room-put, room-skip, ready-skip, turned, bytes-room, part-wrote}

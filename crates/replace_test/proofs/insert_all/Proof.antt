@@ -1,3 +1,4 @@
+-- The loop stays within the numbers: four are left in each turn, and stores keep the length.
 use native.Mathlib.Omega.{arith}
 use borrow.Author.Needs.{needs}
 use lib.ListN.{length, length-set}

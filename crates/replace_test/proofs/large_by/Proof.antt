@@ -1,3 +1,4 @@
+-- The four stores stay within the numbers, whose length they keep.
 use native.Mathlib.Omega.{arith}
 use borrow.Author.Needs.{needs}
 use lib.ListN.{length-set}

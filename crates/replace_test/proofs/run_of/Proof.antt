@@ -1,4 +1,4 @@
-use native.Mathlib.Omega.{arith}
+-- The loop stays within the bytes.
 use borrow.Author.Needs.{needs}
 use lib.ListN.{length}
 use Prim.Native.Nat.{_-_, _≤_}
