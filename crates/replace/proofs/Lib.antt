@@ -1,0 +1,5 @@
+pub mod RecordLaws
+pub mod TurnLaws
+pub mod PlanLaws
+pub mod ScanLaws
+pub mod CallLaws

@@ -1,0 +1,44 @@
+-- `bad_record` is `badRecord`: its five tests are that definition's, in the same order.
+use borrow.Author.Needs.{needs}
+use borrow.Author.Tests.{lt-ltb, le-ltb}
+use Rattle.replace.proofs.bad_record.Statement.{statement}
+use Rattle.replace.proofs.bad_record.Tie as tie
+use Rattle.replace.proofs.bad_record.Reads as reads
+use Rattle.replace.proofs.bad_record.Lts as lts
+
+-- src/lib.rt:36:9
+returns : tie.Need-returns
+returns c =
+    rw (lt-ltb _ _ (c .if1 .taken))
+
+-- src/lib.rt:38:12
+cast-if2 : tie.Need-cast-if2
+cast-if2 c = search needs
+
+-- src/lib.rt:39:9
+returns-2 : tie.Need-returns-2
+returns-2 c =
+    rw (le-ltb _ _ (c .before .before .if1 .left), lt-ltb _ _ (c .if2 .taken))
+
+-- src/lib.rt:42:9
+returns-3 : tie.Need-returns-3
+returns-3 c =
+    rw (le-ltb _ _ (c .before .before .before .before .if1 .left), le-ltb _ _ (c .before .before .if2 .left), lt-ltb _ _ (c .if3 .taken))
+
+-- src/lib.rt:45:9
+returns-4 : tie.Need-returns-4
+returns-4 c =
+    rw (le-ltb _ _ (c .before .before .before .before .before .before .if1 .left), le-ltb _ _ (c .before .before .before .before .if2 .left), le-ltb _ _ (c .before .before .if3 .left), lt-ltb _ _ (c .if4 .taken))
+
+-- src/lib.rt:47:9
+cast-result : tie.Need-cast-result
+cast-result c = search needs
+
+-- src/lib.rt:32:1
+returns-5 : tie.Need-returns-5
+returns-5 c =
+    rw (le-ltb _ _ (c .before .before .before .before .before .before .before .if1 .left), le-ltb _ _ (c .before .before .before .before .before .if2 .left), le-ltb _ _ (c .before .before .before .if3 .left), le-ltb _ _ (c .before .if4 .left))
+
+pub bad-record-spec : {M : Type 1} → statement M
+bad-record-spec =
+    tie.close (tie.spec returns cast-if2 returns-2 returns-3 returns-4 cast-result returns-5)

@@ -1,0 +1,107 @@
+-- `write_step` makes one turn: keep, put_bytes and skip write the three parts of `turnItems`, each in the room that the turn has (`TurnLaws`).
+use native.Mathlib.Omega.{arith}
+use borrow.Author.Needs.{needs}
+use mathlib.Core.Path.{_∙_}
+use Rattle.buffer.specs.Place.{part}
+use Rattle.buffer.proofs.Laws.{length-part}
+use Rattle.replace.proofs.TurnLaws.{is-good, room-keep, room-put, room-skip, ready-skip, turned, bytes-room, part-wrote}
+use Rattle.replace.proofs.write_step.Statement.{statement}
+use Rattle.replace.proofs.write_step.Tie as tie
+use Rattle.replace.proofs.write_step.Reads as reads
+use Rattle.replace.proofs.write_step.Lts as lts
+use Rattle.writer.proofs.keep.Reads as keep-reads
+use Rattle.writer.proofs.put_bytes.Reads as put-bytes-reads
+use Rattle.writer.proofs.skip.Reads as skip-reads
+
+-- src/lib.rt:135:9
+cast-keep : tie.Need-cast-keep
+cast-keep c = search needs
+
+-- src/lib.rt:127:9
+keep-requires : tie.Need-keep-requires
+keep-requires c κs =
+    let a = c .before .before .before .before .before .before .before .before .before .before .before .args in
+    let p = c .before .before .before .before .before .before .before .before .before .before .before .pre in
+    let g = is-good (a .content .now) (a .entries .now) (a .text .now) (a .new .now) (a .x) (a .c) _ p in
+    (p .ready, ((g .low, omega (arith, g .order, g .high)), room-keep (a .content .now) (a .entries .now) (a .text .now) (a .new .now) (a .x) (a .c) _ p))
+
+-- src/lib.rt:137:35
+cast-put-bytes : tie.Need-cast-put-bytes
+cast-put-bytes c = search needs
+
+-- src/lib.rt:137:52
+cast-put-bytes-2 : tie.Need-cast-put-bytes-2
+cast-put-bytes-2 c = search needs
+
+-- src/lib.rt:137:9
+put-bytes-requires : tie.Need-put-bytes-requires
+put-bytes-requires c κs =
+    let a = c .before .before .before .before .before .before .before .before .before .before .before .before .before .before .before .before .before .before .before .before .before .args in
+    let p = c .before .before .before .before .before .before .before .before .before .before .before .before .before .before .before .before .before .before .before .before .before .pre in
+    let k = c .before .before .before .before .before .before .before .before .before .keep in
+    let g = is-good (a .content .now) (a .entries .now) (a .text .now) (a .new .now) (a .x) (a .c) _ p in
+    let f = room-put (a .content .now) (a .entries .now) (a .text .now) (a .new .now) (a .x) (a .c) _ p _ (k .ensures .0) in
+    (g .part, g .within, bytes-room _ _ _ (part (a .x .from) (a .x .to) (a .new .now)) (k .result) _ (length-part (a .x .from) (a .x .to) (a .new .now) (g .within)) f)
+
+-- src/lib.rt:146:9
+cast-skip : tie.Need-cast-skip
+cast-skip c = search needs
+
+-- src/lib.rt:138:5
+skip-requires : tie.Need-skip-requires
+skip-requires c κs =
+    let a = c .before .before .before .before .before .before .before .before .before .before .before .before .before .before .before .before .before .before .before .before .before .before .before .before .before .before .before .before .args in
+    let p = c .before .before .before .before .before .before .before .before .before .before .before .before .before .before .before .before .before .before .before .before .before .before .before .before .before .before .before .before .pre in
+    let k = c .before .before .before .before .before .before .before .before .before .before .before .before .before .before .before .before .keep in
+    let b = c .before .before .before .before .before .before .put-bytes in
+    let g = is-good (a .content .now) (a .entries .now) (a .text .now) (a .new .now) (a .x) (a .c) _ p in
+    let w = part-wrote _ _ _ _ (a .new .now) (k .result) (b .result) (a .x .from) (a .x .to) (g .within) (b .ensures .1) (b .ensures .0) in (
+      ready-skip (a .content .now) (a .entries .now) (a .text .now) (a .new .now) (a .x) (a .c) _ p _ (k .ensures .0) _ w (k .result) (b .result) (b .ensures .0 .0) (b .ensures .0 .1) (k .ensures .1 .1 .1) (k .ensures .1 .0) (k .ensures .1 .1 .0),
+      (
+        (omega (arith, b .ensures .0 .0, k .ensures .1 .1 .1, g .order), g .high),
+        room-skip (a .content .now) (a .entries .now) (a .text .now) (a .new .now) (a .x) (a .c) _ p _ (k .ensures .0) _ w (k .result) (b .result) (b .ensures .0 .0) (b .ensures .0 .1) (k .ensures .1 .1 .1) (k .ensures .1 .0),
+      ),
+    )
+
+-- src/lib.rt:113:1
+same-length : tie.Need-same-length
+same-length c =
+    c .before .before .before .before .before .before .skip .kept .0 ∙ c .before .before .before .before .before .before .before .before .before .before .before .before .before .put-bytes .kept .0 ∙ c .before .before .before .before .before .before .before .before .before .before .before .before .before .before .before .before .before .before .before .before .before .before .before .keep .kept .0
+
+-- src/lib.rt:113:1
+same-length-2 : tie.Need-same-length-2
+same-length-2 c =
+    c .before .before .before .before .before .before .skip .kept .1 .0 ∙ c .before .before .before .before .before .before .before .before .before .before .before .before .before .before .before .before .before .before .before .before .before .before .before .keep .kept .1 .0
+
+-- src/lib.rt:113:1
+same-length-3 : tie.Need-same-length-3
+same-length-3 c =
+    c .before .before .before .before .before .before .skip .kept .1 .1 .0 ∙ c .before .before .before .before .before .before .before .before .before .before .before .before .before .before .before .before .before .before .before .before .before .before .before .keep .kept .1 .1 .0
+
+-- src/lib.rt:113:1
+returns : tie.Need-returns
+returns c =
+    let a = c .before .before .before .before .before .before .before .before .before .before .before .before .before .before .before .before .before .before .before .before .before .before .before .before .before .before .before .before .before .before .before .before .before .before .before .args in
+    let p = c .before .before .before .before .before .before .before .before .before .before .before .before .before .before .before .before .before .before .before .before .before .before .before .before .before .before .before .before .before .before .before .before .before .before .before .pre in
+    let k = c .before .before .before .before .before .before .before .before .before .before .before .before .before .before .before .before .before .before .before .before .before .before .before .keep in
+    let b = c .before .before .before .before .before .before .before .before .before .before .before .before .before .put-bytes in
+    let s = c .before .before .before .before .before .before .skip in
+    let g = is-good (a .content .now) (a .entries .now) (a .text .now) (a .new .now) (a .x) (a .c) _ p in
+    let w = part-wrote _ _ _ _ (a .new .now) (k .result) (b .result) (a .x .from) (a .x .to) (g .within) (b .ensures .1) (b .ensures .0) in
+    turned (a .content .now) (a .entries .now) (a .text .now) (a .new .now) (a .x) (a .c) _ p _ (k .ensures .0) _ w (k .result) (b .result) (b .ensures .0 .0) (b .ensures .0 .1) (k .ensures .1 .1 .1) (k .ensures .1 .0) _ _ (s .ensures .0) (s .ensures .1 .0) (s .ensures .1 .1 .0) (s .ensures .1 .1 .1)
+
+pub write-step-spec : {M : Type 1} → statement M
+write-step-spec =
+    tie.close
+    (tie.spec
+    cast-keep
+    keep-requires
+    cast-put-bytes
+    cast-put-bytes-2
+    put-bytes-requires
+    cast-skip
+    skip-requires
+    same-length
+    same-length-2
+    same-length-3
+    returns)

@@ -1,0 +1,58 @@
+-- The loop stays within the bytes.
+use borrow.Author.Needs.{needs}
+use lib.ListN.{length}
+use Prim.Native.Nat.{_-_, _≤_}
+use Rattle.replace_test.proofs.run_of.Statement.{statement}
+use Rattle.replace_test.proofs.run_of.Tie as tie
+use Rattle.replace_test.proofs.run_of.Reads as reads
+use Rattle.replace_test.proofs.run_of.Lts as lts
+
+abbrev Inv-loop : tie.InvT-loop
+Inv-loop s b i₀ i =
+    i ≤ length s
+
+abbrev μ-loop : tie.MeasureT-loop
+μ-loop s b i₀ i =
+    length s - i
+
+-- src/main.rt:273:5
+loop-holds : tie.Need-loop-holds Inv-loop μ-loop
+loop-holds c = search needs
+
+-- src/main.rt:274:12
+shared-slice-read-if1 : tie.Need-shared-slice-read-if1 Inv-loop μ-loop
+shared-slice-read-if1 c = search needs
+
+-- src/main.rt:275:13
+returns : tie.Need-returns Inv-loop μ-loop
+returns c = search needs
+
+-- src/main.rt:277:9
+add-i : tie.Need-add-i Inv-loop μ-loop
+add-i c = search needs
+
+-- src/main.rt:273:5
+loop-less : tie.Need-loop-less Inv-loop μ-loop
+loop-less c = search needs
+
+-- src/main.rt:273:5
+loop-again : tie.Need-loop-again Inv-loop μ-loop
+loop-again c = search needs
+
+-- src/main.rt:271:1
+returns-2 : tie.Need-returns-2 Inv-loop μ-loop
+returns-2 c = search needs
+
+pub run-of-spec : {M : Type 1} → statement M
+run-of-spec =
+    tie.close
+    (tie.spec
+    Inv-loop
+    μ-loop
+    loop-holds
+    shared-slice-read-if1
+    returns
+    add-i
+    loop-less
+    loop-again
+    returns-2)
