@@ -1,3 +1,4 @@
+-- What is left is empty, begins with 0A, or begins with the word that did not fit: the three cases of `afterLine`.
 use Prim.Native.Nat.{_-_}
 use native.Mathlib.Omega.{arith}
 use borrow.Author.Needs.{needs}

@@ -1,3 +1,4 @@
+-- The test of first fit; the first head of a line needs none.
 use Prim.Native.Nat.{_-_}
 use borrow.Author.Needs.{needs}
 use Rattle.line.proofs.LineLaws as laws

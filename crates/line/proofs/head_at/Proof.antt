@@ -1,3 +1,4 @@
+-- Place 0 of the search, or the place itself: the two cases of `headFrom`.
 use Prim.Native.Nat.{_-_}
 use mathlib.Core.Path.{_∙_}
 use borrow.Author.Needs.{needs}

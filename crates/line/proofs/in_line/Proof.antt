@@ -1,3 +1,4 @@
+-- The line of the data goes on unless nothing is left or a 0A comes.
 use Prim.Native.Nat.{_-_}
 use native.Mathlib.Omega.{arith}
 use mathlib.Core.Path.{sym}

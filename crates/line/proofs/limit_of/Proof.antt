@@ -1,3 +1,4 @@
+-- The two tests are those of `limitOf`.
 use Prim.Native.Nat.{_-_}
 use native.Mathlib.Omega.{arith}
 use borrow.Author.Tests.{lt-ltb, not-true, not-false}

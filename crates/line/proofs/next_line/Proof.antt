@@ -1,3 +1,4 @@
+-- The lines from `at` on are the line that is found and those from its `next` on: the outer loop keeps a line under way (`State`), the inner one the search for a cut (`Search`).
 use Prim.Native.Nat.{ℕ, _+_, _-_, _*_, _≤_}
 use native.Mathlib.Omega.{arith}
 use mathlib.Core.Logic.{⊎-elim}

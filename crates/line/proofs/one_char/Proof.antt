@@ -1,3 +1,4 @@
+-- The first character, then the zero-width ones: what is passed, and the zero-width characters from there on, is the whole head.
 use Prim.Native.Nat.{_+_, _-_, _≤_}
 use native.Mathlib.Omega.{arith}
 use mathlib.Core.Logic.{⊎-elim}

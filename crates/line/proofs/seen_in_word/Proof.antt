@@ -1,3 +1,4 @@
+-- A character read in the rest of the data is the character of the word there: none goes on past the word's end (`char-word`).
 use Prim.Native.Nat.{_-_}
 use borrow.Author.Needs.{needs}
 use Rattle.line.specs.Rest.{wordText}

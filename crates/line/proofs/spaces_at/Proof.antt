@@ -1,3 +1,4 @@
+-- What is passed, and the bytes 20 from there on, are all bytes 20 at n.
 use Prim.Native.Nat.{_+_, _-_, _≤_}
 use native.Mathlib.Omega.{arith}
 use mathlib.Core.Logic.{⊎-elim}

@@ -1,3 +1,4 @@
+-- The lines counted, and those from `at` on, are all lines (`Counted`).
 use native.Mathlib.Omega.{arith}
 use borrow.Author.Needs.{needs}
 use Rattle.wrap.proofs.WrapLaws as laws

@@ -1,3 +1,4 @@
+-- Two stores are the numbers of one line.
 use native.Mathlib.Omega.{arith}
 use borrow.Author.Needs.{needs}
 use Rattle.wrap.proofs.WrapLaws as laws

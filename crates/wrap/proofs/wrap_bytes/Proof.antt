@@ -1,3 +1,4 @@
+-- Refusal 1, refusal 24 or the lines: where the code stops, the outcome is that one (`outcome-long`, `outcome-short`, `outcome-done`).
 use native.Mathlib.Omega.{arith}
 use borrow.Author.Needs.{needs}
 use Rattle.wrap.proofs.WrapLaws as laws

@@ -1,3 +1,4 @@
+-- The numbers written, and those of the lines from `at` on, are the numbers of all lines (`Written`).
 use native.Mathlib.Omega.{arith}
 use Rattle.wrap.proofs.WrapLaws as laws
 use borrow.Author.Tests.{not-true, not-false}

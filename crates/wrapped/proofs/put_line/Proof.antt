@@ -1,3 +1,4 @@
+-- A skip and a keep write the items of one line (`lineItems`).
 use native.Mathlib.Omega.{arith}
 use borrow.Author.Needs.{needs}
 use Rattle.wrapped.proofs.PlanLaws as laws

@@ -1,3 +1,4 @@
+-- Each turn writes one line of the plan and a 0A, the last one the entries behind it (`State`, `step`, `finish`).
 use native.Mathlib.Omega.{arith}
 use Rattle.wrapped.proofs.PlanLaws as laws
 use Rattle.writer.proofs.Carry.{bytes-wrote}

@@ -1,3 +1,4 @@
+-- Where the call stops, its outcome is that refusal, and else the plan with the lines: each need is one law of `CallLaws`.
 use native.Mathlib.Omega.{arith}
 use borrow.Author.Needs.{needs}
 use Rattle.wrapped.proofs.CallLaws as call
