@@ -128,6 +128,9 @@ fn good() {
     plain(b"a rest of one", b"abcdef", &c14[0..5], b"XY");
     plain(b"a rest of two", b"abcdef", &c14[0..6], b"XY");
     plain(b"a rest of three", b"abcdef", &c14[0..7], b"XY");
+}
+
+fn parts() {
     let gone = [1, 3, 1, 1];
     plain(b"from = to", b"abcdef", &gone, b"XY");
     let nothing = [2, 2, 2, 2];
@@ -136,14 +139,17 @@ fn good() {
     plain(b"touching", b"abcdef", &touching, b"XY");
     let one_place = [2, 2, 1, 2, 2, 2, 0, 1, 2, 4, 1, 3];
     plain(b"at one place", b"abcdef", &one_place, b"XYZ");
+}
+
+fn edges() {
     let whole = [0, 6, 0, 2];
     plain(b"all of the data", b"abcdef", &whole, b"XY");
     let none = [0, 6, 0, 0];
     plain(b"all of it by nothing", b"abcdef", &none, b"");
     let ends = [0, 0, 0, 1, 6, 6, 1, 2];
     plain(b"at both ends", b"abcdef", &ends, b"XY");
-    let parts = [0, 1, 0, 3, 3, 4, 1, 3, 5, 6, 0, 3];
-    plain(b"overlapping text", b"abcdef", &parts, b"XYZ");
+    let overlapping = [0, 1, 0, 3, 3, 4, 1, 3, 5, 6, 0, 3];
+    plain(b"overlapping text", b"abcdef", &overlapping, b"XYZ");
     let empty = [0, 0, 0, 2];
     plain(b"no data", b"", &empty, b"XY");
     plain(b"nothing at all", b"", &empty[0..0], b"");
@@ -157,6 +163,9 @@ fn bad() {
     plain(b"end beyond the data", b"abcdef", &beyond, b"XY");
     let below = [1, 3, 0, 1, 2, 4, 0, 1];
     plain(b"start below the previous end", b"abcdef", &below, b"XY");
+}
+
+fn bad_parts() {
     let turned = [1, 3, 1, 0];
     plain(b"from > to", b"abcdef", &turned, b"XY");
     let long = [1, 3, 0, 3];
@@ -185,6 +194,9 @@ fn labels() {
     labelled(b"in at the raw", &at_raw, 8, 12, 4);
     let at_pop = [4, 4, 0, 1, 4, 4, 1, 2];
     labelled(b"twice in at the pop", &at_pop, 8, 12, 4);
+}
+
+fn labels_at_ends() {
     let whole = [0, 6, 0, 1];
     labelled(b"all of the data", &whole, 8, 12, 4);
     let none = [0, 6, 0, 0];
@@ -227,6 +239,10 @@ fn rooms() {
     labelled(b"text one short", &r, 5, 12, 2);
     labelled(b"all short", &r, 4, 11, 2);
     labelled(b"entries and text short", &r, 5, 11, 2);
+}
+
+// Which refusal comes first.
+fn first_refusal() {
     let bad = [3, 1, 0, 1];
     labelled(b"bad and short", &bad, 4, 11, 2);
     // the content's own refusals come first
@@ -387,9 +403,14 @@ fn ten_thousand() {
 
 fn main() {
     good();
+    parts();
+    edges();
     bad();
+    bad_parts();
     labels();
+    labels_at_ends();
     rooms();
+    first_refusal();
     limits();
     ten_thousand();
 }
