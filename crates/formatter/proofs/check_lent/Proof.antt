@@ -1,3 +1,4 @@
+-- The table that is made here is the definitions' table.
 use native.Mathlib.Omega.{arith}
 use borrow.Author.Needs.{needs}
 use Rattle.chars.specs.Leads.{leadTable}

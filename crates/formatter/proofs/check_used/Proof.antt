@@ -1,3 +1,4 @@
+-- `check_used`: a length above its buffer comes first (`at-once`), else the fault is that of the used parts.
 use native.Mathlib.Omega.{arith}
 use borrow.Author.Needs.{needs}
 use Rattle.formatter.proofs.AddLaws.{long-data, long-entries, long-text, no-long, at-once}

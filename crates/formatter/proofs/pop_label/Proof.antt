@@ -1,3 +1,4 @@
+-- `pop_label`: refused as the outcome has it (AddLaws), or the four numbers at the entries' end are the result over the buffer (`entry-left`).
 use native.Mathlib.Omega.{arith}
 use borrow.Author.Needs.{needs}
 use Rattle.writer.proofs.Carry.{over-none}

@@ -1,3 +1,4 @@
+-- `put_mark`: the entry and its text are what the two leaves write.
 use native.Mathlib.Omega.{arith}
 use borrow.Author.Needs.{needs}
 use Rattle.formatter.proofs.AddLaws.{whole-part}

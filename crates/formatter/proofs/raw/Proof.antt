@@ -1,3 +1,4 @@
+-- `raw`: refused as the outcome has it (AddLaws), or entry and sequence at the ends are the result over the buffers (`entry-left`).
 use native.Mathlib.Omega.{arith}
 use borrow.Author.Needs.{needs}
 use Rattle.recording.specs.Refusals.{numberOf, refuseIf}

@@ -1,3 +1,4 @@
+-- `replay`, with the table lent: it stops at the check's refusal, at that of the sizes, or leaves the encoded items (ReplayLaws).
 use native.Mathlib.Omega.{arith}
 use borrow.Author.Needs.{needs}
 use Rattle.formatter.proofs.ReplayLaws.{replay-refused, replay-done, check-refused, is-sound, too-large, accepted, has-room}

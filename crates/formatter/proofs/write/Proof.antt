@@ -1,3 +1,4 @@
+-- `write`: refused as the outcome has it (`check-refused`, `too-large` of AddLaws), or the bytes at the data's end are the result over the buffer (`data-left`).
 use native.Mathlib.Omega.{arith}
 use borrow.Author.Needs.{needs}
 use Rattle.formatter.proofs.AddLaws.{check-refused, is-inside, limits, used-t, too-large, accepted, fits, add-refused, add-done, data-sizes, data-left, whole-part}

@@ -1,3 +1,4 @@
+-- `bad_shape`: by the cases of the kind; a kind that is none of 0, 1, 2 is over 2 (`high`).
 use native.Mathlib.Omega.{arith}
 use borrow.Author.Needs.{needs}
 use Rattle.recording.specs.Refusals.{badShape}
@@ -10,8 +11,6 @@ use Rattle.recording.proofs.bad_shape.Statement.{statement}
 use Rattle.recording.proofs.bad_shape.Tie as tie
 use Rattle.recording.proofs.bad_shape.Reads as reads
 use Rattle.recording.proofs.bad_shape.Lts as lts
-
--- <pre>
 
 high : (k s n : ℕ) → (k ≡ 0 → ⊥) → (k ≡ 2 → ⊥) → (k ≡ 1 → ⊥) → true ≡ badShape k s n
 unfolding badShape
@@ -27,8 +26,6 @@ pop-start k s n e h = rw (e, ne-eqb s 0 h)
 pop-len : (k s n : ℕ) → k ≡ 1 → s ≡ 0 → not (eqb n 0) ≡ badShape k s n
 unfolding badShape
 pop-len k s n e h = rw (e, eq-eqb s 0 h)
-
--- </pre>
 
 -- src/lib.rt:84:9
 returns : tie.Need-returns

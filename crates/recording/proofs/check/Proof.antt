@@ -1,3 +1,4 @@
+-- `check`: the lengths in order (`fault-1`, .. of CheckLaws), then the entries.
 use native.Mathlib.Omega.{arith}
 use borrow.Author.Needs.{needs}
 use Rattle.recording.proofs.CheckLaws.{fault-1, fault-2a, fault-2b, fault-5, fault-entries}

@@ -1,3 +1,4 @@
+-- `check_entries`: `Seen` says that the entries before k have no fault and how long their texts are; a fault of the next one is the first of all.
 use native.Mathlib.Omega.{arith}
 use borrow.Author.Needs.{needs}
 use Prim.Native.Nat.{_-_}

@@ -1,3 +1,4 @@
+-- `check_entry`: each return is the entry's first fault, since the tests before it failed (`ill-shaped`, `falling`, .. of CheckLaws).
 use native.Mathlib.Omega.{arith}
 use borrow.Author.Needs.{needs}
 use Rattle.recording.proofs.CheckLaws.{ill-shaped, falling, beyond, outside, no-label, ill, well}

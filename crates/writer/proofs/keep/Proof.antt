@@ -1,3 +1,4 @@
+-- `keep`: the loop's state is `State` of Carry with all items written; a turn is `step`, the end is `finish`.
 use native.Mathlib.Omega.{arith}
 use borrow.Author.Needs.{needs}
 use Rattle.writer.proofs.Carry.{State, TurnRoom, room-turn, turn-wrote, bytes-wrote, add-nil, fits-now, long-now, whole, entry-place, ok, entry-is, fits-turn, step, front-last, finish}
@@ -23,8 +24,6 @@ use Rattle.recording.proofs.entry_at.Reads as entry-at-reads
 use Rattle.writer.proofs.place_at.Reads as place-at-reads
 use Rattle.writer.proofs.put_bytes.Reads as put-bytes-reads
 use Rattle.writer.proofs.put_entry.Reads as put-entry-reads
-
--- <pre>
 
 abbrev same : List Item → List Item
 same x = x
@@ -97,8 +96,6 @@ module _ (ds ns ts : List ℕ) (n : ℕ) (c₀ : Cursor) (od₀ oe₀ ot₀ od o
         finish same (λ a b. refl) ds ns ts n (out od₀ oe₀ ot₀ c₀) (out od oe ot c) c₀ c p s l room past (out od′ oe ot c₂) c₂
         (bytes-wrote od od′ oe ot (part (c .at) n ds) c c₂ ed (omega (arith, last-size, q₁ .2, q₂ .2)) (q₂ .3 ∙ q₁ .3) (q₂ .4 ∙ q₁ .4))
         (q₂ .0) (q₂ .1 ∙ q₁ .1)
-
--- </pre>
 
 abbrev Inv-loop : tie.InvT-loop
 Inv-loop bytes₀ numbers₀ texts₀ content entries text n c₀ p₀ bytes numbers texts c p =

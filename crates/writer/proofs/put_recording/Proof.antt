@@ -1,3 +1,4 @@
+-- `put_recording`: a `keep` of the whole content from its start (`front-start`, `keep-all`).
 use native.Mathlib.Omega.{arith}
 use borrow.Author.Needs.{needs}
 use Rattle.writer.proofs.Steps.{front-start, ready-start, keep-all}

@@ -1,3 +1,4 @@
+-- `settle`: each return is the first of the tests in order (`over-d` .. `all-fit` of Sizes).
 use native.Mathlib.Omega.{arith}
 use borrow.Author.Needs.{needs}
 use Rattle.writer.proofs.Sizes.{over-d, over-e, over-t, none-d, none-e, none-t, none-l, all-fit}

@@ -1,3 +1,4 @@
+-- `skip`: as `keep`, with the entries alone written (`entriesOnly`).
 use native.Mathlib.Omega.{arith}
 use borrow.Author.Needs.{needs}
 use Rattle.writer.proofs.Carry.{State, TurnRoom, room-turn, turnItems, turn-wrote, bytes-wrote, over-none, add-nil, long-now, whole, ok, entry-is, fits-turn, step, finish, only-append, only-bytes, only-none, only-entry}
@@ -20,8 +21,6 @@ use Rattle.writer.proofs.skip.Lts as lts
 use Rattle.recording.proofs.entry_at.Reads as entry-at-reads
 use Rattle.writer.proofs.place_at.Reads as place-at-reads
 use Rattle.writer.proofs.put_entry.Reads as put-entry-reads
-
--- <pre>
 
 module _ (ds ns ts : List ℕ) (n : ℕ) (c₀ : Cursor) (od oe₀ ot₀ oe ot : List ℕ) (c : Cursor) (p : ℕ)
     (s : State entriesOnly ds ns ts n (out od oe₀ ot₀ c₀) c₀ (out od oe ot c) c p) (l : n ≤ length ds) (room : Fits (entriesOnly (front (n - c₀ .at) (left ds ns ts c₀))) (out od oe₀ ot₀ c₀)) where
@@ -76,8 +75,6 @@ module _ (ds ns ts : List ℕ) (n : ℕ) (c₀ : Cursor) (od oe₀ ot₀ oe ot :
         finish entriesOnly only-append ds ns ts n (out od oe₀ ot₀ c₀) (out od oe ot c) c₀ c p s l room past (out od oe ot c₂) c₂
         (bytes-wrote od od oe ot [] c c₂ (sym (over-none (c .d) od)) (omega (arith, q .2)) (q .3) (q .4) ∙ ap (λ (x : List Item). add x (out od oe ot c)) (sym (only-none (part (c .at) n ds))))
         (q .0) (q .1)
-
--- </pre>
 
 abbrev Inv-loop : tie.InvT-loop
 Inv-loop bytes numbers₀ texts₀ content entries text n c₀ p₀ numbers texts c p =
