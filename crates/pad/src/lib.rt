@@ -189,9 +189,27 @@ fn put_padded(
         e: 0,
         t: 0,
     };
-    let a = put_padding(bytes, numbers, texts, fill, fill_entries, fill_text, left, start);
+    let a = put_padding(
+        bytes,
+        numbers,
+        texts,
+        fill,
+        fill_entries,
+        fill_text,
+        left,
+        start,
+    );
     let b = put_recording(bytes, numbers, texts, content, entries, text, a);
-    put_padding(bytes, numbers, texts, fill, fill_entries, fill_text, right, b)
+    put_padding(
+        bytes,
+        numbers,
+        texts,
+        fill,
+        fill_entries,
+        fill_text,
+        right,
+        b,
+    )
 }
 
 // The three calls. The sizes come first, as exact products: nothing is written and no count is walked before they are granted.
