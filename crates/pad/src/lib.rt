@@ -154,11 +154,11 @@ fn left_count(side: Side, n: usize) -> usize
     }
 }
 
-// What a side with n times the fill takes of x, which is written once.
-fn once_if(n: usize, x: usize) -> usize
-    ensures { λ r. ⌜ (r ≡ onceIf n x) × (r ≤ x) ⌝ }
+// What a side with `count` times the fill takes of x, which is written once.
+fn once_if(count: usize, x: usize) -> usize
+    ensures { λ r. ⌜ (r ≡ onceIf count x) × (r ≤ x) ⌝ }
 {
-    if n == 0 {
+    if count == 0 {
         return 0;
     }
     x

@@ -7,6 +7,7 @@ use pad::write_padded_start;
 use recording::Answer;
 use recording::Refusal;
 ghost use Prim.Native.Nat.{_≤_};
+ghost use lib.ListN.{length};
 
 fn number(n: u64) {
     io::write_all(1, b" ");
@@ -143,7 +144,41 @@ fn padded(
     )
 }
 
-// A case of padding, in buffers of d, e and t places.
+// A case of padding, in the first d, e and t places of the buffers.
+fn pad_in(
+    side: u32,
+    content: &[u8],
+    entries: &[u32],
+    text: &[u8],
+    fill: &[u8],
+    fill_entries: &[u32],
+    fill_text: &[u8],
+    min_width: u32,
+    bytes: &mut [u8],
+    numbers: &mut [u32],
+    texts: &mut [u8],
+    d: usize,
+    e: usize,
+    t: usize,
+)
+    requires { ⌜ (d ≤ length (now bytes)) × (e ≤ length (now numbers)) × (t ≤ length (now texts)) ⌝ }
+{
+    let a = padded(
+        side,
+        content,
+        entries,
+        text,
+        fill,
+        fill_entries,
+        fill_text,
+        min_width,
+        &mut bytes[0..d],
+        &mut numbers[0..e],
+        &mut texts[0..t],
+    );
+    show(a, bytes, numbers, texts);
+}
+
 fn pad_case(
     side: u32,
     content: &[u8],
@@ -162,7 +197,7 @@ fn pad_case(
     let mut bytes = [95; 16];
     let mut numbers = [9; 16];
     let mut texts = [95; 4];
-    let a = padded(
+    pad_in(
         side,
         content,
         entries,
@@ -171,14 +206,46 @@ fn pad_case(
         fill_entries,
         fill_text,
         min_width,
-        &mut bytes[..d],
-        &mut numbers[..e],
-        &mut texts[..t],
+        &mut bytes,
+        &mut numbers,
+        &mut texts,
+        d,
+        e,
+        t,
     );
-    show(a, &bytes, &numbers, &texts);
 }
 
-// A case of indenting, in buffers of d, e and t places.
+// A case of indenting.
+fn indent_in(
+    content: &[u8],
+    entries: &[u32],
+    text: &[u8],
+    prefix: &[u8],
+    prefix_entries: &[u32],
+    prefix_text: &[u8],
+    bytes: &mut [u8],
+    numbers: &mut [u32],
+    texts: &mut [u8],
+    d: usize,
+    e: usize,
+    t: usize,
+)
+    requires { ⌜ (d ≤ length (now bytes)) × (e ≤ length (now numbers)) × (t ≤ length (now texts)) ⌝ }
+{
+    let a = write_indented(
+        content,
+        entries,
+        text,
+        prefix,
+        prefix_entries,
+        prefix_text,
+        &mut bytes[0..d],
+        &mut numbers[0..e],
+        &mut texts[0..t],
+    );
+    show(a, bytes, numbers, texts);
+}
+
 fn indent_case(
     content: &[u8],
     entries: &[u32],
@@ -195,18 +262,20 @@ fn indent_case(
     let mut bytes = [95; 16];
     let mut numbers = [9; 16];
     let mut texts = [95; 4];
-    let a = write_indented(
+    indent_in(
         content,
         entries,
         text,
         prefix,
         prefix_entries,
         prefix_text,
-        &mut bytes[..d],
-        &mut numbers[..e],
-        &mut texts[..t],
+        &mut bytes,
+        &mut numbers,
+        &mut texts,
+        d,
+        e,
+        t,
     );
-    show(a, &bytes, &numbers, &texts);
 }
 
 // Without entries: none of the content, none of the second recording.
@@ -362,12 +431,11 @@ fn line_room() {
     indent_case(b"a\nb", &push, b"lm", b">", &raw[..2], b"r", 5, 12, 3);
 }
 
-// The limits of the text (16 and 17 times 4,096 bytes) and of the data (16 times 65,534 and 31 to 33 bytes of content): exactly reached it is the buffer that is too short.
-fn line_limits() {
+// The limit of the text, 16 and 17 times 4,096 bytes: exactly reached it is a buffer that is too short.
+fn text_limits() {
     let none = [0];
     let raw = [0, 2, 0, 4096];
     let text = io::buffer();
-    let long = io::large_buffer();
     indent_case(b"a\na\na\na", &none[..0], b"", b"", &raw, &text, 16, 16, 4);
     indent_case(
         b"a\na\na\na\na\na\na\na\na\na\na\na\na\na\na\na",
@@ -391,18 +459,29 @@ fn line_limits() {
         16,
         4,
     );
+}
+
+// The limit of the data, 16 times 65,534 bytes and 31 to 33 bytes of content.
+fn data_limits_by(long: &[u8])
+    requires { ⌜ 65534 ≤ length (now long) ⌝ }
+{
     lines(
         b"a\na\na\na\na\na\na\na\na\na\na\na\na\na\na\na",
-        &long[..65534],
+        &long[0..65534],
     );
     lines(
         b"a\na\na\na\na\na\na\na\na\na\na\na\na\na\na\na\n",
-        &long[..65534],
+        &long[0..65534],
     );
     lines(
         b"a\na\na\na\na\na\na\na\na\na\na\na\na\na\na\na\n\n",
-        &long[..65534],
+        &long[0..65534],
     );
+}
+
+fn data_limits() {
+    let long = io::large_buffer();
+    data_limits_by(&long);
 }
 
 // Ends a line at every second byte.
@@ -414,34 +493,40 @@ fn end_lines(s: &mut [u8]) {
     }
 }
 
-// The limit of the entries: 4 pops before each of 1,024 and 1,025 lines.
-fn entry_limits() {
+// The limit of the entries, 4 pops before each of 1,024 and 1,025 lines.
+fn entry_limits_in(content: &mut [u8])
+    requires { ⌜ 2050 ≤ length (now content) ⌝ }
+{
+    end_lines(content);
     let none = [0];
     let pops = [0, 1, 0, 0, 0, 1, 0, 0, 0, 1, 0, 0, 0, 1, 0, 0];
+    indent_case(
+        &content[0..2048],
+        &none[..0],
+        b"",
+        b"",
+        &pops,
+        b"",
+        16,
+        16,
+        4,
+    );
+    indent_case(
+        &content[0..2050],
+        &none[..0],
+        b"",
+        b"",
+        &pops,
+        b"",
+        16,
+        16,
+        4,
+    );
+}
+
+fn entry_limits() {
     let mut content = io::buffer();
-    end_lines(&mut content);
-    indent_case(
-        &content[..2048],
-        &none[..0],
-        b"",
-        b"",
-        &pops,
-        b"",
-        16,
-        16,
-        4,
-    );
-    indent_case(
-        &content[..2050],
-        &none[..0],
-        b"",
-        b"",
-        &pops,
-        b"",
-        16,
-        16,
-        4,
-    );
+    entry_limits_in(&mut content);
 }
 
 fn main() {
@@ -454,6 +539,7 @@ fn main() {
     plain_lines();
     line_entries();
     line_room();
-    line_limits();
+    text_limits();
+    data_limits();
     entry_limits();
 }

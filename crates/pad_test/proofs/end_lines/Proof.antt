@@ -1,5 +1,7 @@
+-- Each place is there, and the loop ends.
 use native.Mathlib.Omega.{arith}
 use borrow.Author.Needs.{needs}
+use lib.ListN.{length-set}
 use mathlib.Core.Path.{_≡_}
 use lib.ListN.{length}
 use Prim.Native.Nat.{ℕ, _-_, _≤_}
@@ -30,7 +32,8 @@ add-i c = search needs
 
 -- src/main.rt:424:5
 loop-less : tie.Need-loop-less Inv-loop μ-loop
-loop-less c = search needs
+loop-less c =
+    simp length-set (omega arith)
 
 -- src/main.rt:424:5
 loop-again : tie.Need-loop-again Inv-loop μ-loop

@@ -1,3 +1,4 @@
+-- Each byte is there, and the loop ends.
 use native.Mathlib.Omega.{arith}
 use borrow.Author.Needs.{needs}
 use lib.ListN.{length}

@@ -1,3 +1,4 @@
+-- Each number is there, and the loop ends.
 use native.Mathlib.Omega.{arith}
 use borrow.Author.Needs.{needs}
 use lib.ListN.{length}
@@ -30,7 +31,8 @@ shared-slice-read-number c = search needs
 
 -- src/main.rt:37:16
 cast-number : tie.Need-cast-number Inv-loop μ-loop
-cast-number c = search needs
+cast-number c =
+    omega (arith, c .shared-slice-known2 .given (c .before .before .loop .i))
 
 -- src/main.rt:37:9
 number-requires : tie.Need-number-requires Inv-loop μ-loop
