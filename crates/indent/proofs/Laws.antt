@@ -10,7 +10,7 @@ use lib.Dec.{eqb}
 use lib.ListN.{length, drop, getD, drop-of-length-le}
 use lib.Seq.{drop-cons}
 use Rattle.recording.specs.Recording.{Item, byte, push, pop, raw}
-use Rattle.recording.specs.Edit.{Op, keep, skip, put, front, back, edit}
+use Rattle.recording.specs.Edit.{keep, put, front, back, edit}
 use Rattle.layout.specs.Layout.{indentOps}
 use Rattle.indent.specs.Lines.{firstByte, filledLines, toNext}
 

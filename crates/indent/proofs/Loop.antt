@@ -2,7 +2,7 @@
 -- The idea: `State` says what is done, and that the plan for what is left of the data gives the rest of the result.
 use mathlib.Core.Path.{_≡_, refl, sym, ap, _∙_}
 use mathlib.Core.Bool.{Bool, true, false}
-use mathlib.Core.List.{List, [], _∷_, _++_, append-assoc, append-nil}
+use mathlib.Core.List.{List, [], _++_, append-assoc, append-nil}
 use Prim.Native.Nat.{ℕ, _+_, _-_, _≤_, _<_}
 use native.Mathlib.Omega.{arith}
 use lib.ListN.{length, drop, length-drop}
@@ -14,7 +14,7 @@ use Rattle.writer.specs.declared.Cursor.{Cursor}
 use Rattle.writer.specs.Write.{Out, add, Fits, Sound, Ready, left}
 use Rattle.writer.proofs.Laws.{fits-left, fits-right, add-append, add-long, Long}
 use Rattle.writer.proofs.Carry.{valid-in, add-nil}
-use Rattle.writer.proofs.Steps.{fits-first, fits-then, then, front-all, left-start, ready-start}
+use Rattle.writer.proofs.Steps.{fits-first, fits-then, front-all, left-start, ready-start}
 use Rattle.layout.specs.Layout.{indentOps}
 use Rattle.indent.specs.Lines.{toNext}
 use Rattle.indent.proofs.Laws.{plan-next, plan-last}

@@ -96,10 +96,27 @@ fn put_indented(
     let mut p = next_line(content, 0, true);
     while p < content.len() {
         c = keep(bytes, numbers, texts, content, entries, text, c, p);
-        c = put_recording(bytes, numbers, texts, prefix, prefix_entries, prefix_text, c);
+        c = put_recording(
+            bytes,
+            numbers,
+            texts,
+            prefix,
+            prefix_entries,
+            prefix_text,
+            c,
+        );
         p = next_line(content, p, false);
     }
-    keep(bytes, numbers, texts, content, entries, text, c, content.len())
+    keep(
+        bytes,
+        numbers,
+        texts,
+        content,
+        entries,
+        text,
+        c,
+        content.len(),
+    )
 }
 
 // Writes the content with the prefix before every line that is not empty. The sizes come first, as exact products.

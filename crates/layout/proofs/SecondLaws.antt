@@ -1,7 +1,7 @@
 -- A call with a second recording on three lent buffers, as code goes through it: check the content, check the second, settle the sizes, write.
 -- Each place where it returns gives the whole contract at once (`Left`), from what the callees promise; over any job, by `OutcomeLaws`.
 use mathlib.Core.Path.{_≡_, refl, sym, ap, _∙_}
-use mathlib.Core.List.{List, [], _∷_}
+use mathlib.Core.List.{List, []}
 use Prim.Native.Nat.{ℕ, _*_, _≤_}
 use native.Mathlib.Omega.{arith}
 use lib.ListN.{length}

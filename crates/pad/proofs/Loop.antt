@@ -8,8 +8,7 @@ use native.Mathlib.Omega.{arith}
 use lib.ListN.{length, drop, length-drop}
 use Rattle.buffer.specs.Place.{overAt, part}
 use Rattle.recording.specs.declared.Entry.{Entry}
-use Rattle.recording.specs.Recording.{recording, entriesOf, numbersOf, Item, byte, push, pop, raw, byteItems, itemsFrom, items, dataOf, textOf, entriesFrom}
-use Rattle.recording.specs.Edit.{front}
+use Rattle.recording.specs.Recording.{recording, entriesOf, numbersOf, Item, byte, push, pop, raw, byteItems, itemsFrom, items, textOf, entriesFrom}
 use Rattle.recording.specs.Refusals.{badShape}
 use Rattle.recording.proofs.ItemsLaws.{data-bytes, data-itemsFrom}
 use Rattle.recording.proofs.SizeLaws.{IsEntry}

@@ -1,7 +1,7 @@
 -- How much padding writes: n times the fill's bytes, its entries and texts once a side; and what the three calls are as jobs of the layout.
 use mathlib.Core.Path.{_≡_, refl, sym, ap, _∙_}
 use mathlib.Core.List.{List, [], _∷_, _++_, append-nil}
-use Prim.Native.Nat.{ℕ, zero, suc, _+_, _-_, _*_, _/_, _≤_}
+use Prim.Native.Nat.{ℕ, zero, suc, _+_, _-_, _*_, _≤_}
 use native.Mathlib.Nat.{zero-mul, suc-mul, mul-add, add-mul, mul-le-mul}
 use native.Mathlib.Omega.{arith}
 use lib.ListN.{length, length-append}
@@ -14,7 +14,7 @@ use Rattle.writer.specs.Write.{Out, add, Fits}
 use Rattle.writer.proofs.Laws.{text-size}
 use Rattle.writer.proofs.Steps.{fits-first, fits-then, then}
 use Rattle.writer.proofs.Carry.{text-none, count-none}
-use Rattle.layout.specs.Layout.{copies, repeatPieces, padding, fillCount, Job, padStart, padEnd, padCentered, resultItems, linesLeft, number, secondFault, replacementFault}
+use Rattle.layout.specs.Layout.{copies, repeatPieces, padding, fillCount, resultItems, linesLeft, number, secondFault, replacementFault}
 use Rattle.layout.proofs.SecondLaws.{Fine}
 use Rattle.pad.specs.declared.Side.{Side}
 use Rattle.pad.specs.declared.Side.the-variants.{Start, End, Centered}

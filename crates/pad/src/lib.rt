@@ -154,11 +154,11 @@ fn left_count(side: Side, n: usize) -> usize
     }
 }
 
-// What a side with n times the fill takes of x, which is written once.
-fn once_if(n: usize, x: usize) -> usize
-    ensures { λ r. ⌜ (r ≡ onceIf n x) × (r ≤ x) ⌝ }
+// What a side with `count` times the fill takes of x, which is written once.
+fn once_if(count: usize, x: usize) -> usize
+    ensures { λ r. ⌜ (r ≡ onceIf count x) × (r ≤ x) ⌝ }
 {
-    if n == 0 {
+    if count == 0 {
         return 0;
     }
     x
@@ -189,9 +189,27 @@ fn put_padded(
         e: 0,
         t: 0,
     };
-    let a = put_padding(bytes, numbers, texts, fill, fill_entries, fill_text, left, start);
+    let a = put_padding(
+        bytes,
+        numbers,
+        texts,
+        fill,
+        fill_entries,
+        fill_text,
+        left,
+        start,
+    );
     let b = put_recording(bytes, numbers, texts, content, entries, text, a);
-    put_padding(bytes, numbers, texts, fill, fill_entries, fill_text, right, b)
+    put_padding(
+        bytes,
+        numbers,
+        texts,
+        fill,
+        fill_entries,
+        fill_text,
+        right,
+        b,
+    )
 }
 
 // The three calls. The sizes come first, as exact products: nothing is written and no count is walked before they are granted.

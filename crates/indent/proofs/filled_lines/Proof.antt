@@ -1,7 +1,8 @@
+-- One pass: the lines counted so far and those of the rest of the data are all (`filled-next`, `filled-end`).
 use native.Mathlib.Omega.{arith}
 use borrow.Author.Needs.{needs}
-use Prim.Native.Nat.{ℕ, _+_, _-_, _≤_}
-use mathlib.Core.Path.{_≡_, refl, sym, ap, _∙_}
+use Prim.Native.Nat.{_+_, _-_, _≤_}
+use mathlib.Core.Path.{_≡_}
 use mathlib.Core.Bool.{true}
 use lib.ListN.{length, drop}
 use Rattle.indent.proofs.Laws.{filled-next, filled-end}

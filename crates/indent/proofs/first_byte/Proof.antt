@@ -1,6 +1,5 @@
+-- Two tests against the one of the definition.
 use native.Mathlib.Omega.{arith}
-use borrow.Author.Needs.{needs}
-use mathlib.Core.Path.{_≡_, refl, sym, ap, _∙_}
 use borrow.Author.Tests.{eq-eqb, ne-eqb, not-true, not-false}
 use Rattle.indent.specs.Lines.{firstByte}
 use Rattle.indent.proofs.first_byte.Statement.{statement}

@@ -1,7 +1,8 @@
+-- One pass that stops at the first hit: the place and what is still to go add up to the same (`next-here`, `next-later`, `next-end`).
 use native.Mathlib.Omega.{arith}
 use borrow.Author.Needs.{needs}
-use Prim.Native.Nat.{ℕ, _+_, _-_, _≤_}
-use mathlib.Core.Path.{_≡_, refl, sym, ap, _∙_}
+use Prim.Native.Nat.{_+_, _-_, _≤_}
+use mathlib.Core.Path.{_≡_, sym, _∙_}
 use lib.ListN.{length, drop}
 use Rattle.indent.proofs.Laws.{next-here, next-later, next-end}
 use Rattle.indent.specs.Lines.{toNext}

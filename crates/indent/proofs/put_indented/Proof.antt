@@ -1,7 +1,7 @@
+-- The loop over the lines that get a prefix keeps `State` (`proofs/Loop.antt`): what is done, and that the plan for what is left gives the rest.
 use native.Mathlib.Omega.{arith}
-use borrow.Author.Needs.{needs}
-use Prim.Native.Nat.{ℕ, _+_, _-_, _≤_, _<_}
-use mathlib.Core.Path.{_≡_, refl, sym, ap, _∙_}
+use Prim.Native.Nat.{_-_}
+use mathlib.Core.Path.{refl, _∙_}
 use lib.ListN.{length}
 use Rattle.recording.specs.Recording.{recording, items}
 use Rattle.writer.specs.Write.{out, blank}

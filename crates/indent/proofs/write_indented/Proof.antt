@@ -1,3 +1,4 @@
+-- Each return is one law of `SecondLaws` (layout) with what the callees promised; the sizes that were settled are those of the items that are written (`all-data`, `all-entries`, `all-text`).
 use native.Mathlib.Omega.{arith}
 use borrow.Author.Needs.{needs}
 use Rattle.layout.specs.Layout.{indent}

@@ -1,6 +1,6 @@
+-- The difference of two numbers, by the test that says which is larger.
 use native.Mathlib.Omega.{arith}
 use borrow.Author.Needs.{needs}
-use mathlib.Core.Path.{_≡_, refl, sym, ap, _∙_}
 use Rattle.layout.specs.Layout.{fillCount}
 use Rattle.pad.proofs.fill_count.Statement.{statement}
 use Rattle.pad.proofs.fill_count.Tie as tie

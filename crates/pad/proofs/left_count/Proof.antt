@@ -1,7 +1,8 @@
+-- One case for each side; a half is not more than the whole.
 use native.Mathlib.Omega.{arith}
 use borrow.Author.Needs.{needs}
 use Rattle.pad.specs.declared.Side.{Side}
-use mathlib.Core.Path.{_≡_, refl, sym, ap, _∙_}
+use mathlib.Core.Path.{sym, ap}
 use Rattle.pad.specs.Padding.{leftOf}
 use Rattle.pad.proofs.left_count.Statement.{statement}
 use Rattle.pad.proofs.left_count.Tie as tie

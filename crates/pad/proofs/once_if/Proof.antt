@@ -1,5 +1,5 @@
+-- By the test for count 0.
 use native.Mathlib.Omega.{arith}
-use borrow.Author.Needs.{needs}
 use Rattle.pad.proofs.Laws.{once-none, once-more}
 use Rattle.pad.proofs.once_if.Statement.{statement}
 use Rattle.pad.proofs.once_if.Tie as tie

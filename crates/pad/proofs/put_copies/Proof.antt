@@ -1,9 +1,9 @@
+-- A loop of copies: after i of them the buffer is the old one with the piece i times from `at` on, and one copy more is `repeated-next`.
 use native.Mathlib.Omega.{arith}
 use borrow.Author.Needs.{needs}
 use Rattle.pad.proofs.Laws.{repeated-long, repeated-zero}
 use Prim.Native.Nat.{ℕ, _+_, _-_, _≤_}
-use mathlib.Core.Path.{_≡_, refl, sym, ap, _∙_}
-use mathlib.Core.List.{[], _∷_}
+use mathlib.Core.Path.{_≡_, ap, _∙_}
 use lib.ListN.{length}
 use Rattle.buffer.proofs.Laws.{length-part}
 use Rattle.buffer.specs.Place.{overAt, part}

@@ -1,6 +1,6 @@
-use native.Mathlib.Omega.{arith}
+-- Three steps, one after another: what each needs and what all write, by `room-before`, `room-content`, `room-behind`, `all-three`.
 use borrow.Author.Needs.{needs}
-use mathlib.Core.Path.{_≡_, refl, sym, ap, _∙_}
+use mathlib.Core.Path.{_∙_}
 use Rattle.writer.specs.Write.{out}
 use Rattle.pad.proofs.Sizes.{room-before, room-content, room-behind, all-three}
 use Rattle.pad.proofs.put_padded.Statement.{statement}

@@ -1,6 +1,7 @@
+-- The loop over the fill's entries keeps `State` (`proofs/Loop.antt`): what is done, and that the pieces of what is left, repeated, are the rest. At count 0 nothing is written.
 use native.Mathlib.Omega.{arith}
 use borrow.Author.Needs.{needs}
-use Prim.Native.Nat.{ℕ, _+_, _-_, _≤_, _<_}
+use Prim.Native.Nat.{ℕ, _-_}
 use mathlib.Core.Path.{_≡_, refl, sym, ap, _∙_}
 use mathlib.Core.List.{List, []}
 use lib.ListN.{length}
@@ -18,7 +19,7 @@ use Rattle.pad.proofs.put_times.Reads as put-times-reads
 use Rattle.recording.proofs.entry_at.Reads as entry-at-reads
 use Rattle.writer.proofs.place_at.Reads as place-at-reads
 use Rattle.writer.proofs.put_entry.Reads as put-entry-reads
--- <pre>
+
 -- at a count above 0 the padding is the pieces repeated; the fill is read from its start
 module _ (n : ℕ) (ds ns ts od oe ot : List ℕ) (c : Cursor) (more : n ≡ 0 → ⊥) where
   abbrev from : Cursor
@@ -31,7 +32,6 @@ module _ (n : ℕ) (ds ns ts od oe ot : List ℕ) (c : Cursor) (more : n ≡ 0 �
   back-to : add (repeatPieces n [] (items (recording ds ns ts))) (out od oe ot from) ≡ add (padding n (items (recording ds ns ts))) (out od oe ot c)
   unfolding out
   back-to = ap (λ (l : List Item). add l (out od oe ot c)) (sym (padding-more n (items (recording ds ns ts)) more))
--- </pre>
 
 abbrev Inv-loop : tie.InvT-loop
 Inv-loop bytes₀ numbers₀ texts₀ fill entries text n f₀ p₀ bytes numbers texts f p =

@@ -1,10 +1,11 @@
+-- By the length of the piece: none is nothing however often (`piece-none`), one byte is the loop of stores (`piece-one`), any other the loop of copies.
 use native.Mathlib.Omega.{arith}
 use borrow.Author.Needs.{needs}
-use Prim.Native.Nat.{ℕ, _+_, _-_, _≤_}
-use mathlib.Core.Path.{_≡_, refl, sym, ap, _∙_}
+use Prim.Native.Nat.{ℕ, _+_, _-_}
+use mathlib.Core.Path.{sym, ap, _∙_}
 use mathlib.Core.List.{List}
 use lib.ListN.{length, getD}
-use Rattle.buffer.specs.Place.{overAt, part}
+use Rattle.buffer.specs.Place.{overAt}
 use Rattle.pad.specs.Padding.{repeated}
 use Rattle.pad.proofs.Laws.{piece-none, piece-one, length-single}
 use Rattle.pad.proofs.put_piece.Statement.{statement}

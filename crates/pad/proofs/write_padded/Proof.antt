@@ -1,12 +1,13 @@
+-- Each return is one law of `SecondLaws` (layout) with what the callees promised; the sizes that were settled are those of the items that are written (`sides-data`, `sides-entries`, `sides-text`).
 use native.Mathlib.Omega.{arith}
 use borrow.Author.Needs.{needs}
+use Rattle.pad.proofs.Sizes.{sides-data, sides-entries, sides-text, product-small, second-of, records-of, lines-of, number-of, items-of}
+use mathlib.Core.Path.{refl}
+use Rattle.layout.proofs.SecondLaws.{checked-fine, content-refused, second-refused, sizes-refused, room-left, written}
 use lib.ListN.{length}
-use mathlib.Core.Path.{_≡_, refl, sym, ap, _∙_}
 use Rattle.pad.specs.Padding.{jobOf}
 use Rattle.recording.specs.Recording.{recording}
 use Rattle.chars.specs.Leads.{leadTable}
-use Rattle.pad.proofs.Sizes.{sides-data, sides-entries, sides-text, product-small, second-of, records-of, lines-of, number-of, items-of}
-use Rattle.layout.proofs.SecondLaws.{Fine, checked-fine, content-refused, second-refused, sizes-refused, room-left, written}
 use Rattle.pad.proofs.write_padded.Statement.{statement}
 use Rattle.pad.proofs.write_padded.Tie as tie
 use Rattle.pad.proofs.write_padded.Reads as reads
@@ -31,7 +32,10 @@ enum-known-checked c = search needs
 -- src/lib.rt:220:13
 returns : tie.Need-returns
 returns c =
-    content-refused (c .before .before .before .before .before .before .before .before .before .before .before .before .before .before .args .content .now) (c .before .before .before .before .before .before .before .before .before .before .before .before .before .before .args .entries .now) (c .before .before .before .before .before .before .before .before .before .before .before .before .before .before .args .text .now) (c .before .before .before .before .before .before .before .before .before .before .before .before .before .before .args .fill .now) (c .before .before .before .before .before .before .before .before .before .before .before .before .before .before .args .fill-entries .now) (c .before .before .before .before .before .before .before .before .before .before .before .before .before .before .args .fill-text .now) (c .before .before .before .before .before .before .before .before .before .before .before .before .before .before .args .bytes .now) (c .before .before .before .before .before .before .before .before .before .before .before .before .before .before .args .numbers .now) (c .before .before .before .before .before .before .before .before .before .before .before .before .before .before .args .texts .now) (jobOf (c .before .before .before .before .before .before .before .before .before .before .before .before .before .before .args .side) (c .before .before .before .before .before .before .before .before .before .before .before .before .before .before .args .min-width) (recording (c .before .before .before .before .before .before .before .before .before .before .before .before .before .before .args .fill .now) (c .before .before .before .before .before .before .before .before .before .before .before .before .before .before .args .fill-entries .now) (c .before .before .before .before .before .before .before .before .before .before .before .before .before .before .args .fill-text .now))) (c .before .before .before .check .result) (c .before .checked .given .0 .0) (c .before .before .before .check .ensures .0) (c .before .checked .given .1)
+    let a = c .before .before .before .before .before .before .before .before .before .before .before .before .before .before .args in
+    let second = recording (a .fill .now) (a .fill-entries .now) (a .fill-text .now) in
+    let k₁ = c .before .before .before .check in
+    content-refused (a .content .now) (a .entries .now) (a .text .now) (a .fill .now) (a .fill-entries .now) (a .fill-text .now) (a .bytes .now) (a .numbers .now) (a .texts .now) (jobOf (a .side) (a .min-width) second) (k₁ .result) (c .before .checked .given .0 .0) (k₁ .ensures .0) (c .before .checked .given .1)
 
 -- src/lib.rt:222:23
 enum-known-checked-2 : tie.Need-enum-known-checked-2
@@ -50,8 +54,13 @@ enum-known-second c = search needs
 -- src/lib.rt:227:13
 returns-2 : tie.Need-returns-2
 returns-2 c =
-    let fine = checked-fine (c .before .before .before .before .before .before .before .before .before .before .before .before .before .before .before .before .before .before .before .args .content .now) (c .before .before .before .before .before .before .before .before .before .before .before .before .before .before .before .before .before .before .before .args .entries .now) (c .before .before .before .before .before .before .before .before .before .before .before .before .before .before .before .before .before .before .before .args .text .now) (c .before .before .before .before .before .before .checked2 .given .0 .0) (c .before .before .before .before .before .before .before .before .check .result) (c .before .before .before .before .before .before .checked2 .given .1) (c .before .before .before .before .before .before .before .before .check .ensures .0) (c .before .before .before .before .before .before .before .before .check .ensures .1 .0) (c .before .before .before .before .before .before .before .before .check .ensures .1 .1) in
-    second-refused (c .before .before .before .before .before .before .before .before .before .before .before .before .before .before .before .before .before .before .before .args .content .now) (c .before .before .before .before .before .before .before .before .before .before .before .before .before .before .before .before .before .before .before .args .entries .now) (c .before .before .before .before .before .before .before .before .before .before .before .before .before .before .before .before .before .before .before .args .text .now) (c .before .before .before .before .before .before .before .before .before .before .before .before .before .before .before .before .before .before .before .args .fill .now) (c .before .before .before .before .before .before .before .before .before .before .before .before .before .before .before .before .before .before .before .args .fill-entries .now) (c .before .before .before .before .before .before .before .before .before .before .before .before .before .before .before .before .before .before .before .args .fill-text .now) (c .before .before .before .before .before .before .before .before .before .before .before .before .before .before .before .before .before .before .before .args .bytes .now) (c .before .before .before .before .before .before .before .before .before .before .before .before .before .before .before .before .before .before .before .args .numbers .now) (c .before .before .before .before .before .before .before .before .before .before .before .before .before .before .before .before .before .before .before .args .texts .now) (jobOf (c .before .before .before .before .before .before .before .before .before .before .before .before .before .before .before .before .before .before .before .args .side) (c .before .before .before .before .before .before .before .before .before .before .before .before .before .before .before .before .before .before .before .args .min-width) (recording (c .before .before .before .before .before .before .before .before .before .before .before .before .before .before .before .before .before .before .before .args .fill .now) (c .before .before .before .before .before .before .before .before .before .before .before .before .before .before .before .before .before .before .before .args .fill-entries .now) (c .before .before .before .before .before .before .before .before .before .before .before .before .before .before .before .before .before .before .before .args .fill-text .now))) _ fine (second-of (c .before .before .before .before .before .before .before .before .before .before .before .before .before .before .before .before .before .before .before .args .side) (c .before .before .before .before .before .before .before .before .before .before .before .before .before .before .before .before .before .before .before .args .min-width) (recording (c .before .before .before .before .before .before .before .before .before .before .before .before .before .before .before .before .before .before .before .args .fill .now) (c .before .before .before .before .before .before .before .before .before .before .before .before .before .before .before .before .before .before .before .args .fill-entries .now) (c .before .before .before .before .before .before .before .before .before .before .before .before .before .before .before .before .before .before .before .args .fill-text .now))) (c .before .before .before .check2 .result) (c .before .second .given .0 .0) (c .before .before .before .check2 .ensures .0) (c .before .second .given .1)
+    let a = c .before .before .before .before .before .before .before .before .before .before .before .before .before .before .before .before .before .before .before .args in
+    let second = recording (a .fill .now) (a .fill-entries .now) (a .fill-text .now) in
+    let k₁ = c .before .before .before .before .before .before .before .before .check in
+    let g₁ = c .before .before .before .before .before .before .checked2 .given in
+    let fine₁ = checked-fine (a .content .now) (a .entries .now) (a .text .now) (g₁ .0 .0) (k₁ .result) (g₁ .1) (k₁ .ensures .0) (k₁ .ensures .1 .0) (k₁ .ensures .1 .1) in
+    let k₂ = c .before .before .before .check2 in
+    second-refused (a .content .now) (a .entries .now) (a .text .now) (a .fill .now) (a .fill-entries .now) (a .fill-text .now) (a .bytes .now) (a .numbers .now) (a .texts .now) (jobOf (a .side) (a .min-width) second) (g₁ .0 .0) fine₁ (second-of (a .side) (a .min-width) second) (k₂ .result) (c .before .second .given .0 .0) (k₂ .ensures .0) (c .before .second .given .1)
 
 -- src/lib.rt:229:23
 enum-known-second-2 : tie.Need-enum-known-second-2
@@ -74,15 +83,23 @@ sub-right c = search needs
 -- src/lib.rt:235:25
 mul-settle : tie.Need-mul-settle
 mul-settle c =
-    let fine₂ = checked-fine (c .before .before .before .before .before .before .before .before .before .before .before .before .before .before .before .before .before .before .before .before .before .before .args .fill .now) (c .before .before .before .before .before .before .before .before .before .before .before .before .before .before .before .before .before .before .before .before .before .before .args .fill-entries .now) (c .before .before .before .before .before .before .before .before .before .before .before .before .before .before .before .before .before .before .before .before .before .before .args .fill-text .now) (c .before .before .before .before .second2 .given .0 .0) (c .before .before .before .before .before .before .check2 .result) (c .before .before .before .before .second2 .given .1) (c .before .before .before .before .before .before .check2 .ensures .0) (c .before .before .before .before .before .before .check2 .ensures .1 .0) (c .before .before .before .before .before .before .check2 .ensures .1 .1) in
-    omega (arith, product-small (c .before .fill-count .result) (length (c .before .before .before .before .before .before .before .before .before .before .before .before .before .before .before .before .before .before .before .before .before .before .args .fill .now)) (c .before .fill-count .ensures .1) (fine₂ .data-short))
+    let a = c .before .before .before .before .before .before .before .before .before .before .before .before .before .before .before .before .before .before .before .before .before .before .args in
+    let k₂ = c .before .before .before .before .before .before .check2 in
+    let g₂ = c .before .before .before .before .second2 .given in
+    let fine₂ = checked-fine (a .fill .now) (a .fill-entries .now) (a .fill-text .now) (g₂ .0 .0) (k₂ .result) (g₂ .1) (k₂ .ensures .0) (k₂ .ensures .1 .0) (k₂ .ensures .1 .1) in
+    omega (arith, product-small (c .before .fill-count .result) (length (a .fill .now)) (c .before .fill-count .ensures .1) (fine₂ .data-short))
 
 -- src/lib.rt:235:9
 add-settle : tie.Need-add-settle
 add-settle c =
-    let fine₁ = checked-fine (c .before .before .before .before .before .before .before .before .before .before .before .before .before .before .before .before .before .before .before .before .before .before .args .content .now) (c .before .before .before .before .before .before .before .before .before .before .before .before .before .before .before .before .before .before .before .before .before .before .args .entries .now) (c .before .before .before .before .before .before .before .before .before .before .before .before .before .before .before .before .before .before .before .before .before .before .args .text .now) (c .before .before .before .before .before .before .before .before .before .checked2 .given .0 .0) (c .before .before .before .before .before .before .before .before .before .before .before .check .result) (c .before .before .before .before .before .before .before .before .before .checked2 .given .1) (c .before .before .before .before .before .before .before .before .before .before .before .check .ensures .0) (c .before .before .before .before .before .before .before .before .before .before .before .check .ensures .1 .0) (c .before .before .before .before .before .before .before .before .before .before .before .check .ensures .1 .1) in
-    let fine₂ = checked-fine (c .before .before .before .before .before .before .before .before .before .before .before .before .before .before .before .before .before .before .before .before .before .before .args .fill .now) (c .before .before .before .before .before .before .before .before .before .before .before .before .before .before .before .before .before .before .before .before .before .before .args .fill-entries .now) (c .before .before .before .before .before .before .before .before .before .before .before .before .before .before .before .before .before .before .before .before .before .before .args .fill-text .now) (c .before .before .before .before .second2 .given .0 .0) (c .before .before .before .before .before .before .check2 .result) (c .before .before .before .before .second2 .given .1) (c .before .before .before .before .before .before .check2 .ensures .0) (c .before .before .before .before .before .before .check2 .ensures .1 .0) (c .before .before .before .before .before .before .check2 .ensures .1 .1) in
-    omega (arith, fine₁ .data-short, product-small (c .before .fill-count .result) (length (c .before .before .before .before .before .before .before .before .before .before .before .before .before .before .before .before .before .before .before .before .before .before .args .fill .now)) (c .before .fill-count .ensures .1) (fine₂ .data-short))
+    let a = c .before .before .before .before .before .before .before .before .before .before .before .before .before .before .before .before .before .before .before .before .before .before .args in
+    let k₁ = c .before .before .before .before .before .before .before .before .before .before .before .check in
+    let g₁ = c .before .before .before .before .before .before .before .before .before .checked2 .given in
+    let fine₁ = checked-fine (a .content .now) (a .entries .now) (a .text .now) (g₁ .0 .0) (k₁ .result) (g₁ .1) (k₁ .ensures .0) (k₁ .ensures .1 .0) (k₁ .ensures .1 .1) in
+    let k₂ = c .before .before .before .before .before .before .check2 in
+    let g₂ = c .before .before .before .before .second2 .given in
+    let fine₂ = checked-fine (a .fill .now) (a .fill-entries .now) (a .fill-text .now) (g₂ .0 .0) (k₂ .result) (g₂ .1) (k₂ .ensures .0) (k₂ .ensures .1 .0) (k₂ .ensures .1 .1) in
+    omega (arith, fine₁ .data-short, product-small (c .before .fill-count .result) (length (a .fill .now)) (c .before .fill-count .ensures .1) (fine₂ .data-short))
 
 -- src/lib.rt:236:25
 once-if-requires : tie.Need-once-if-requires
@@ -91,8 +108,13 @@ once-if-requires c κs = search needs
 -- src/lib.rt:236:9
 add-settle-2 : tie.Need-add-settle-2
 add-settle-2 c =
-    let fine₁ = checked-fine (c .before .before .before .before .before .before .before .before .before .before .before .before .before .before .before .before .before .before .before .before .before .before .before .args .content .now) (c .before .before .before .before .before .before .before .before .before .before .before .before .before .before .before .before .before .before .before .before .before .before .before .args .entries .now) (c .before .before .before .before .before .before .before .before .before .before .before .before .before .before .before .before .before .before .before .before .before .before .before .args .text .now) (c .before .before .before .before .before .before .before .before .before .before .checked2 .given .0 .0) (c .before .before .before .before .before .before .before .before .before .before .before .before .check .result) (c .before .before .before .before .before .before .before .before .before .before .checked2 .given .1) (c .before .before .before .before .before .before .before .before .before .before .before .before .check .ensures .0) (c .before .before .before .before .before .before .before .before .before .before .before .before .check .ensures .1 .0) (c .before .before .before .before .before .before .before .before .before .before .before .before .check .ensures .1 .1) in
-    let fine₂ = checked-fine (c .before .before .before .before .before .before .before .before .before .before .before .before .before .before .before .before .before .before .before .before .before .before .before .args .fill .now) (c .before .before .before .before .before .before .before .before .before .before .before .before .before .before .before .before .before .before .before .before .before .before .before .args .fill-entries .now) (c .before .before .before .before .before .before .before .before .before .before .before .before .before .before .before .before .before .before .before .before .before .before .before .args .fill-text .now) (c .before .before .before .before .before .second2 .given .0 .0) (c .before .before .before .before .before .before .before .check2 .result) (c .before .before .before .before .before .second2 .given .1) (c .before .before .before .before .before .before .before .check2 .ensures .0) (c .before .before .before .before .before .before .before .check2 .ensures .1 .0) (c .before .before .before .before .before .before .before .check2 .ensures .1 .1) in
+    let a = c .before .before .before .before .before .before .before .before .before .before .before .before .before .before .before .before .before .before .before .before .before .before .before .args in
+    let k₁ = c .before .before .before .before .before .before .before .before .before .before .before .before .check in
+    let g₁ = c .before .before .before .before .before .before .before .before .before .before .checked2 .given in
+    let fine₁ = checked-fine (a .content .now) (a .entries .now) (a .text .now) (g₁ .0 .0) (k₁ .result) (g₁ .1) (k₁ .ensures .0) (k₁ .ensures .1 .0) (k₁ .ensures .1 .1) in
+    let k₂ = c .before .before .before .before .before .before .before .check2 in
+    let g₂ = c .before .before .before .before .before .second2 .given in
+    let fine₂ = checked-fine (a .fill .now) (a .fill-entries .now) (a .fill-text .now) (g₂ .0 .0) (k₂ .result) (g₂ .1) (k₂ .ensures .0) (k₂ .ensures .1 .0) (k₂ .ensures .1 .1) in
     omega (arith, fine₁ .entries-short, fine₂ .entries-short, c .once-if .ensures .1)
 
 -- src/lib.rt:236:61
@@ -102,8 +124,13 @@ once-if-requires-2 c κs = search needs
 -- src/lib.rt:236:9
 add-settle-3 : tie.Need-add-settle-3
 add-settle-3 c =
-    let fine₁ = checked-fine (c .before .before .before .before .before .before .before .before .before .before .before .before .before .before .before .before .before .before .before .before .before .before .before .before .args .content .now) (c .before .before .before .before .before .before .before .before .before .before .before .before .before .before .before .before .before .before .before .before .before .before .before .before .args .entries .now) (c .before .before .before .before .before .before .before .before .before .before .before .before .before .before .before .before .before .before .before .before .before .before .before .before .args .text .now) (c .before .before .before .before .before .before .before .before .before .before .before .checked2 .given .0 .0) (c .before .before .before .before .before .before .before .before .before .before .before .before .before .check .result) (c .before .before .before .before .before .before .before .before .before .before .before .checked2 .given .1) (c .before .before .before .before .before .before .before .before .before .before .before .before .before .check .ensures .0) (c .before .before .before .before .before .before .before .before .before .before .before .before .before .check .ensures .1 .0) (c .before .before .before .before .before .before .before .before .before .before .before .before .before .check .ensures .1 .1) in
-    let fine₂ = checked-fine (c .before .before .before .before .before .before .before .before .before .before .before .before .before .before .before .before .before .before .before .before .before .before .before .before .args .fill .now) (c .before .before .before .before .before .before .before .before .before .before .before .before .before .before .before .before .before .before .before .before .before .before .before .before .args .fill-entries .now) (c .before .before .before .before .before .before .before .before .before .before .before .before .before .before .before .before .before .before .before .before .before .before .before .before .args .fill-text .now) (c .before .before .before .before .before .before .second2 .given .0 .0) (c .before .before .before .before .before .before .before .before .check2 .result) (c .before .before .before .before .before .before .second2 .given .1) (c .before .before .before .before .before .before .before .before .check2 .ensures .0) (c .before .before .before .before .before .before .before .before .check2 .ensures .1 .0) (c .before .before .before .before .before .before .before .before .check2 .ensures .1 .1) in
+    let a = c .before .before .before .before .before .before .before .before .before .before .before .before .before .before .before .before .before .before .before .before .before .before .before .before .args in
+    let k₁ = c .before .before .before .before .before .before .before .before .before .before .before .before .before .check in
+    let g₁ = c .before .before .before .before .before .before .before .before .before .before .before .checked2 .given in
+    let fine₁ = checked-fine (a .content .now) (a .entries .now) (a .text .now) (g₁ .0 .0) (k₁ .result) (g₁ .1) (k₁ .ensures .0) (k₁ .ensures .1 .0) (k₁ .ensures .1 .1) in
+    let k₂ = c .before .before .before .before .before .before .before .before .check2 in
+    let g₂ = c .before .before .before .before .before .before .second2 .given in
+    let fine₂ = checked-fine (a .fill .now) (a .fill-entries .now) (a .fill-text .now) (g₂ .0 .0) (k₂ .result) (g₂ .1) (k₂ .ensures .0) (k₂ .ensures .1 .0) (k₂ .ensures .1 .1) in
     omega (arith, fine₁ .entries-short, fine₂ .entries-short, c .before .once-if .ensures .1, c .once-if2 .ensures .1)
 
 -- src/lib.rt:237:16
@@ -113,8 +140,13 @@ once-if-requires-3 c κs = search needs
 -- src/lib.rt:237:9
 add-settle-4 : tie.Need-add-settle-4
 add-settle-4 c =
-    let fine₁ = checked-fine (c .before .before .before .before .before .before .before .before .before .before .before .before .before .before .before .before .before .before .before .before .before .before .before .before .before .args .content .now) (c .before .before .before .before .before .before .before .before .before .before .before .before .before .before .before .before .before .before .before .before .before .before .before .before .before .args .entries .now) (c .before .before .before .before .before .before .before .before .before .before .before .before .before .before .before .before .before .before .before .before .before .before .before .before .before .args .text .now) (c .before .before .before .before .before .before .before .before .before .before .before .before .checked2 .given .0 .0) (c .before .before .before .before .before .before .before .before .before .before .before .before .before .before .check .result) (c .before .before .before .before .before .before .before .before .before .before .before .before .checked2 .given .1) (c .before .before .before .before .before .before .before .before .before .before .before .before .before .before .check .ensures .0) (c .before .before .before .before .before .before .before .before .before .before .before .before .before .before .check .ensures .1 .0) (c .before .before .before .before .before .before .before .before .before .before .before .before .before .before .check .ensures .1 .1) in
-    let fine₂ = checked-fine (c .before .before .before .before .before .before .before .before .before .before .before .before .before .before .before .before .before .before .before .before .before .before .before .before .before .args .fill .now) (c .before .before .before .before .before .before .before .before .before .before .before .before .before .before .before .before .before .before .before .before .before .before .before .before .before .args .fill-entries .now) (c .before .before .before .before .before .before .before .before .before .before .before .before .before .before .before .before .before .before .before .before .before .before .before .before .before .args .fill-text .now) (c .before .before .before .before .before .before .before .second2 .given .0 .0) (c .before .before .before .before .before .before .before .before .before .check2 .result) (c .before .before .before .before .before .before .before .second2 .given .1) (c .before .before .before .before .before .before .before .before .before .check2 .ensures .0) (c .before .before .before .before .before .before .before .before .before .check2 .ensures .1 .0) (c .before .before .before .before .before .before .before .before .before .check2 .ensures .1 .1) in
+    let a = c .before .before .before .before .before .before .before .before .before .before .before .before .before .before .before .before .before .before .before .before .before .before .before .before .before .args in
+    let k₁ = c .before .before .before .before .before .before .before .before .before .before .before .before .before .before .check in
+    let g₁ = c .before .before .before .before .before .before .before .before .before .before .before .before .checked2 .given in
+    let fine₁ = checked-fine (a .content .now) (a .entries .now) (a .text .now) (g₁ .0 .0) (k₁ .result) (g₁ .1) (k₁ .ensures .0) (k₁ .ensures .1 .0) (k₁ .ensures .1 .1) in
+    let k₂ = c .before .before .before .before .before .before .before .before .before .check2 in
+    let g₂ = c .before .before .before .before .before .before .before .second2 .given in
+    let fine₂ = checked-fine (a .fill .now) (a .fill-entries .now) (a .fill-text .now) (g₂ .0 .0) (k₂ .result) (g₂ .1) (k₂ .ensures .0) (k₂ .ensures .1 .0) (k₂ .ensures .1 .1) in
     omega (arith, fine₁ .text-short, fine₂ .text-short, c .once-if3 .ensures .1)
 
 -- src/lib.rt:237:43
@@ -124,8 +156,13 @@ once-if-requires-4 c κs = search needs
 -- src/lib.rt:237:9
 add-settle-5 : tie.Need-add-settle-5
 add-settle-5 c =
-    let fine₁ = checked-fine (c .before .before .before .before .before .before .before .before .before .before .before .before .before .before .before .before .before .before .before .before .before .before .before .before .before .before .args .content .now) (c .before .before .before .before .before .before .before .before .before .before .before .before .before .before .before .before .before .before .before .before .before .before .before .before .before .before .args .entries .now) (c .before .before .before .before .before .before .before .before .before .before .before .before .before .before .before .before .before .before .before .before .before .before .before .before .before .before .args .text .now) (c .before .before .before .before .before .before .before .before .before .before .before .before .before .checked2 .given .0 .0) (c .before .before .before .before .before .before .before .before .before .before .before .before .before .before .before .check .result) (c .before .before .before .before .before .before .before .before .before .before .before .before .before .checked2 .given .1) (c .before .before .before .before .before .before .before .before .before .before .before .before .before .before .before .check .ensures .0) (c .before .before .before .before .before .before .before .before .before .before .before .before .before .before .before .check .ensures .1 .0) (c .before .before .before .before .before .before .before .before .before .before .before .before .before .before .before .check .ensures .1 .1) in
-    let fine₂ = checked-fine (c .before .before .before .before .before .before .before .before .before .before .before .before .before .before .before .before .before .before .before .before .before .before .before .before .before .before .args .fill .now) (c .before .before .before .before .before .before .before .before .before .before .before .before .before .before .before .before .before .before .before .before .before .before .before .before .before .before .args .fill-entries .now) (c .before .before .before .before .before .before .before .before .before .before .before .before .before .before .before .before .before .before .before .before .before .before .before .before .before .before .args .fill-text .now) (c .before .before .before .before .before .before .before .before .second2 .given .0 .0) (c .before .before .before .before .before .before .before .before .before .before .check2 .result) (c .before .before .before .before .before .before .before .before .second2 .given .1) (c .before .before .before .before .before .before .before .before .before .before .check2 .ensures .0) (c .before .before .before .before .before .before .before .before .before .before .check2 .ensures .1 .0) (c .before .before .before .before .before .before .before .before .before .before .check2 .ensures .1 .1) in
+    let a = c .before .before .before .before .before .before .before .before .before .before .before .before .before .before .before .before .before .before .before .before .before .before .before .before .before .before .args in
+    let k₁ = c .before .before .before .before .before .before .before .before .before .before .before .before .before .before .before .check in
+    let g₁ = c .before .before .before .before .before .before .before .before .before .before .before .before .before .checked2 .given in
+    let fine₁ = checked-fine (a .content .now) (a .entries .now) (a .text .now) (g₁ .0 .0) (k₁ .result) (g₁ .1) (k₁ .ensures .0) (k₁ .ensures .1 .0) (k₁ .ensures .1 .1) in
+    let k₂ = c .before .before .before .before .before .before .before .before .before .before .check2 in
+    let g₂ = c .before .before .before .before .before .before .before .before .second2 .given in
+    let fine₂ = checked-fine (a .fill .now) (a .fill-entries .now) (a .fill-text .now) (g₂ .0 .0) (k₂ .result) (g₂ .1) (k₂ .ensures .0) (k₂ .ensures .1 .0) (k₂ .ensures .1 .1) in
     omega (arith, fine₁ .text-short, fine₂ .text-short, c .before .once-if3 .ensures .1, c .once-if4 .ensures .1)
 
 -- src/lib.rt:234:9
@@ -139,9 +176,27 @@ enum-known-verdict c = search needs
 -- src/lib.rt:246:13
 returns-3 : tie.Need-returns-3
 returns-3 c =
-    let fine₁ = checked-fine (c .before .before .before .before .before .before .before .before .before .before .before .before .before .before .before .before .before .before .before .before .before .before .before .before .before .before .before .before .before .before .args .content .now) (c .before .before .before .before .before .before .before .before .before .before .before .before .before .before .before .before .before .before .before .before .before .before .before .before .before .before .before .before .before .before .args .entries .now) (c .before .before .before .before .before .before .before .before .before .before .before .before .before .before .before .before .before .before .before .before .before .before .before .before .before .before .before .before .before .before .args .text .now) (c .before .before .before .before .before .before .before .before .before .before .before .before .before .before .before .before .before .checked2 .given .0 .0) (c .before .before .before .before .before .before .before .before .before .before .before .before .before .before .before .before .before .before .before .check .result) (c .before .before .before .before .before .before .before .before .before .before .before .before .before .before .before .before .before .checked2 .given .1) (c .before .before .before .before .before .before .before .before .before .before .before .before .before .before .before .before .before .before .before .check .ensures .0) (c .before .before .before .before .before .before .before .before .before .before .before .before .before .before .before .before .before .before .before .check .ensures .1 .0) (c .before .before .before .before .before .before .before .before .before .before .before .before .before .before .before .before .before .before .before .check .ensures .1 .1) in
-    let fine₂ = checked-fine (c .before .before .before .before .before .before .before .before .before .before .before .before .before .before .before .before .before .before .before .before .before .before .before .before .before .before .before .before .before .before .args .fill .now) (c .before .before .before .before .before .before .before .before .before .before .before .before .before .before .before .before .before .before .before .before .before .before .before .before .before .before .before .before .before .before .args .fill-entries .now) (c .before .before .before .before .before .before .before .before .before .before .before .before .before .before .before .before .before .before .before .before .before .before .before .before .before .before .before .before .before .before .args .fill-text .now) (c .before .before .before .before .before .before .before .before .before .before .before .before .second2 .given .0 .0) (c .before .before .before .before .before .before .before .before .before .before .before .before .before .before .check2 .result) (c .before .before .before .before .before .before .before .before .before .before .before .before .second2 .given .1) (c .before .before .before .before .before .before .before .before .before .before .before .before .before .before .check2 .ensures .0) (c .before .before .before .before .before .before .before .before .before .before .before .before .before .before .check2 .ensures .1 .0) (c .before .before .before .before .before .before .before .before .before .before .before .before .before .before .check2 .ensures .1 .1) in
-    sizes-refused (c .before .before .before .before .before .before .before .before .before .before .before .before .before .before .before .before .before .before .before .before .before .before .before .before .before .before .before .before .before .before .args .content .now) (c .before .before .before .before .before .before .before .before .before .before .before .before .before .before .before .before .before .before .before .before .before .before .before .before .before .before .before .before .before .before .args .entries .now) (c .before .before .before .before .before .before .before .before .before .before .before .before .before .before .before .before .before .before .before .before .before .before .before .before .before .before .before .before .before .before .args .text .now) (c .before .before .before .before .before .before .before .before .before .before .before .before .before .before .before .before .before .before .before .before .before .before .before .before .before .before .before .before .before .before .args .fill .now) (c .before .before .before .before .before .before .before .before .before .before .before .before .before .before .before .before .before .before .before .before .before .before .before .before .before .before .before .before .before .before .args .fill-entries .now) (c .before .before .before .before .before .before .before .before .before .before .before .before .before .before .before .before .before .before .before .before .before .before .before .before .before .before .before .before .before .before .args .fill-text .now) (c .before .before .before .before .before .before .before .before .before .before .before .before .before .before .before .before .before .before .before .before .before .before .before .before .before .before .before .before .before .before .args .bytes .now) (c .before .before .before .before .before .before .before .before .before .before .before .before .before .before .before .before .before .before .before .before .before .before .before .before .before .before .before .before .before .before .args .numbers .now) (c .before .before .before .before .before .before .before .before .before .before .before .before .before .before .before .before .before .before .before .before .before .before .before .before .before .before .before .before .before .before .args .texts .now) (jobOf (c .before .before .before .before .before .before .before .before .before .before .before .before .before .before .before .before .before .before .before .before .before .before .before .before .before .before .before .before .before .before .args .side) (c .before .before .before .before .before .before .before .before .before .before .before .before .before .before .before .before .before .before .before .before .before .before .before .before .before .before .before .before .before .before .args .min-width) (recording (c .before .before .before .before .before .before .before .before .before .before .before .before .before .before .before .before .before .before .before .before .before .before .before .before .before .before .before .before .before .before .args .fill .now) (c .before .before .before .before .before .before .before .before .before .before .before .before .before .before .before .before .before .before .before .before .before .before .before .before .before .before .before .before .before .before .args .fill-entries .now) (c .before .before .before .before .before .before .before .before .before .before .before .before .before .before .before .before .before .before .before .before .before .before .before .before .before .before .before .before .before .before .args .fill-text .now))) _ fine₁ (second-of (c .before .before .before .before .before .before .before .before .before .before .before .before .before .before .before .before .before .before .before .before .before .before .before .before .before .before .before .before .before .before .args .side) (c .before .before .before .before .before .before .before .before .before .before .before .before .before .before .before .before .before .before .before .before .before .before .before .before .before .before .before .before .before .before .args .min-width) (recording (c .before .before .before .before .before .before .before .before .before .before .before .before .before .before .before .before .before .before .before .before .before .before .before .before .before .before .before .before .before .before .args .fill .now) (c .before .before .before .before .before .before .before .before .before .before .before .before .before .before .before .before .before .before .before .before .before .before .before .before .before .before .before .before .before .before .args .fill-entries .now) (c .before .before .before .before .before .before .before .before .before .before .before .before .before .before .before .before .before .before .before .before .before .before .before .before .before .before .before .before .before .before .args .fill-text .now))) _ fine₂ (records-of (c .before .before .before .before .before .before .before .before .before .before .before .before .before .before .before .before .before .before .before .before .before .before .before .before .before .before .before .before .before .before .args .side) (c .before .before .before .before .before .before .before .before .before .before .before .before .before .before .before .before .before .before .before .before .before .before .before .before .before .before .before .before .before .before .args .min-width) (recording (c .before .before .before .before .before .before .before .before .before .before .before .before .before .before .before .before .before .before .before .before .before .before .before .before .before .before .before .before .before .before .args .fill .now) (c .before .before .before .before .before .before .before .before .before .before .before .before .before .before .before .before .before .before .before .before .before .before .before .before .before .before .before .before .before .before .args .fill-entries .now) (c .before .before .before .before .before .before .before .before .before .before .before .before .before .before .before .before .before .before .before .before .before .before .before .before .before .before .before .before .before .before .args .fill-text .now)) (recording (c .before .before .before .before .before .before .before .before .before .before .before .before .before .before .before .before .before .before .before .before .before .before .before .before .before .before .before .before .before .before .args .content .now) (c .before .before .before .before .before .before .before .before .before .before .before .before .before .before .before .before .before .before .before .before .before .before .before .before .before .before .before .before .before .before .args .entries .now) (c .before .before .before .before .before .before .before .before .before .before .before .before .before .before .before .before .before .before .before .before .before .before .before .before .before .before .before .before .before .before .args .text .now))) (lines-of (c .before .before .before .before .before .before .before .before .before .before .before .before .before .before .before .before .before .before .before .before .before .before .before .before .before .before .before .before .before .before .args .side) (c .before .before .before .before .before .before .before .before .before .before .before .before .before .before .before .before .before .before .before .before .before .before .before .before .before .before .before .before .before .before .args .min-width) (recording (c .before .before .before .before .before .before .before .before .before .before .before .before .before .before .before .before .before .before .before .before .before .before .before .before .before .before .before .before .before .before .args .fill .now) (c .before .before .before .before .before .before .before .before .before .before .before .before .before .before .before .before .before .before .before .before .before .before .before .before .before .before .before .before .before .before .args .fill-entries .now) (c .before .before .before .before .before .before .before .before .before .before .before .before .before .before .before .before .before .before .before .before .before .before .before .before .before .before .before .before .before .before .args .fill-text .now)) (recording (c .before .before .before .before .before .before .before .before .before .before .before .before .before .before .before .before .before .before .before .before .before .before .before .before .before .before .before .before .before .before .args .content .now) (c .before .before .before .before .before .before .before .before .before .before .before .before .before .before .before .before .before .before .before .before .before .before .before .before .before .before .before .before .before .before .args .entries .now) (c .before .before .before .before .before .before .before .before .before .before .before .before .before .before .before .before .before .before .before .before .before .before .before .before .before .before .before .before .before .before .args .text .now))) _ (items-of (c .before .before .before .before .before .before .before .before .before .before .before .before .before .before .before .before .before .before .before .before .before .before .before .before .before .before .before .before .before .before .args .side) (c .before .before .before .before .before .before .before .before .before .before .before .before .before .before .before .before .before .before .before .before .before .before .before .before .before .before .before .before .before .before .args .min-width) (c .before .before .before .before .before .before .before .before .before .fill-count .result) (c .before .before .before .before .before .before .before .before .left-count .result) (recording (c .before .before .before .before .before .before .before .before .before .before .before .before .before .before .before .before .before .before .before .before .before .before .before .before .before .before .before .before .before .before .args .fill .now) (c .before .before .before .before .before .before .before .before .before .before .before .before .before .before .before .before .before .before .before .before .before .before .before .before .before .before .before .before .before .before .args .fill-entries .now) (c .before .before .before .before .before .before .before .before .before .before .before .before .before .before .before .before .before .before .before .before .before .before .before .before .before .before .before .before .before .before .args .fill-text .now)) (recording (c .before .before .before .before .before .before .before .before .before .before .before .before .before .before .before .before .before .before .before .before .before .before .before .before .before .before .before .before .before .before .args .content .now) (c .before .before .before .before .before .before .before .before .before .before .before .before .before .before .before .before .before .before .before .before .before .before .before .before .before .before .before .before .before .before .args .entries .now) (c .before .before .before .before .before .before .before .before .before .before .before .before .before .before .before .before .before .before .before .before .before .before .before .before .before .before .before .before .before .before .args .text .now)) (c .before .before .before .before .before .before .before .before .before .fill-count .ensures .0) (c .before .before .before .before .before .before .before .before .left-count .ensures .0)) _ _ _ (sides-data (c .before .before .before .before .before .before .before .before .before .before .before .before .before .before .before .before .before .before .before .before .before .before .before .before .before .before .before .before .before .before .args .content .now) (c .before .before .before .before .before .before .before .before .before .before .before .before .before .before .before .before .before .before .before .before .before .before .before .before .before .before .before .before .before .before .args .entries .now) (c .before .before .before .before .before .before .before .before .before .before .before .before .before .before .before .before .before .before .before .before .before .before .before .before .before .before .before .before .before .before .args .text .now) (c .before .before .before .before .before .before .before .before .before .before .before .before .before .before .before .before .before .before .before .before .before .before .before .before .before .before .before .before .before .before .args .fill .now) (c .before .before .before .before .before .before .before .before .before .before .before .before .before .before .before .before .before .before .before .before .before .before .before .before .before .before .before .before .before .before .args .fill-entries .now) (c .before .before .before .before .before .before .before .before .before .before .before .before .before .before .before .before .before .before .before .before .before .before .before .before .before .before .before .before .before .before .args .fill-text .now) _ _ (c .before .before .before .before .before .before .before .before .before .fill-count .result) (c .before .before .before .before .before .before .before .before .left-count .result) (c .before .before .before .before .before .before .before .before .left-count .ensures .1) fine₁ fine₂) (sides-entries (c .before .before .before .before .before .before .before .before .before .before .before .before .before .before .before .before .before .before .before .before .before .before .before .before .before .before .before .before .before .before .args .content .now) (c .before .before .before .before .before .before .before .before .before .before .before .before .before .before .before .before .before .before .before .before .before .before .before .before .before .before .before .before .before .before .args .entries .now) (c .before .before .before .before .before .before .before .before .before .before .before .before .before .before .before .before .before .before .before .before .before .before .before .before .before .before .before .before .before .before .args .text .now) (c .before .before .before .before .before .before .before .before .before .before .before .before .before .before .before .before .before .before .before .before .before .before .before .before .before .before .before .before .before .before .args .fill .now) (c .before .before .before .before .before .before .before .before .before .before .before .before .before .before .before .before .before .before .before .before .before .before .before .before .before .before .before .before .before .before .args .fill-entries .now) (c .before .before .before .before .before .before .before .before .before .before .before .before .before .before .before .before .before .before .before .before .before .before .before .before .before .before .before .before .before .before .args .fill-text .now) _ _ (c .before .before .before .before .before .before .before .before .before .fill-count .result) (c .before .before .before .before .before .before .before .before .left-count .result) (c .before .before .before .before .before .before .before .before .left-count .ensures .1) fine₁ fine₂ (c .before .before .before .before .before .before .before .once-if .result) (c .before .before .before .before .before .before .once-if2 .result) (c .before .before .before .before .before .before .before .once-if .ensures .0) (c .before .before .before .before .before .before .once-if2 .ensures .0)) (sides-text (c .before .before .before .before .before .before .before .before .before .before .before .before .before .before .before .before .before .before .before .before .before .before .before .before .before .before .before .before .before .before .args .content .now) (c .before .before .before .before .before .before .before .before .before .before .before .before .before .before .before .before .before .before .before .before .before .before .before .before .before .before .before .before .before .before .args .entries .now) (c .before .before .before .before .before .before .before .before .before .before .before .before .before .before .before .before .before .before .before .before .before .before .before .before .before .before .before .before .before .before .args .text .now) (c .before .before .before .before .before .before .before .before .before .before .before .before .before .before .before .before .before .before .before .before .before .before .before .before .before .before .before .before .before .before .args .fill .now) (c .before .before .before .before .before .before .before .before .before .before .before .before .before .before .before .before .before .before .before .before .before .before .before .before .before .before .before .before .before .before .args .fill-entries .now) (c .before .before .before .before .before .before .before .before .before .before .before .before .before .before .before .before .before .before .before .before .before .before .before .before .before .before .before .before .before .before .args .fill-text .now) _ _ (c .before .before .before .before .before .before .before .before .before .fill-count .result) (c .before .before .before .before .before .before .before .before .left-count .result) (c .before .before .before .before .before .before .before .before .left-count .ensures .1) fine₁ fine₂ (c .before .before .before .before .before .once-if3 .result) (c .before .before .before .before .once-if4 .result) (c .before .before .before .before .before .once-if3 .ensures .0) (c .before .before .before .before .once-if4 .ensures .0)) (c .before .before .before .settle .result) (c .before .before .before .settle .ensures) (c .before .verdict .given .0 .0) (c .before .verdict .given .1)
+    let a = c .before .before .before .before .before .before .before .before .before .before .before .before .before .before .before .before .before .before .before .before .before .before .before .before .before .before .before .before .before .before .args in
+    let content = recording (a .content .now) (a .entries .now) (a .text .now) in
+    let second = recording (a .fill .now) (a .fill-entries .now) (a .fill-text .now) in
+    let k₁ = c .before .before .before .before .before .before .before .before .before .before .before .before .before .before .before .before .before .before .before .check in
+    let g₁ = c .before .before .before .before .before .before .before .before .before .before .before .before .before .before .before .before .before .checked2 .given in
+    let fine₁ = checked-fine (a .content .now) (a .entries .now) (a .text .now) (g₁ .0 .0) (k₁ .result) (g₁ .1) (k₁ .ensures .0) (k₁ .ensures .1 .0) (k₁ .ensures .1 .1) in
+    let k₂ = c .before .before .before .before .before .before .before .before .before .before .before .before .before .before .check2 in
+    let g₂ = c .before .before .before .before .before .before .before .before .before .before .before .before .second2 .given in
+    let fine₂ = checked-fine (a .fill .now) (a .fill-entries .now) (a .fill-text .now) (g₂ .0 .0) (k₂ .result) (g₂ .1) (k₂ .ensures .0) (k₂ .ensures .1 .0) (k₂ .ensures .1 .1) in
+    let n = c .before .before .before .before .before .before .before .before .before .fill-count in
+    let l = c .before .before .before .before .before .before .before .before .left-count in
+    let e₁ = c .before .before .before .before .before .before .before .once-if in
+    let e₂ = c .before .before .before .before .before .before .once-if2 in
+    let t₁ = c .before .before .before .before .before .once-if3 in
+    let t₂ = c .before .before .before .before .once-if4 in
+    let v = c .before .before .before .settle in
+    let d-is = sides-data (a .content .now) (a .entries .now) (a .text .now) (a .fill .now) (a .fill-entries .now) (a .fill-text .now) (g₁ .0 .0) (g₂ .0 .0) (n .result) (l .result) (l .ensures .1) fine₁ fine₂ in
+    let e-is = sides-entries (a .content .now) (a .entries .now) (a .text .now) (a .fill .now) (a .fill-entries .now) (a .fill-text .now) (g₁ .0 .0) (g₂ .0 .0) (n .result) (l .result) (l .ensures .1) fine₁ fine₂ (e₁ .result) (e₂ .result) (e₁ .ensures .0) (e₂ .ensures .0) in
+    let t-is = sides-text (a .content .now) (a .entries .now) (a .text .now) (a .fill .now) (a .fill-entries .now) (a .fill-text .now) (g₁ .0 .0) (g₂ .0 .0) (n .result) (l .result) (l .ensures .1) fine₁ fine₂ (t₁ .result) (t₂ .result) (t₁ .ensures .0) (t₂ .ensures .0) in
+    let i-is = items-of (a .side) (a .min-width) (n .result) (l .result) second content (n .ensures .0) (l .ensures .0) in
+    sizes-refused (a .content .now) (a .entries .now) (a .text .now) (a .fill .now) (a .fill-entries .now) (a .fill-text .now) (a .bytes .now) (a .numbers .now) (a .texts .now) (jobOf (a .side) (a .min-width) second) (g₁ .0 .0) fine₁ (second-of (a .side) (a .min-width) second) (g₂ .0 .0) fine₂ (records-of (a .side) (a .min-width) second content) (lines-of (a .side) (a .min-width) second content) _ i-is _ _ _ d-is e-is t-is (v .result) (v .ensures) (c .before .verdict .given .0 .0) (c .before .verdict .given .1)
 
 enum-told : tie.Need-enum-told
 enum-told c = search needs
@@ -149,9 +204,27 @@ enum-told c = search needs
 -- src/lib.rt:250:9
 put-padded-requires : tie.Need-put-padded-requires
 put-padded-requires c κs =
-    let fine₁ = checked-fine (c .before .before .before .before .before .before .before .before .before .before .before .before .before .before .before .before .before .before .before .before .before .before .before .before .before .before .before .before .before .before .before .before .args .content .now) (c .before .before .before .before .before .before .before .before .before .before .before .before .before .before .before .before .before .before .before .before .before .before .before .before .before .before .before .before .before .before .before .before .args .entries .now) (c .before .before .before .before .before .before .before .before .before .before .before .before .before .before .before .before .before .before .before .before .before .before .before .before .before .before .before .before .before .before .before .before .args .text .now) (c .before .before .before .before .before .before .before .before .before .before .before .before .before .before .before .before .before .before .before .checked2 .given .0 .0) (c .before .before .before .before .before .before .before .before .before .before .before .before .before .before .before .before .before .before .before .before .before .check .result) (c .before .before .before .before .before .before .before .before .before .before .before .before .before .before .before .before .before .before .before .checked2 .given .1) (c .before .before .before .before .before .before .before .before .before .before .before .before .before .before .before .before .before .before .before .before .before .check .ensures .0) (c .before .before .before .before .before .before .before .before .before .before .before .before .before .before .before .before .before .before .before .before .before .check .ensures .1 .0) (c .before .before .before .before .before .before .before .before .before .before .before .before .before .before .before .before .before .before .before .before .before .check .ensures .1 .1) in
-    let fine₂ = checked-fine (c .before .before .before .before .before .before .before .before .before .before .before .before .before .before .before .before .before .before .before .before .before .before .before .before .before .before .before .before .before .before .before .before .args .fill .now) (c .before .before .before .before .before .before .before .before .before .before .before .before .before .before .before .before .before .before .before .before .before .before .before .before .before .before .before .before .before .before .before .before .args .fill-entries .now) (c .before .before .before .before .before .before .before .before .before .before .before .before .before .before .before .before .before .before .before .before .before .before .before .before .before .before .before .before .before .before .before .before .args .fill-text .now) (c .before .before .before .before .before .before .before .before .before .before .before .before .before .before .second2 .given .0 .0) (c .before .before .before .before .before .before .before .before .before .before .before .before .before .before .before .before .check2 .result) (c .before .before .before .before .before .before .before .before .before .before .before .before .before .before .second2 .given .1) (c .before .before .before .before .before .before .before .before .before .before .before .before .before .before .before .before .check2 .ensures .0) (c .before .before .before .before .before .before .before .before .before .before .before .before .before .before .before .before .check2 .ensures .1 .0) (c .before .before .before .before .before .before .before .before .before .before .before .before .before .before .before .before .check2 .ensures .1 .1) in
-    ((fine₁ .whole, fine₂ .whole), room-left (c .before .before .before .before .before .before .before .before .before .before .before .before .before .before .before .before .before .before .before .before .before .before .before .before .before .before .before .before .before .before .before .before .args .content .now) (c .before .before .before .before .before .before .before .before .before .before .before .before .before .before .before .before .before .before .before .before .before .before .before .before .before .before .before .before .before .before .before .before .args .entries .now) (c .before .before .before .before .before .before .before .before .before .before .before .before .before .before .before .before .before .before .before .before .before .before .before .before .before .before .before .before .before .before .before .before .args .text .now) (c .before .before .before .before .before .before .before .before .before .before .before .before .before .before .before .before .before .before .before .before .before .before .before .before .before .before .before .before .before .before .before .before .args .fill .now) (c .before .before .before .before .before .before .before .before .before .before .before .before .before .before .before .before .before .before .before .before .before .before .before .before .before .before .before .before .before .before .before .before .args .fill-entries .now) (c .before .before .before .before .before .before .before .before .before .before .before .before .before .before .before .before .before .before .before .before .before .before .before .before .before .before .before .before .before .before .before .before .args .fill-text .now) (c .before .before .before .before .before .before .before .before .before .before .before .before .before .before .before .before .before .before .before .before .before .before .before .before .before .before .before .before .before .before .before .before .args .bytes .now) (c .before .before .before .before .before .before .before .before .before .before .before .before .before .before .before .before .before .before .before .before .before .before .before .before .before .before .before .before .before .before .before .before .args .numbers .now) (c .before .before .before .before .before .before .before .before .before .before .before .before .before .before .before .before .before .before .before .before .before .before .before .before .before .before .before .before .before .before .before .before .args .texts .now) (jobOf (c .before .before .before .before .before .before .before .before .before .before .before .before .before .before .before .before .before .before .before .before .before .before .before .before .before .before .before .before .before .before .before .before .args .side) (c .before .before .before .before .before .before .before .before .before .before .before .before .before .before .before .before .before .before .before .before .before .before .before .before .before .before .before .before .before .before .before .before .args .min-width) (recording (c .before .before .before .before .before .before .before .before .before .before .before .before .before .before .before .before .before .before .before .before .before .before .before .before .before .before .before .before .before .before .before .before .args .fill .now) (c .before .before .before .before .before .before .before .before .before .before .before .before .before .before .before .before .before .before .before .before .before .before .before .before .before .before .before .before .before .before .before .before .args .fill-entries .now) (c .before .before .before .before .before .before .before .before .before .before .before .before .before .before .before .before .before .before .before .before .before .before .before .before .before .before .before .before .before .before .before .before .args .fill-text .now))) _ fine₁ (second-of (c .before .before .before .before .before .before .before .before .before .before .before .before .before .before .before .before .before .before .before .before .before .before .before .before .before .before .before .before .before .before .before .before .args .side) (c .before .before .before .before .before .before .before .before .before .before .before .before .before .before .before .before .before .before .before .before .before .before .before .before .before .before .before .before .before .before .before .before .args .min-width) (recording (c .before .before .before .before .before .before .before .before .before .before .before .before .before .before .before .before .before .before .before .before .before .before .before .before .before .before .before .before .before .before .before .before .args .fill .now) (c .before .before .before .before .before .before .before .before .before .before .before .before .before .before .before .before .before .before .before .before .before .before .before .before .before .before .before .before .before .before .before .before .args .fill-entries .now) (c .before .before .before .before .before .before .before .before .before .before .before .before .before .before .before .before .before .before .before .before .before .before .before .before .before .before .before .before .before .before .before .before .args .fill-text .now))) _ fine₂ (records-of (c .before .before .before .before .before .before .before .before .before .before .before .before .before .before .before .before .before .before .before .before .before .before .before .before .before .before .before .before .before .before .before .before .args .side) (c .before .before .before .before .before .before .before .before .before .before .before .before .before .before .before .before .before .before .before .before .before .before .before .before .before .before .before .before .before .before .before .before .args .min-width) (recording (c .before .before .before .before .before .before .before .before .before .before .before .before .before .before .before .before .before .before .before .before .before .before .before .before .before .before .before .before .before .before .before .before .args .fill .now) (c .before .before .before .before .before .before .before .before .before .before .before .before .before .before .before .before .before .before .before .before .before .before .before .before .before .before .before .before .before .before .before .before .args .fill-entries .now) (c .before .before .before .before .before .before .before .before .before .before .before .before .before .before .before .before .before .before .before .before .before .before .before .before .before .before .before .before .before .before .before .before .args .fill-text .now)) (recording (c .before .before .before .before .before .before .before .before .before .before .before .before .before .before .before .before .before .before .before .before .before .before .before .before .before .before .before .before .before .before .before .before .args .content .now) (c .before .before .before .before .before .before .before .before .before .before .before .before .before .before .before .before .before .before .before .before .before .before .before .before .before .before .before .before .before .before .before .before .args .entries .now) (c .before .before .before .before .before .before .before .before .before .before .before .before .before .before .before .before .before .before .before .before .before .before .before .before .before .before .before .before .before .before .before .before .args .text .now))) (lines-of (c .before .before .before .before .before .before .before .before .before .before .before .before .before .before .before .before .before .before .before .before .before .before .before .before .before .before .before .before .before .before .before .before .args .side) (c .before .before .before .before .before .before .before .before .before .before .before .before .before .before .before .before .before .before .before .before .before .before .before .before .before .before .before .before .before .before .before .before .args .min-width) (recording (c .before .before .before .before .before .before .before .before .before .before .before .before .before .before .before .before .before .before .before .before .before .before .before .before .before .before .before .before .before .before .before .before .args .fill .now) (c .before .before .before .before .before .before .before .before .before .before .before .before .before .before .before .before .before .before .before .before .before .before .before .before .before .before .before .before .before .before .before .before .args .fill-entries .now) (c .before .before .before .before .before .before .before .before .before .before .before .before .before .before .before .before .before .before .before .before .before .before .before .before .before .before .before .before .before .before .before .before .args .fill-text .now)) (recording (c .before .before .before .before .before .before .before .before .before .before .before .before .before .before .before .before .before .before .before .before .before .before .before .before .before .before .before .before .before .before .before .before .args .content .now) (c .before .before .before .before .before .before .before .before .before .before .before .before .before .before .before .before .before .before .before .before .before .before .before .before .before .before .before .before .before .before .before .before .args .entries .now) (c .before .before .before .before .before .before .before .before .before .before .before .before .before .before .before .before .before .before .before .before .before .before .before .before .before .before .before .before .before .before .before .before .args .text .now))) _ (items-of (c .before .before .before .before .before .before .before .before .before .before .before .before .before .before .before .before .before .before .before .before .before .before .before .before .before .before .before .before .before .before .before .before .args .side) (c .before .before .before .before .before .before .before .before .before .before .before .before .before .before .before .before .before .before .before .before .before .before .before .before .before .before .before .before .before .before .before .before .args .min-width) (c .before .before .before .before .before .before .before .before .before .before .before .fill-count .result) (c .before .before .before .before .before .before .before .before .before .before .left-count .result) (recording (c .before .before .before .before .before .before .before .before .before .before .before .before .before .before .before .before .before .before .before .before .before .before .before .before .before .before .before .before .before .before .before .before .args .fill .now) (c .before .before .before .before .before .before .before .before .before .before .before .before .before .before .before .before .before .before .before .before .before .before .before .before .before .before .before .before .before .before .before .before .args .fill-entries .now) (c .before .before .before .before .before .before .before .before .before .before .before .before .before .before .before .before .before .before .before .before .before .before .before .before .before .before .before .before .before .before .before .before .args .fill-text .now)) (recording (c .before .before .before .before .before .before .before .before .before .before .before .before .before .before .before .before .before .before .before .before .before .before .before .before .before .before .before .before .before .before .before .before .args .content .now) (c .before .before .before .before .before .before .before .before .before .before .before .before .before .before .before .before .before .before .before .before .before .before .before .before .before .before .before .before .before .before .before .before .args .entries .now) (c .before .before .before .before .before .before .before .before .before .before .before .before .before .before .before .before .before .before .before .before .before .before .before .before .before .before .before .before .before .before .before .before .args .text .now)) (c .before .before .before .before .before .before .before .before .before .before .before .fill-count .ensures .0) (c .before .before .before .before .before .before .before .before .before .before .left-count .ensures .0)) _ _ _ (sides-data (c .before .before .before .before .before .before .before .before .before .before .before .before .before .before .before .before .before .before .before .before .before .before .before .before .before .before .before .before .before .before .before .before .args .content .now) (c .before .before .before .before .before .before .before .before .before .before .before .before .before .before .before .before .before .before .before .before .before .before .before .before .before .before .before .before .before .before .before .before .args .entries .now) (c .before .before .before .before .before .before .before .before .before .before .before .before .before .before .before .before .before .before .before .before .before .before .before .before .before .before .before .before .before .before .before .before .args .text .now) (c .before .before .before .before .before .before .before .before .before .before .before .before .before .before .before .before .before .before .before .before .before .before .before .before .before .before .before .before .before .before .before .before .args .fill .now) (c .before .before .before .before .before .before .before .before .before .before .before .before .before .before .before .before .before .before .before .before .before .before .before .before .before .before .before .before .before .before .before .before .args .fill-entries .now) (c .before .before .before .before .before .before .before .before .before .before .before .before .before .before .before .before .before .before .before .before .before .before .before .before .before .before .before .before .before .before .before .before .args .fill-text .now) _ _ (c .before .before .before .before .before .before .before .before .before .before .before .fill-count .result) (c .before .before .before .before .before .before .before .before .before .before .left-count .result) (c .before .before .before .before .before .before .before .before .before .before .left-count .ensures .1) fine₁ fine₂) (sides-entries (c .before .before .before .before .before .before .before .before .before .before .before .before .before .before .before .before .before .before .before .before .before .before .before .before .before .before .before .before .before .before .before .before .args .content .now) (c .before .before .before .before .before .before .before .before .before .before .before .before .before .before .before .before .before .before .before .before .before .before .before .before .before .before .before .before .before .before .before .before .args .entries .now) (c .before .before .before .before .before .before .before .before .before .before .before .before .before .before .before .before .before .before .before .before .before .before .before .before .before .before .before .before .before .before .before .before .args .text .now) (c .before .before .before .before .before .before .before .before .before .before .before .before .before .before .before .before .before .before .before .before .before .before .before .before .before .before .before .before .before .before .before .before .args .fill .now) (c .before .before .before .before .before .before .before .before .before .before .before .before .before .before .before .before .before .before .before .before .before .before .before .before .before .before .before .before .before .before .before .before .args .fill-entries .now) (c .before .before .before .before .before .before .before .before .before .before .before .before .before .before .before .before .before .before .before .before .before .before .before .before .before .before .before .before .before .before .before .before .args .fill-text .now) _ _ (c .before .before .before .before .before .before .before .before .before .before .before .fill-count .result) (c .before .before .before .before .before .before .before .before .before .before .left-count .result) (c .before .before .before .before .before .before .before .before .before .before .left-count .ensures .1) fine₁ fine₂ (c .before .before .before .before .before .before .before .before .before .once-if .result) (c .before .before .before .before .before .before .before .before .once-if2 .result) (c .before .before .before .before .before .before .before .before .before .once-if .ensures .0) (c .before .before .before .before .before .before .before .before .once-if2 .ensures .0)) (sides-text (c .before .before .before .before .before .before .before .before .before .before .before .before .before .before .before .before .before .before .before .before .before .before .before .before .before .before .before .before .before .before .before .before .args .content .now) (c .before .before .before .before .before .before .before .before .before .before .before .before .before .before .before .before .before .before .before .before .before .before .before .before .before .before .before .before .before .before .before .before .args .entries .now) (c .before .before .before .before .before .before .before .before .before .before .before .before .before .before .before .before .before .before .before .before .before .before .before .before .before .before .before .before .before .before .before .before .args .text .now) (c .before .before .before .before .before .before .before .before .before .before .before .before .before .before .before .before .before .before .before .before .before .before .before .before .before .before .before .before .before .before .before .before .args .fill .now) (c .before .before .before .before .before .before .before .before .before .before .before .before .before .before .before .before .before .before .before .before .before .before .before .before .before .before .before .before .before .before .before .before .args .fill-entries .now) (c .before .before .before .before .before .before .before .before .before .before .before .before .before .before .before .before .before .before .before .before .before .before .before .before .before .before .before .before .before .before .before .before .args .fill-text .now) _ _ (c .before .before .before .before .before .before .before .before .before .before .before .fill-count .result) (c .before .before .before .before .before .before .before .before .before .before .left-count .result) (c .before .before .before .before .before .before .before .before .before .before .left-count .ensures .1) fine₁ fine₂ (c .before .before .before .before .before .before .before .once-if3 .result) (c .before .before .before .before .before .before .once-if4 .result) (c .before .before .before .before .before .before .before .once-if3 .ensures .0) (c .before .before .before .before .before .before .once-if4 .ensures .0)) (c .before .before .before .before .before .settle .result) (c .before .before .before .before .before .settle .ensures) (c .before .before .before .enum-told .given .1))
+    let a = c .before .before .before .before .before .before .before .before .before .before .before .before .before .before .before .before .before .before .before .before .before .before .before .before .before .before .before .before .before .before .before .before .args in
+    let content = recording (a .content .now) (a .entries .now) (a .text .now) in
+    let second = recording (a .fill .now) (a .fill-entries .now) (a .fill-text .now) in
+    let k₁ = c .before .before .before .before .before .before .before .before .before .before .before .before .before .before .before .before .before .before .before .before .before .check in
+    let g₁ = c .before .before .before .before .before .before .before .before .before .before .before .before .before .before .before .before .before .before .before .checked2 .given in
+    let fine₁ = checked-fine (a .content .now) (a .entries .now) (a .text .now) (g₁ .0 .0) (k₁ .result) (g₁ .1) (k₁ .ensures .0) (k₁ .ensures .1 .0) (k₁ .ensures .1 .1) in
+    let k₂ = c .before .before .before .before .before .before .before .before .before .before .before .before .before .before .before .before .check2 in
+    let g₂ = c .before .before .before .before .before .before .before .before .before .before .before .before .before .before .second2 .given in
+    let fine₂ = checked-fine (a .fill .now) (a .fill-entries .now) (a .fill-text .now) (g₂ .0 .0) (k₂ .result) (g₂ .1) (k₂ .ensures .0) (k₂ .ensures .1 .0) (k₂ .ensures .1 .1) in
+    let n = c .before .before .before .before .before .before .before .before .before .before .before .fill-count in
+    let l = c .before .before .before .before .before .before .before .before .before .before .left-count in
+    let e₁ = c .before .before .before .before .before .before .before .before .before .once-if in
+    let e₂ = c .before .before .before .before .before .before .before .before .once-if2 in
+    let t₁ = c .before .before .before .before .before .before .before .once-if3 in
+    let t₂ = c .before .before .before .before .before .before .once-if4 in
+    let v = c .before .before .before .before .before .settle in
+    let d-is = sides-data (a .content .now) (a .entries .now) (a .text .now) (a .fill .now) (a .fill-entries .now) (a .fill-text .now) (g₁ .0 .0) (g₂ .0 .0) (n .result) (l .result) (l .ensures .1) fine₁ fine₂ in
+    let e-is = sides-entries (a .content .now) (a .entries .now) (a .text .now) (a .fill .now) (a .fill-entries .now) (a .fill-text .now) (g₁ .0 .0) (g₂ .0 .0) (n .result) (l .result) (l .ensures .1) fine₁ fine₂ (e₁ .result) (e₂ .result) (e₁ .ensures .0) (e₂ .ensures .0) in
+    let t-is = sides-text (a .content .now) (a .entries .now) (a .text .now) (a .fill .now) (a .fill-entries .now) (a .fill-text .now) (g₁ .0 .0) (g₂ .0 .0) (n .result) (l .result) (l .ensures .1) fine₁ fine₂ (t₁ .result) (t₂ .result) (t₁ .ensures .0) (t₂ .ensures .0) in
+    let i-is = items-of (a .side) (a .min-width) (n .result) (l .result) second content (n .ensures .0) (l .ensures .0) in
+    ((fine₁ .whole, fine₂ .whole), room-left (a .content .now) (a .entries .now) (a .text .now) (a .fill .now) (a .fill-entries .now) (a .fill-text .now) (a .bytes .now) (a .numbers .now) (a .texts .now) (jobOf (a .side) (a .min-width) second) (g₁ .0 .0) fine₁ (second-of (a .side) (a .min-width) second) (g₂ .0 .0) fine₂ (records-of (a .side) (a .min-width) second content) (lines-of (a .side) (a .min-width) second content) _ i-is _ _ _ d-is e-is t-is (v .result) (v .ensures) (c .before .before .before .enum-told .given .1))
 
 -- src/lib.rt:198:1
 same-length : tie.Need-same-length
@@ -168,9 +241,28 @@ same-length-3 c = search needs
 -- src/lib.rt:198:1
 returns-4 : tie.Need-returns-4
 returns-4 c =
-    let fine₁ = checked-fine (c .before .before .before .before .before .before .before .before .before .before .before .before .before .before .before .before .before .before .before .before .before .before .before .before .before .before .before .before .before .before .before .before .before .before .before .before .before .before .before .args .content .now) (c .before .before .before .before .before .before .before .before .before .before .before .before .before .before .before .before .before .before .before .before .before .before .before .before .before .before .before .before .before .before .before .before .before .before .before .before .before .before .before .args .entries .now) (c .before .before .before .before .before .before .before .before .before .before .before .before .before .before .before .before .before .before .before .before .before .before .before .before .before .before .before .before .before .before .before .before .before .before .before .before .before .before .before .args .text .now) (c .before .before .before .before .before .before .before .before .before .before .before .before .before .before .before .before .before .before .before .before .before .before .before .before .before .before .checked2 .given .0 .0) (c .before .before .before .before .before .before .before .before .before .before .before .before .before .before .before .before .before .before .before .before .before .before .before .before .before .before .before .before .check .result) (c .before .before .before .before .before .before .before .before .before .before .before .before .before .before .before .before .before .before .before .before .before .before .before .before .before .before .checked2 .given .1) (c .before .before .before .before .before .before .before .before .before .before .before .before .before .before .before .before .before .before .before .before .before .before .before .before .before .before .before .before .check .ensures .0) (c .before .before .before .before .before .before .before .before .before .before .before .before .before .before .before .before .before .before .before .before .before .before .before .before .before .before .before .before .check .ensures .1 .0) (c .before .before .before .before .before .before .before .before .before .before .before .before .before .before .before .before .before .before .before .before .before .before .before .before .before .before .before .before .check .ensures .1 .1) in
-    let fine₂ = checked-fine (c .before .before .before .before .before .before .before .before .before .before .before .before .before .before .before .before .before .before .before .before .before .before .before .before .before .before .before .before .before .before .before .before .before .before .before .before .before .before .before .args .fill .now) (c .before .before .before .before .before .before .before .before .before .before .before .before .before .before .before .before .before .before .before .before .before .before .before .before .before .before .before .before .before .before .before .before .before .before .before .before .before .before .before .args .fill-entries .now) (c .before .before .before .before .before .before .before .before .before .before .before .before .before .before .before .before .before .before .before .before .before .before .before .before .before .before .before .before .before .before .before .before .before .before .before .before .before .before .before .args .fill-text .now) (c .before .before .before .before .before .before .before .before .before .before .before .before .before .before .before .before .before .before .before .before .before .second2 .given .0 .0) (c .before .before .before .before .before .before .before .before .before .before .before .before .before .before .before .before .before .before .before .before .before .before .before .check2 .result) (c .before .before .before .before .before .before .before .before .before .before .before .before .before .before .before .before .before .before .before .before .before .second2 .given .1) (c .before .before .before .before .before .before .before .before .before .before .before .before .before .before .before .before .before .before .before .before .before .before .before .check2 .ensures .0) (c .before .before .before .before .before .before .before .before .before .before .before .before .before .before .before .before .before .before .before .before .before .before .before .check2 .ensures .1 .0) (c .before .before .before .before .before .before .before .before .before .before .before .before .before .before .before .before .before .before .before .before .before .before .before .check2 .ensures .1 .1) in
-    written (c .before .before .before .before .before .before .before .before .before .before .before .before .before .before .before .before .before .before .before .before .before .before .before .before .before .before .before .before .before .before .before .before .before .before .before .before .before .before .before .args .content .now) (c .before .before .before .before .before .before .before .before .before .before .before .before .before .before .before .before .before .before .before .before .before .before .before .before .before .before .before .before .before .before .before .before .before .before .before .before .before .before .before .args .entries .now) (c .before .before .before .before .before .before .before .before .before .before .before .before .before .before .before .before .before .before .before .before .before .before .before .before .before .before .before .before .before .before .before .before .before .before .before .before .before .before .before .args .text .now) (c .before .before .before .before .before .before .before .before .before .before .before .before .before .before .before .before .before .before .before .before .before .before .before .before .before .before .before .before .before .before .before .before .before .before .before .before .before .before .before .args .fill .now) (c .before .before .before .before .before .before .before .before .before .before .before .before .before .before .before .before .before .before .before .before .before .before .before .before .before .before .before .before .before .before .before .before .before .before .before .before .before .before .before .args .fill-entries .now) (c .before .before .before .before .before .before .before .before .before .before .before .before .before .before .before .before .before .before .before .before .before .before .before .before .before .before .before .before .before .before .before .before .before .before .before .before .before .before .before .args .fill-text .now) (c .before .before .before .before .before .before .before .before .before .before .before .before .before .before .before .before .before .before .before .before .before .before .before .before .before .before .before .before .before .before .before .before .before .before .before .before .before .before .before .args .bytes .now) (c .before .before .before .before .before .before .before .before .before .before .before .before .before .before .before .before .before .before .before .before .before .before .before .before .before .before .before .before .before .before .before .before .before .before .before .before .before .before .before .args .numbers .now) (c .before .before .before .before .before .before .before .before .before .before .before .before .before .before .before .before .before .before .before .before .before .before .before .before .before .before .before .before .before .before .before .before .before .before .before .before .before .before .before .args .texts .now) (jobOf (c .before .before .before .before .before .before .before .before .before .before .before .before .before .before .before .before .before .before .before .before .before .before .before .before .before .before .before .before .before .before .before .before .before .before .before .before .before .before .before .args .side) (c .before .before .before .before .before .before .before .before .before .before .before .before .before .before .before .before .before .before .before .before .before .before .before .before .before .before .before .before .before .before .before .before .before .before .before .before .before .before .before .args .min-width) (recording (c .before .before .before .before .before .before .before .before .before .before .before .before .before .before .before .before .before .before .before .before .before .before .before .before .before .before .before .before .before .before .before .before .before .before .before .before .before .before .before .args .fill .now) (c .before .before .before .before .before .before .before .before .before .before .before .before .before .before .before .before .before .before .before .before .before .before .before .before .before .before .before .before .before .before .before .before .before .before .before .before .before .before .before .args .fill-entries .now) (c .before .before .before .before .before .before .before .before .before .before .before .before .before .before .before .before .before .before .before .before .before .before .before .before .before .before .before .before .before .before .before .before .before .before .before .before .before .before .before .args .fill-text .now))) _ fine₁ (second-of (c .before .before .before .before .before .before .before .before .before .before .before .before .before .before .before .before .before .before .before .before .before .before .before .before .before .before .before .before .before .before .before .before .before .before .before .before .before .before .before .args .side) (c .before .before .before .before .before .before .before .before .before .before .before .before .before .before .before .before .before .before .before .before .before .before .before .before .before .before .before .before .before .before .before .before .before .before .before .before .before .before .before .args .min-width) (recording (c .before .before .before .before .before .before .before .before .before .before .before .before .before .before .before .before .before .before .before .before .before .before .before .before .before .before .before .before .before .before .before .before .before .before .before .before .before .before .before .args .fill .now) (c .before .before .before .before .before .before .before .before .before .before .before .before .before .before .before .before .before .before .before .before .before .before .before .before .before .before .before .before .before .before .before .before .before .before .before .before .before .before .before .args .fill-entries .now) (c .before .before .before .before .before .before .before .before .before .before .before .before .before .before .before .before .before .before .before .before .before .before .before .before .before .before .before .before .before .before .before .before .before .before .before .before .before .before .before .args .fill-text .now))) _ fine₂ (records-of (c .before .before .before .before .before .before .before .before .before .before .before .before .before .before .before .before .before .before .before .before .before .before .before .before .before .before .before .before .before .before .before .before .before .before .before .before .before .before .before .args .side) (c .before .before .before .before .before .before .before .before .before .before .before .before .before .before .before .before .before .before .before .before .before .before .before .before .before .before .before .before .before .before .before .before .before .before .before .before .before .before .before .args .min-width) (recording (c .before .before .before .before .before .before .before .before .before .before .before .before .before .before .before .before .before .before .before .before .before .before .before .before .before .before .before .before .before .before .before .before .before .before .before .before .before .before .before .args .fill .now) (c .before .before .before .before .before .before .before .before .before .before .before .before .before .before .before .before .before .before .before .before .before .before .before .before .before .before .before .before .before .before .before .before .before .before .before .before .before .before .before .args .fill-entries .now) (c .before .before .before .before .before .before .before .before .before .before .before .before .before .before .before .before .before .before .before .before .before .before .before .before .before .before .before .before .before .before .before .before .before .before .before .before .before .before .before .args .fill-text .now)) (recording (c .before .before .before .before .before .before .before .before .before .before .before .before .before .before .before .before .before .before .before .before .before .before .before .before .before .before .before .before .before .before .before .before .before .before .before .before .before .before .before .args .content .now) (c .before .before .before .before .before .before .before .before .before .before .before .before .before .before .before .before .before .before .before .before .before .before .before .before .before .before .before .before .before .before .before .before .before .before .before .before .before .before .before .args .entries .now) (c .before .before .before .before .before .before .before .before .before .before .before .before .before .before .before .before .before .before .before .before .before .before .before .before .before .before .before .before .before .before .before .before .before .before .before .before .before .before .before .args .text .now))) (lines-of (c .before .before .before .before .before .before .before .before .before .before .before .before .before .before .before .before .before .before .before .before .before .before .before .before .before .before .before .before .before .before .before .before .before .before .before .before .before .before .before .args .side) (c .before .before .before .before .before .before .before .before .before .before .before .before .before .before .before .before .before .before .before .before .before .before .before .before .before .before .before .before .before .before .before .before .before .before .before .before .before .before .before .args .min-width) (recording (c .before .before .before .before .before .before .before .before .before .before .before .before .before .before .before .before .before .before .before .before .before .before .before .before .before .before .before .before .before .before .before .before .before .before .before .before .before .before .before .args .fill .now) (c .before .before .before .before .before .before .before .before .before .before .before .before .before .before .before .before .before .before .before .before .before .before .before .before .before .before .before .before .before .before .before .before .before .before .before .before .before .before .before .args .fill-entries .now) (c .before .before .before .before .before .before .before .before .before .before .before .before .before .before .before .before .before .before .before .before .before .before .before .before .before .before .before .before .before .before .before .before .before .before .before .before .before .before .before .args .fill-text .now)) (recording (c .before .before .before .before .before .before .before .before .before .before .before .before .before .before .before .before .before .before .before .before .before .before .before .before .before .before .before .before .before .before .before .before .before .before .before .before .before .before .before .args .content .now) (c .before .before .before .before .before .before .before .before .before .before .before .before .before .before .before .before .before .before .before .before .before .before .before .before .before .before .before .before .before .before .before .before .before .before .before .before .before .before .before .args .entries .now) (c .before .before .before .before .before .before .before .before .before .before .before .before .before .before .before .before .before .before .before .before .before .before .before .before .before .before .before .before .before .before .before .before .before .before .before .before .before .before .before .args .text .now))) _ (items-of (c .before .before .before .before .before .before .before .before .before .before .before .before .before .before .before .before .before .before .before .before .before .before .before .before .before .before .before .before .before .before .before .before .before .before .before .before .before .before .before .args .side) (c .before .before .before .before .before .before .before .before .before .before .before .before .before .before .before .before .before .before .before .before .before .before .before .before .before .before .before .before .before .before .before .before .before .before .before .before .before .before .before .args .min-width) (c .before .before .before .before .before .before .before .before .before .before .before .before .before .before .before .before .before .before .fill-count .result) (c .before .before .before .before .before .before .before .before .before .before .before .before .before .before .before .before .before .left-count .result) (recording (c .before .before .before .before .before .before .before .before .before .before .before .before .before .before .before .before .before .before .before .before .before .before .before .before .before .before .before .before .before .before .before .before .before .before .before .before .before .before .before .args .fill .now) (c .before .before .before .before .before .before .before .before .before .before .before .before .before .before .before .before .before .before .before .before .before .before .before .before .before .before .before .before .before .before .before .before .before .before .before .before .before .before .before .args .fill-entries .now) (c .before .before .before .before .before .before .before .before .before .before .before .before .before .before .before .before .before .before .before .before .before .before .before .before .before .before .before .before .before .before .before .before .before .before .before .before .before .before .before .args .fill-text .now)) (recording (c .before .before .before .before .before .before .before .before .before .before .before .before .before .before .before .before .before .before .before .before .before .before .before .before .before .before .before .before .before .before .before .before .before .before .before .before .before .before .before .args .content .now) (c .before .before .before .before .before .before .before .before .before .before .before .before .before .before .before .before .before .before .before .before .before .before .before .before .before .before .before .before .before .before .before .before .before .before .before .before .before .before .before .args .entries .now) (c .before .before .before .before .before .before .before .before .before .before .before .before .before .before .before .before .before .before .before .before .before .before .before .before .before .before .before .before .before .before .before .before .before .before .before .before .before .before .before .args .text .now)) (c .before .before .before .before .before .before .before .before .before .before .before .before .before .before .before .before .before .before .fill-count .ensures .0) (c .before .before .before .before .before .before .before .before .before .before .before .before .before .before .before .before .before .left-count .ensures .0)) _ _ _ (sides-data (c .before .before .before .before .before .before .before .before .before .before .before .before .before .before .before .before .before .before .before .before .before .before .before .before .before .before .before .before .before .before .before .before .before .before .before .before .before .before .before .args .content .now) (c .before .before .before .before .before .before .before .before .before .before .before .before .before .before .before .before .before .before .before .before .before .before .before .before .before .before .before .before .before .before .before .before .before .before .before .before .before .before .before .args .entries .now) (c .before .before .before .before .before .before .before .before .before .before .before .before .before .before .before .before .before .before .before .before .before .before .before .before .before .before .before .before .before .before .before .before .before .before .before .before .before .before .before .args .text .now) (c .before .before .before .before .before .before .before .before .before .before .before .before .before .before .before .before .before .before .before .before .before .before .before .before .before .before .before .before .before .before .before .before .before .before .before .before .before .before .before .args .fill .now) (c .before .before .before .before .before .before .before .before .before .before .before .before .before .before .before .before .before .before .before .before .before .before .before .before .before .before .before .before .before .before .before .before .before .before .before .before .before .before .before .args .fill-entries .now) (c .before .before .before .before .before .before .before .before .before .before .before .before .before .before .before .before .before .before .before .before .before .before .before .before .before .before .before .before .before .before .before .before .before .before .before .before .before .before .before .args .fill-text .now) _ _ (c .before .before .before .before .before .before .before .before .before .before .before .before .before .before .before .before .before .before .fill-count .result) (c .before .before .before .before .before .before .before .before .before .before .before .before .before .before .before .before .before .left-count .result) (c .before .before .before .before .before .before .before .before .before .before .before .before .before .before .before .before .before .left-count .ensures .1) fine₁ fine₂) (sides-entries (c .before .before .before .before .before .before .before .before .before .before .before .before .before .before .before .before .before .before .before .before .before .before .before .before .before .before .before .before .before .before .before .before .before .before .before .before .before .before .before .args .content .now) (c .before .before .before .before .before .before .before .before .before .before .before .before .before .before .before .before .before .before .before .before .before .before .before .before .before .before .before .before .before .before .before .before .before .before .before .before .before .before .before .args .entries .now) (c .before .before .before .before .before .before .before .before .before .before .before .before .before .before .before .before .before .before .before .before .before .before .before .before .before .before .before .before .before .before .before .before .before .before .before .before .before .before .before .args .text .now) (c .before .before .before .before .before .before .before .before .before .before .before .before .before .before .before .before .before .before .before .before .before .before .before .before .before .before .before .before .before .before .before .before .before .before .before .before .before .before .before .args .fill .now) (c .before .before .before .before .before .before .before .before .before .before .before .before .before .before .before .before .before .before .before .before .before .before .before .before .before .before .before .before .before .before .before .before .before .before .before .before .before .before .before .args .fill-entries .now) (c .before .before .before .before .before .before .before .before .before .before .before .before .before .before .before .before .before .before .before .before .before .before .before .before .before .before .before .before .before .before .before .before .before .before .before .before .before .before .before .args .fill-text .now) _ _ (c .before .before .before .before .before .before .before .before .before .before .before .before .before .before .before .before .before .before .fill-count .result) (c .before .before .before .before .before .before .before .before .before .before .before .before .before .before .before .before .before .left-count .result) (c .before .before .before .before .before .before .before .before .before .before .before .before .before .before .before .before .before .left-count .ensures .1) fine₁ fine₂ (c .before .before .before .before .before .before .before .before .before .before .before .before .before .before .before .before .once-if .result) (c .before .before .before .before .before .before .before .before .before .before .before .before .before .before .before .once-if2 .result) (c .before .before .before .before .before .before .before .before .before .before .before .before .before .before .before .before .once-if .ensures .0) (c .before .before .before .before .before .before .before .before .before .before .before .before .before .before .before .once-if2 .ensures .0)) (sides-text (c .before .before .before .before .before .before .before .before .before .before .before .before .before .before .before .before .before .before .before .before .before .before .before .before .before .before .before .before .before .before .before .before .before .before .before .before .before .before .before .args .content .now) (c .before .before .before .before .before .before .before .before .before .before .before .before .before .before .before .before .before .before .before .before .before .before .before .before .before .before .before .before .before .before .before .before .before .before .before .before .before .before .before .args .entries .now) (c .before .before .before .before .before .before .before .before .before .before .before .before .before .before .before .before .before .before .before .before .before .before .before .before .before .before .before .before .before .before .before .before .before .before .before .before .before .before .before .args .text .now) (c .before .before .before .before .before .before .before .before .before .before .before .before .before .before .before .before .before .before .before .before .before .before .before .before .before .before .before .before .before .before .before .before .before .before .before .before .before .before .before .args .fill .now) (c .before .before .before .before .before .before .before .before .before .before .before .before .before .before .before .before .before .before .before .before .before .before .before .before .before .before .before .before .before .before .before .before .before .before .before .before .before .before .before .args .fill-entries .now) (c .before .before .before .before .before .before .before .before .before .before .before .before .before .before .before .before .before .before .before .before .before .before .before .before .before .before .before .before .before .before .before .before .before .before .before .before .before .before .before .args .fill-text .now) _ _ (c .before .before .before .before .before .before .before .before .before .before .before .before .before .before .before .before .before .before .fill-count .result) (c .before .before .before .before .before .before .before .before .before .before .before .before .before .before .before .before .before .left-count .result) (c .before .before .before .before .before .before .before .before .before .before .before .before .before .before .before .before .before .left-count .ensures .1) fine₁ fine₂ (c .before .before .before .before .before .before .before .before .before .before .before .before .before .before .once-if3 .result) (c .before .before .before .before .before .before .before .before .before .before .before .before .before .once-if4 .result) (c .before .before .before .before .before .before .before .before .before .before .before .before .before .before .once-if3 .ensures .0) (c .before .before .before .before .before .before .before .before .before .before .before .before .before .once-if4 .ensures .0)) (c .before .before .before .before .before .before .before .before .before .before .before .before .settle .result) (c .before .before .before .before .before .before .before .before .before .before .before .before .settle .ensures) (c .before .before .before .before .before .before .before .before .before .before .enum-told .given .1) 0 _ _ _ (c .before .before .before .before .before .before .put-padded .result) (number-of (c .before .before .before .before .before .before .before .before .before .before .before .before .before .before .before .before .before .before .before .before .before .before .before .before .before .before .before .before .before .before .before .before .before .before .before .before .before .before .before .args .side) (c .before .before .before .before .before .before .before .before .before .before .before .before .before .before .before .before .before .before .before .before .before .before .before .before .before .before .before .before .before .before .before .before .before .before .before .before .before .before .before .args .min-width) (recording (c .before .before .before .before .before .before .before .before .before .before .before .before .before .before .before .before .before .before .before .before .before .before .before .before .before .before .before .before .before .before .before .before .before .before .before .before .before .before .before .args .fill .now) (c .before .before .before .before .before .before .before .before .before .before .before .before .before .before .before .before .before .before .before .before .before .before .before .before .before .before .before .before .before .before .before .before .before .before .before .before .before .before .before .args .fill-entries .now) (c .before .before .before .before .before .before .before .before .before .before .before .before .before .before .before .before .before .before .before .before .before .before .before .before .before .before .before .before .before .before .before .before .before .before .before .before .before .before .before .args .fill-text .now)) (recording (c .before .before .before .before .before .before .before .before .before .before .before .before .before .before .before .before .before .before .before .before .before .before .before .before .before .before .before .before .before .before .before .before .before .before .before .before .before .before .before .args .content .now) (c .before .before .before .before .before .before .before .before .before .before .before .before .before .before .before .before .before .before .before .before .before .before .before .before .before .before .before .before .before .before .before .before .before .before .before .before .before .before .before .args .entries .now) (c .before .before .before .before .before .before .before .before .before .before .before .before .before .before .before .before .before .before .before .before .before .before .before .before .before .before .before .before .before .before .before .before .before .before .before .before .before .before .before .args .text .now))) (c .before .before .before .before .before .before .put-padded .ensures)
+    let a = c .before .before .before .before .before .before .before .before .before .before .before .before .before .before .before .before .before .before .before .before .before .before .before .before .before .before .before .before .before .before .before .before .before .before .before .before .before .before .before .args in
+    let content = recording (a .content .now) (a .entries .now) (a .text .now) in
+    let second = recording (a .fill .now) (a .fill-entries .now) (a .fill-text .now) in
+    let k₁ = c .before .before .before .before .before .before .before .before .before .before .before .before .before .before .before .before .before .before .before .before .before .before .before .before .before .before .before .before .check in
+    let g₁ = c .before .before .before .before .before .before .before .before .before .before .before .before .before .before .before .before .before .before .before .before .before .before .before .before .before .before .checked2 .given in
+    let fine₁ = checked-fine (a .content .now) (a .entries .now) (a .text .now) (g₁ .0 .0) (k₁ .result) (g₁ .1) (k₁ .ensures .0) (k₁ .ensures .1 .0) (k₁ .ensures .1 .1) in
+    let k₂ = c .before .before .before .before .before .before .before .before .before .before .before .before .before .before .before .before .before .before .before .before .before .before .before .check2 in
+    let g₂ = c .before .before .before .before .before .before .before .before .before .before .before .before .before .before .before .before .before .before .before .before .before .second2 .given in
+    let fine₂ = checked-fine (a .fill .now) (a .fill-entries .now) (a .fill-text .now) (g₂ .0 .0) (k₂ .result) (g₂ .1) (k₂ .ensures .0) (k₂ .ensures .1 .0) (k₂ .ensures .1 .1) in
+    let n = c .before .before .before .before .before .before .before .before .before .before .before .before .before .before .before .before .before .before .fill-count in
+    let l = c .before .before .before .before .before .before .before .before .before .before .before .before .before .before .before .before .before .left-count in
+    let e₁ = c .before .before .before .before .before .before .before .before .before .before .before .before .before .before .before .before .once-if in
+    let e₂ = c .before .before .before .before .before .before .before .before .before .before .before .before .before .before .before .once-if2 in
+    let t₁ = c .before .before .before .before .before .before .before .before .before .before .before .before .before .before .once-if3 in
+    let t₂ = c .before .before .before .before .before .before .before .before .before .before .before .before .before .once-if4 in
+    let v = c .before .before .before .before .before .before .before .before .before .before .before .before .settle in
+    let d-is = sides-data (a .content .now) (a .entries .now) (a .text .now) (a .fill .now) (a .fill-entries .now) (a .fill-text .now) (g₁ .0 .0) (g₂ .0 .0) (n .result) (l .result) (l .ensures .1) fine₁ fine₂ in
+    let e-is = sides-entries (a .content .now) (a .entries .now) (a .text .now) (a .fill .now) (a .fill-entries .now) (a .fill-text .now) (g₁ .0 .0) (g₂ .0 .0) (n .result) (l .result) (l .ensures .1) fine₁ fine₂ (e₁ .result) (e₂ .result) (e₁ .ensures .0) (e₂ .ensures .0) in
+    let t-is = sides-text (a .content .now) (a .entries .now) (a .text .now) (a .fill .now) (a .fill-entries .now) (a .fill-text .now) (g₁ .0 .0) (g₂ .0 .0) (n .result) (l .result) (l .ensures .1) fine₁ fine₂ (t₁ .result) (t₂ .result) (t₁ .ensures .0) (t₂ .ensures .0) in
+    let i-is = items-of (a .side) (a .min-width) (n .result) (l .result) second content (n .ensures .0) (l .ensures .0) in
+    let w = c .before .before .before .before .before .before .put-padded in
+    written (a .content .now) (a .entries .now) (a .text .now) (a .fill .now) (a .fill-entries .now) (a .fill-text .now) (a .bytes .now) (a .numbers .now) (a .texts .now) (jobOf (a .side) (a .min-width) second) (g₁ .0 .0) fine₁ (second-of (a .side) (a .min-width) second) (g₂ .0 .0) fine₂ (records-of (a .side) (a .min-width) second content) (lines-of (a .side) (a .min-width) second content) _ i-is _ _ _ d-is e-is t-is (v .result) (v .ensures) (c .before .before .before .before .before .before .before .before .before .before .enum-told .given .1) 0 _ _ _ (w .result) (number-of (a .side) (a .min-width) second content) (w .ensures)
 
 pub write-padded-spec : {M : Type 1} → statement M
 write-padded-spec =

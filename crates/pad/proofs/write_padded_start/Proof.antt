@@ -1,4 +1,4 @@
-use native.Mathlib.Omega.{arith}
+-- `write_padded` with the side before the content: the job is `padStart` by its definition.
 use borrow.Author.Needs.{needs}
 use Rattle.pad.specs.Padding.{jobOf}
 use Rattle.pad.proofs.write_padded_start.Statement.{statement}
