@@ -13,7 +13,7 @@ use Rattle.recording.proofs.EditLaws.{data-append}
 use Rattle.recording.proofs.SizeLaws.{entryCount, count-append}
 use Rattle.writer.proofs.Laws.{text-size}
 use Rattle.layout.specs.Layout.{indentOps, indent, resultItems, linesLeft, number, secondFault, replacementFault}
-use Rattle.layout.proofs.SecondLaws.{Fine}
+use Rattle.outcomes.proofs.SecondLaws.{Fine}
 use Rattle.indent.specs.Lines.{filledLines}
 use Rattle.indent.proofs.Laws.{sized}
 

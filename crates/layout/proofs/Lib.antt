@@ -12,5 +12,3 @@ pub mod TwiceLaws
 pub mod Demand3
 pub mod WordingLaws
 pub mod PinsHold
-pub mod OutcomeLaws
-pub mod SecondLaws

@@ -15,7 +15,7 @@ use Rattle.writer.proofs.Laws.{text-size}
 use Rattle.writer.proofs.Steps.{fits-first, fits-then, then}
 use Rattle.writer.proofs.Carry.{text-none, count-none}
 use Rattle.layout.specs.Layout.{copies, repeatPieces, padding, fillCount, resultItems, linesLeft, number, secondFault, replacementFault}
-use Rattle.layout.proofs.SecondLaws.{Fine}
+use Rattle.outcomes.proofs.SecondLaws.{Fine}
 use Rattle.pad.specs.declared.Side.{Side}
 use Rattle.pad.specs.declared.Side.the-variants.{Start, End, Centered}
 use Rattle.pad.specs.Padding.{repeated, onceIf, sides, leftOf, jobOf}

@@ -34,7 +34,7 @@ use Rattle.layout.specs.declared.Replacement.{Replacement}
 use Rattle.layout.specs.Layout.{replaceOps, recordsFault, replace, resultItems, linesLeft, number, secondFault, replacementFault, outcome}
 use Rattle.layout.specs.Wrap.{lineNumbers}
 use Rattle.layout.specs.Lent.{lentOf, callOn}
-use Rattle.layout.proofs.OutcomeLaws.{content-stops, records-stop, sizes-stop, accepted, has-room, refused-call, done-call}
+use Rattle.outcomes.proofs.OutcomeLaws.{content-stops, records-stop, sizes-stop, accepted, has-room, refused-call, done-call}
 use Rattle.replace.specs.declared.Scan.{Scan}
 use Rattle.replace.specs.Records.{capped, scan, checkAll}
 use Rattle.replace.proofs.ScanLaws.{eight, result-size, capped-fault}

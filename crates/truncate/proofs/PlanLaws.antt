@@ -14,7 +14,7 @@ use Rattle.recording.specs.Edit.{edit}
 use Rattle.recording.proofs.EditLaws.{data-append}
 use Rattle.recording.proofs.SizeLaws.{entryCount, count-append, edit-count, edit-text}
 use Rattle.writer.proofs.Laws.{text-size}
-use Rattle.layout.proofs.SecondLaws.{Fine}
+use Rattle.outcomes.proofs.SecondLaws.{Fine}
 use Rattle.layout.specs.Layout.{cutEnd, cutStart, trimmedStartPos, truncateEnd, truncateStart, resultItems, number}
 use Rattle.truncate.specs.declared.Plan.{Plan}
 use Rattle.truncate.specs.Plan.{planEnd, planStart, endItems, startItems, plusIf}

@@ -24,7 +24,7 @@ use Rattle.writer.specs.Sizes.{sizesFault, settledFault}
 use Rattle.writer.proofs.Steps.{sound}
 use Rattle.layout.specs.Wrap.{lineNumbers, wrapLines}
 use Rattle.layout.specs.Layout.{wrap, outcome, resultItems, resultOf, linesLeft, number, secondFault, replacementFault}
-use Rattle.layout.proofs.OutcomeLaws.{content-stops, sizes-stop, accepted, has-room, refused-call, done-answer, done-lent}
+use Rattle.outcomes.proofs.OutcomeLaws.{content-stops, sizes-stop, accepted, has-room, refused-call, done-answer, done-lent}
 use Rattle.wrap.specs.declared.Lines.{Lines}
 use Rattle.wrap.specs.WrapBytes.{lineSize, shownBytes, linesOf}
 use Rattle.wrap.proofs.WrapLaws.{numbers-length}

@@ -108,14 +108,14 @@ fn put_wrapped(
 
 // A recording whose lines are wrapped, and the lines in `lines`; the number that comes back is their count.
 pub fn write_wrapped(
-    bytes: &mut [u8],
-    numbers: &mut [u32],
-    texts: &mut [u8],
     content: &[u8],
     entries: &[u32],
     text: &[u8],
     width: u32,
     break_words: bool,
+    bytes: &mut [u8],
+    numbers: &mut [u32],
+    texts: &mut [u8],
     lines: &mut [u32],
 ) -> Answer
     ensures { λ r. ⌜ answerOf r ≡ returned (layout.outcome (callLined (layout.wrap width «break_words») (now (bytes .entry)) (now (numbers .entry)) (now (texts .entry)) (now (lines .entry))) (recording (now (content .entry)) (now (entries .entry)) (now (text .entry)))) ⌝ }

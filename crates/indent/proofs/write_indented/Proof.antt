@@ -7,7 +7,7 @@ use Rattle.chars.specs.Leads.{leadTable}
 use mathlib.Core.Path.{refl}
 use lib.ListN.{length}
 use Rattle.recording.specs.Recording.{recording}
-use Rattle.layout.proofs.SecondLaws.{checked-fine, content-refused, second-refused, sizes-refused, room-left, written}
+use Rattle.outcomes.proofs.SecondLaws.{checked-fine, content-refused, second-refused, sizes-refused, room-left, written}
 use Rattle.indent.proofs.write_indented.Statement.{statement}
 use Rattle.indent.proofs.write_indented.Tie as tie
 use Rattle.indent.proofs.write_indented.Reads as reads

@@ -3,7 +3,7 @@ use native.Mathlib.Omega.{arith}
 use borrow.Author.Needs.{needs}
 use Rattle.pad.proofs.Sizes.{sides-data, sides-entries, sides-text, product-small, second-of, records-of, lines-of, number-of, items-of}
 use mathlib.Core.Path.{refl}
-use Rattle.layout.proofs.SecondLaws.{checked-fine, content-refused, second-refused, sizes-refused, room-left, written}
+use Rattle.outcomes.proofs.SecondLaws.{checked-fine, content-refused, second-refused, sizes-refused, room-left, written}
 use lib.ListN.{length}
 use Rattle.pad.specs.Padding.{jobOf}
 use Rattle.recording.specs.Recording.{recording}

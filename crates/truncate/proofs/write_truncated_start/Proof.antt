@@ -1,7 +1,7 @@
 -- The outcome is that of `truncateStart`: each refusal is found in its order, and what is measured, sized and written is the call's result (`proofs/PlanLaws.antt`).
 use native.Mathlib.Omega.{arith}
 use borrow.Author.Needs.{needs}
-use Rattle.layout.proofs.SecondLaws.{checked-fine, content-refused, second-refused, sizes-refused, room-left, written}
+use Rattle.outcomes.proofs.SecondLaws.{checked-fine, content-refused, second-refused, sizes-refused, room-left, written}
 use mathlib.Core.Path.{refl, _∙_}
 use Prim.Native.Nat.{_+_, _-_}
 use lib.ListN.{length}

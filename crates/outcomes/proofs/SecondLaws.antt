@@ -25,10 +25,10 @@ use Rattle.writer.specs.Write.{out, add, blank, Fits, Sound}
 use Rattle.writer.specs.Sizes.{sizesFault, roomOf, settledFault}
 use Rattle.writer.proofs.Sizes.{numbers-items, quads-of}
 use Rattle.writer.proofs.Steps.{sound, data-size}
 use Rattle.layout.specs.Layout.{Job, resultItems, linesLeft, number, secondFault, replacementFault, outcome}
 use Rattle.layout.specs.Wrap.{lineNumbers}
 use Rattle.layout.specs.Lent.{lentOf, callOn}
-use Rattle.layout.proofs.OutcomeLaws.{content-stops, second-stops, sizes-stop, accepted, has-room, refused-call, done-call}
+use Rattle.outcomes.proofs.OutcomeLaws.{content-stops, second-stops, sizes-stop, accepted, has-room, refused-call, done-call}
 
 -- ── what is known of a recording once its check has found nothing
 pub record Fine (ds ns ts : List ℕ) (n : ℕ) : Type 0 where
