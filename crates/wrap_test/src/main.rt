@@ -231,14 +231,14 @@ fn record_into(
 {
     io::write_all(1, name);
     let a = write_wrapped(
-        &mut bytes[..room.bytes],
-        &mut numbers[..room.numbers],
-        &mut texts[..room.texts],
         content,
         entries,
         text,
         width,
         false,
+        &mut bytes[..room.bytes],
+        &mut numbers[..room.numbers],
+        &mut texts[..room.texts],
         &mut lines[..room.lines],
     );
     answer(a);
