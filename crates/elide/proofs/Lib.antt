@@ -1,0 +1,2 @@
+pub mod ElideLaws
+pub mod PinsHold
