@@ -1,12 +1,12 @@
 -- Cutting to max and then leaving characters until the ellipsis fits is one cut, to max less the ellipsis: so the code cuts once.
 -- The idea: both keep the longest stretch at the other side that is narrow enough.
-use Prim.Native.Nat.{ℕ, _+_, _-_, _≤_, _<_}
+use Prim.Native.Nat.{ℕ, _+_, _-_, _≤_}
 use native.Mathlib.Omega.{arith}
 use mathlib.Core.Bool.{Bool, true, false, cond}
 use mathlib.Core.Path.{_≡_, refl, sym, ap, _∙_}
 use mathlib.Core.List.{List, [], _∷_, _++_, reverse, reverse-reverse}
 use lib.Dec.{leb, ltb, eqb}
-use borrow.Author.Tests.{leb-false, leb-true, le-leb, lt-leb, eq-eqb, ne-eqb, ltb-true, ltb-false}
+use borrow.Author.Tests.{leb-false, leb-true, lt-leb, eq-eqb, ne-eqb, ltb-false}
 use Rattle.chars.specs.Chars.{Character, chars, bytesOf, wide, widthOf, textWidth}
 use Rattle.chars.specs.Cut.{keptWithin}
 use Rattle.chars.proofs.CutLaws.{longest, kept-back, kept-within, width-reverse}

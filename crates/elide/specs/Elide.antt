@@ -1,14 +1,14 @@
 -- Module 6 of document 01: plain text, with the Rust's order. Text over max is cut to max, then whole characters leave at the cut side until the ellipsis fits.
 use Prim.Native.Nat.{ℕ, _+_, _-_}
-use mathlib.Core.Bool.{Bool, true, false, cond, _&&_, not}
+use mathlib.Core.Bool.{cond, _&&_, not}
 use mathlib.Core.List.{List, [], _∷_, _++_, reverse}
 use lib.Dec.{ltb, eqb}
 use lib.ListN.{length, drop}
 use Rattle.chars.specs.Chars.{Character, chars, bytesOf, wide, widthOf, textWidth, wellFormed}
 use Rattle.chars.specs.Cut.{keptWithin, zeroWidthLen}
 use Rattle.recording.specs.Recording.{Bytes, recording}
-use Rattle.recording.specs.Refusals.{dataLimit, refuseIf}
-use Rattle.recording.specs.Outcome.{Room, Result, Faults, Outcome, settle}
+use Rattle.recording.specs.Refusals.{dataLimit, firstOf, refuseIf}
+use Rattle.recording.specs.Outcome.{Room, Result, Faults, Outcome, Lent, settle}
 
 -- ── what stays of a text
 -- characters leave from the front while those that left are less than w wide
@@ -76,12 +76,29 @@ plainResult s w = record { recording = recording s [] []; lines = []; number = w
 abbrev pub plainRoom : ℕ → Room
 plainRoom n = record { dataBytes = n; entryNumbers = 0; text = 0; lines = 0 }
 
--- text and ellipsis count as data
+-- a lent buffer, where no other is lent
+abbrev pub lent : Bytes → Lent
+lent out = record { dataBytes = out; entryNumbers = []; text = []; lines = [] }
+
+-- text and ellipsis count as data; 7 for either
 abbrev pub overData : Bytes → ℕ
 overData s = refuseIf (ltb dataLimit (length s)) 1
 
+abbrev pub illFormed : Bytes → Bytes → ℕ
+illFormed s e = refuseIf (not (wellFormed s && wellFormed e)) 7
+
+abbrev pub faultsBy : ℕ → ℕ → ℕ → Faults
+faultsBy content second plain = record { lengths = 0; content = content; second = second; added = 0; plain = plain; records = 0 }
+
 unfoldable pub plainFaults : Bytes → Bytes → Faults
-plainFaults s e = record { lengths = 0; content = overData s; second = overData e; added = 0; plain = refuseIf (not (wellFormed s && wellFormed e)) 7; records = 0 }
+plainFaults s e = faultsBy (overData s) (overData e) (illFormed s e)
+
+abbrev pub noFaults : Faults
+noFaults = faultsBy 0 0 0
+
+-- the first of them that is not 0
+unfoldable pub plainFault : Bytes → Bytes → ℕ
+plainFault s e = firstOf (overData s ∷ overData e ∷ illFormed s e ∷ [])
 
 unfoldable pub elideEndOutcome : ℕ → Bytes → Bytes → ℕ → Outcome
 elideEndOutcome n s e m = let x = elideEnd m s e in settle (plainFaults s e) (plainRoom n) (plainResult (x .text) (x .columns))
