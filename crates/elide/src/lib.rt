@@ -81,14 +81,14 @@ fn pieces_start(t: &[u16; 256], text: &[u8], ellipsis: &[u8], max: u64) -> Piece
     ensures { λ r. ⌜ (part (r .begin) (r .end) (now (ellipsis .entry)) ++ part (r .from) (r .to) (now (text .entry)) ≡ elideStart max (now (text .entry)) (now (ellipsis .entry)) .text) × (r .width ≡ elideStart max (now (text .entry)) (now (ellipsis .entry)) .columns) ⌝ }
     ensures { λ r. ⌜ (r .from ≤ r .to) × (r .to ≤ length (now (text .entry))) × (r .begin ≤ r .end) × (r .end ≤ length (now (ellipsis .entry))) ⌝ }
 {
-    let width = chars::text_width(t, text);
-    if width <= max {
+    let total = chars::text_width(t, text);
+    if total <= max {
         return Pieces {
             from: 0,
             to: text.len(),
             begin: 0,
             end: 0,
-            width: width,
+            width: total,
         };
     }
     let mark = chars::text_width(t, ellipsis);
@@ -102,7 +102,7 @@ fn pieces_start(t: &[u16; 256], text: &[u8], ellipsis: &[u8], max: u64) -> Piece
             width: k.width,
         };
     }
-    let k = trimmed_pos(t, text, width, max - mark);
+    let k = trimmed_pos(t, text, total, max - mark);
     Pieces {
         from: k.pos,
         to: text.len(),
