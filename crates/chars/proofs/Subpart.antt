@@ -148,8 +148,8 @@ module _ (b : ℕ) (bs : List ℕ) where
   subpart-maximal =
       record {
         initial =
-        ⊎-elim (λ e. inr (ap suc (no-row e)))
-        (λ e. inl (initial-part (tailLen b bs) (tail-le b bs) ∙ rw (e, le-leb (tailLen b bs) (tailLen b bs) (omega arith)))) (found b);
+            ⊎-elim (λ e. inr (ap suc (no-row e)))
+            (λ e. inl (initial-part (tailLen b bs) (tail-le b bs) ∙ rw (e, le-leb (tailLen b bs) (tailLen b bs) (omega arith)))) (found b);
         longest = longer;
       }
     where
@@ -168,6 +168,7 @@ module _ (b : ℕ) (bs : List ℕ) where
     where
       none-there : rowOf b ≡ [] → fills (rowOf b) (b ∷ take (matched (tail (rowOf b)) bs) bs) ≡ eqb (suc (length (take (matched (tail (rowOf b)) bs) bs))) (length (rowOf b))
       none-there e = rw e (sym (eqb·suc-zero 0))
+
       there : (r : Row) → leads r b ≡ true → fills r (b ∷ take (matched (tail r) bs) bs) ≡ eqb (suc (length (take (matched (tail r) bs) bs))) (length r)
       there [] e = absurd (false≢true e)
       there (c ∷ cs) e =

@@ -11,3 +11,4 @@ pub mod BreakLaws
 pub mod TwiceLaws
 pub mod Demand3
 pub mod PinsHold
+pub mod WordingLaws

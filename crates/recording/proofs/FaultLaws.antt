@@ -296,6 +296,7 @@ encoded is o h = fault-free (encode is) (parts (in-limits (encode is) h))
       where
         four : eqb (length (encode is .entryNumbers) % 4) 0 ≡ true
         four = unfold encode in eq-eqb (length (numbersOf (entriesFrom 0 0 is)) % 4) 0 (quads (length (numbersOf (entriesFrom 0 0 is))) (entryCount is) (count-numbers is 0 0))
+
         in-order : entriesFault 0 (encode is .dataBytes) (encode is .text) (entriesOf (encode is .entryNumbers)) ≡ 0
         in-order = unfold encode in rw (entries-numbers (entriesFrom 0 0 is)) (written is 0 0 0 (dataOf is) [] (omega arith) (omega arith) refl o)
 

@@ -1,0 +1,4 @@
+pub mod HeadLaws
+pub mod RestLaws
+pub mod WordCharLaws
+pub mod LineLaws

@@ -1,0 +1,211 @@
+// One line of wrapped data: where the line that starts at `at` ends, and where the next one starts.
+// `next_line` promises that the lines from `at` on are the one it found and those from its `next` on (`restLines` of `specs/Rest.antt`).
+// Each character is read at most about three times: a head that does not fit is left at the character that shows it, and read again as the first of the next line.
+use chars::Seen;
+use chars::seen_at;
+ghost use mathlib.Core.Path.{_≡_};
+ghost use mathlib.Core.Bool.{Bool, true, false, _||_};
+ghost use mathlib.Core.List.{_∷_};
+ghost use Prim.Native.Nat.{_+_, _-_, _*_, _≤_, _<_};
+ghost use lib.Dec.{leb};
+ghost use lib.ListN.{length, drop};
+ghost use Rattle.chars.specs.Leads.{leadTable};
+ghost use Rattle.chars.specs.Chars.{chars};
+ghost use Rattle.layout.specs.Wrap.{lineOf};
+ghost use Rattle.line.specs.Rest.{restLines, wordText, spaceLen, limitOf};
+ghost use Rattle.line.specs.Line.{seenOf, oneHead, headFrom, inLine, afterLine, following};
+
+// A head of a word: how many bytes it takes, and how wide it is.
+pub struct Head {
+    pub len: usize,
+    pub width: u64,
+}
+
+// Where a line ends, and where the next one starts, if there is one.
+pub struct Next {
+    pub end: usize,
+    pub next: usize,
+    pub more: bool,
+}
+
+// The character at i of the word that s begins with; 0 and 0 where that word ends.
+fn seen_in_word(t: &[u16; 256], s: &[u8], i: usize) -> Seen
+    requires { ⌜ now t ≡ leadTable ⌝ }
+    requires { ⌜ i ≤ length (wordText (now s)) ⌝ }
+    ensures { λ r. ⌜ r ≡ seenOf (chars (drop i (wordText (now (s .entry))))) ⌝ }
+    ensures { λ r. ⌜ (i + r .len ≤ length (wordText (now (s .entry)))) × (r .width ≤ 2) ⌝ }
+{
+    if s.len() <= i {
+        return Seen { len: 0, width: 0 };
+    }
+    let b = s[i];
+    if b == 0x20 {
+        return Seen { len: 0, width: 0 };
+    }
+    if b == 0x0A {
+        return Seen { len: 0, width: 0 };
+    }
+    seen_at(t, s, i)
+}
+
+// One character of the word, with the zero-width characters after it.
+fn one_char(t: &[u16; 256], word: &[u8]) -> Head
+    requires { ⌜ now t ≡ leadTable ⌝ }
+    ensures { λ r. ⌜ r ≡ oneHead (now (word .entry)) ⌝ }
+{
+    let first = seen_in_word(t, word, 0);
+    let mut at = first.len;
+    loop {
+        let c = seen_in_word(t, word, at);
+        if c.len == 0 {
+            break;
+        }
+        if c.width != 0 {
+            break;
+        }
+        at += c.len;
+    }
+    Head {
+        len: at,
+        width: first.width as u64,
+    }
+}
+
+// The head that ends at `cut`; if that place is 0, one character is taken with the zero-width characters after it.
+fn head_at(t: &[u16; 256], word: &[u8], cut: usize, width: u64) -> Head
+    requires { ⌜ now t ≡ leadTable ⌝ }
+    ensures { λ r. ⌜ r ≡ headFrom cut width (now (word .entry)) ⌝ }
+{
+    if cut == 0 {
+        return one_char(t, word);
+    }
+    Head {
+        len: cut,
+        width: width,
+    }
+}
+
+// How many bytes 20 stand at n.
+fn spaces_at(s: &[u8], n: usize) -> usize
+    requires { ⌜ n ≤ length (now s) ⌝ }
+    ensures { λ r. ⌜ (r ≡ spaceLen (drop n (now (s .entry)))) × (n + r ≤ length (now (s .entry))) ⌝ }
+{
+    let mut i = n;
+    while i < s.len() {
+        if s[i] != 0x20 {
+            break;
+        }
+        i += 1;
+    }
+    i - n
+}
+
+// Whether the line of the data goes on here.
+fn in_line(s: &[u8]) -> bool
+    ensures { λ r. ⌜ r ≡ inLine (now (s .entry)) ⌝ }
+{
+    if s.len() == 0 {
+        return false;
+    }
+    s[0] != 0x0A
+}
+
+// The width to break at; without breaking a number that no word reaches.
+fn limit_of(width: u32, break_words: bool) -> u64
+    ensures { λ r. ⌜ r ≡ limitOf width «break_words» ⌝ }
+{
+    if !break_words {
+        return 0xFFFFFFFFFFFFFFFF;
+    }
+    if width == 0 {
+        return 0xFFFFFFFFFFFFFFFF;
+    }
+    width as u64
+}
+
+// Whether a head that is `more` wide goes on the line, where `run` is used; the first of a line always does.
+fn fits(first: bool, run: u64, more: u64, width: u32) -> bool
+    requires { ⌜ run + more < 0x10000000000000000 ⌝ }
+    ensures { λ r. ⌜ r ≡ (first || leb (run + more) width) ⌝ }
+{
+    if first {
+        return true;
+    }
+    run + more <= width as u64
+}
+
+// What comes after a line that ends at `end`, where s is left and starts at `here`.
+fn after_line(s: &[u8], end: usize, here: usize) -> Next
+    requires { ⌜ here + length (now s) < 0x8000000000000000 ⌝ }
+    ensures { λ r. ⌜ r ≡ afterLine end here (now (s .entry)) ⌝ }
+{
+    if s.len() == 0 {
+        return Next {
+            end: end,
+            next: 0,
+            more: false,
+        };
+    }
+    if s[0] == 0x0A {
+        return Next {
+            end: end,
+            next: here + 1,
+            more: true,
+        };
+    }
+    Next {
+        end: end,
+        next: here,
+        more: true,
+    }
+}
+
+// The line that starts at `at`, and where the next one starts.
+pub fn next_line(t: &[u16; 256], data: &[u8], at: usize, width: u32, break_words: bool) -> Next
+    requires { ⌜ now t ≡ leadTable ⌝ }
+    requires { ⌜ at ≤ length (now «data») ⌝ }
+    ensures { λ r. ⌜ restLines width «break_words» at (drop at (now («data» .entry))) ≡ lineOf at (r .end) ∷ following width «break_words» (now («data» .entry)) r ⌝ }
+    ensures { λ r. ⌜ (at ≤ r .end) × (r .end ≤ length (now («data» .entry))) × (r .next ≤ length (now («data» .entry))) × (r .more ≡ true → (at < r .next) × (r .end ≤ r .next)) ⌝ }
+{
+    let limit = limit_of(width, break_words);
+    let mut word = &data[at..];
+    let mut here = at;
+    let mut stop = at;
+    let mut run: u64 = 0;
+    let mut first = true;
+    'words: while in_line(word) {
+        let mut i = 0;
+        let mut left = limit;
+        // The place of the first character that would pass the width.
+        let cut = loop {
+            let c = seen_in_word(t, word, i);
+            if c.len == 0 {
+                break i;
+            }
+            let w = c.width as u64;
+            if left < w {
+                break i;
+            }
+            left -= w;
+            i += c.len;
+            // What is read of the head is too wide for the line already, so the head is.
+            if !fits(first, run, limit - left, width) {
+                break 'words;
+            }
+        };
+        let head = head_at(t, word, cut, limit - left);
+        let len = head.len;
+        let wide = head.width;
+        if !fits(first, run, wide, width) {
+            break 'words;
+        }
+        let gap = spaces_at(word, len);
+        let end = len + gap;
+        run += wide + gap as u64;
+        stop = here + len;
+        here += end;
+        first = false;
+        word = &word[end..];
+    }
+    after_line(word, stop, here)
+}

@@ -1,0 +1,114 @@
+// Wrapping data bytes: the lines, first byte and end of each, in a lent line list.
+// `wrap_bytes` answers and leaves what `wrapBytesOutcome` of `specs/WrapBytes.antt` says, refusals included.
+// The lines are counted first, so that a refused call touches nothing.
+use line::Next;
+use line::next_line;
+use recording::Answer;
+use recording::Refusal;
+ghost use mathlib.Core.Path.{_≡_};
+ghost use mathlib.Core.List.{[], _∷_};
+ghost use Prim.Native.Nat.{_+_, _*_, _≤_};
+ghost use lib.ListN.{length};
+ghost use Rattle.chars.specs.Leads.{leadTable};
+ghost use Rattle.buffer.specs.Place.{over, overAt};
+ghost use Rattle.recording.specs.Refusals.{dataLimit};
+ghost use Rattle.recording.specs.Outcome.{answerOf, returned, lentAfter};
+ghost use Rattle.layout.specs.Wrap.{lineOf, lineNumbers, wrapLines};
+ghost use Rattle.wrap.specs.WrapBytes.{lineSize, linesOf, lentLines, wrapBytesOutcome};
+
+const DATA_LIMIT: usize = 1048576;
+
+// The numbers of a line in the line list: first byte and end.
+const LINE_NUMBERS: usize = 2;
+
+// How many lines there are, and how many bytes of the data they show.
+pub struct Lines {
+    pub count: usize,
+    pub bytes: usize,
+}
+
+// The lines that the data is wrapped into, counted.
+pub fn count_lines(t: &[u16; 256], data: &[u8], width: u32, break_words: bool) -> Lines
+    requires { ⌜ now t ≡ leadTable ⌝ }
+    requires { ⌜ length (now «data») ≤ dataLimit ⌝ }
+    ensures { λ r. ⌜ r ≡ linesOf (wrapLines width «break_words» (now («data» .entry))) ⌝ }
+    ensures { λ r. ⌜ (1 ≤ r .count) × (r .count ≤ length (now («data» .entry)) + 1) × (r .bytes ≤ length (now («data» .entry))) ⌝ }
+{
+    let mut count = 0;
+    let mut bytes = 0;
+    let mut at = 0;
+    loop {
+        let l = next_line(t, data, at, width, break_words);
+        count += 1;
+        bytes += l.end - at;
+        if !l.more {
+            break;
+        }
+        at = l.next;
+    }
+    Lines {
+        count: count,
+        bytes: bytes,
+    }
+}
+
+// Puts the numbers of one line at k, and returns the place after them.
+fn set_line(lines: &mut [u32], k: usize, first: u32, end: u32) -> usize
+    requires { ⌜ k + lineSize ≤ length (now lines) ⌝ }
+    ensures { λ r. ⌜ (r ≡ k + lineSize) × (now (lines .exit) ≡ overAt k (lineNumbers (lineOf first end ∷ [])) (now (lines .entry))) ⌝ }
+{
+    lines[k] = first;
+    lines[k + 1] = end;
+    k + LINE_NUMBERS
+}
+
+// The lines that the data is wrapped into, written.
+pub fn write_lines(t: &[u16; 256], data: &[u8], width: u32, break_words: bool, lines: &mut [u32])
+    requires { ⌜ now t ≡ leadTable ⌝ }
+    requires { ⌜ length (now «data») ≤ dataLimit ⌝ }
+    requires { ⌜ length (lineNumbers (wrapLines width «break_words» (now «data»))) ≤ length (now lines) ⌝ }
+    ensures { λ _. ⌜ now (lines .exit) ≡ over (lineNumbers (wrapLines width «break_words» (now («data» .entry)))) (now (lines .entry)) ⌝ }
+{
+    let mut k = 0;
+    let mut at = 0;
+    loop {
+        let l = next_line(t, data, at, width, break_words);
+        let end = l.end;
+        k = set_line(lines, k, at as u32, end as u32);
+        if !l.more {
+            break;
+        }
+        at = l.next;
+    }
+}
+
+// How many numbers so many lines take in the line list.
+pub fn numbers_of(count: usize) -> usize
+    requires { ⌜ count ≤ dataLimit + 1 ⌝ }
+    ensures { λ r. ⌜ r ≡ count * lineSize ⌝ }
+{
+    count * LINE_NUMBERS
+}
+
+// The lines that the data is wrapped into, in `lines`; the number that comes back is their count.
+pub fn wrap_bytes(data: &[u8], width: u32, break_words: bool, lines: &mut [u32]) -> Answer
+    ensures { λ r. ⌜ answerOf r ≡ returned (wrapBytesOutcome width «break_words» (now («data» .entry)) (length (now (lines .entry)))) ⌝ }
+    ensures { λ _. ⌜ now (lines .exit) ≡ lentAfter (wrapBytesOutcome width «break_words» (now («data» .entry)) (length (now (lines .entry)))) (lentLines (now (lines .entry))) .lines ⌝ }
+{
+    if DATA_LIMIT < data.len() {
+        return Answer::Refused(Refusal::DataTooLong);
+    }
+    let t = chars::LEADS;
+    let found = count_lines(&t, data, width, break_words);
+    let count = found.count;
+    if lines.len() < numbers_of(count) {
+        return Answer::Refused(Refusal::LineListTooShort);
+    }
+    write_lines(&t, data, width, break_words, lines);
+    Answer::Done {
+        data: 0,
+        entries: 0,
+        text: 0,
+        number: count as u64,
+    }
+}
