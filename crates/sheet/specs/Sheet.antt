@@ -93,7 +93,7 @@ allHex (b ∷ bs) = isHex b && allHex bs
 abbrev pub fromPairs : Bytes → Bytes
 fromPairs [] = []
 fromPairs (x ∷ []) = []
-fromPairs (x ∷ y ∷ r) = nibble x * 16 + nibble y ∷ fromPairs r
+fromPairs (x ∷ y ∷ r) = (nibble x * 16 + nibble y) ∷ fromPairs r
 
 -- `-` if there are no data bytes
 abbrev pub isDash : Bytes → Bool

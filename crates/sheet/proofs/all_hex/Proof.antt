@@ -47,7 +47,7 @@ loop-less c = search needs
 
 -- src/lib.rt:149:5
 loop-again : tie.Need-loop-again Inv-loop μ-loop
-loop-again c = let l = c .before .before .before .before in let s = l .before .before .args .s .now in (c .before .before .before .loop-test .taken, sym (hex-next s (l .loop .i) (c .before .before .before .loop-test .taken) (c .before .is-hex .result) (c .before .is-hex .ensures) ∙ simp (not-false (c .before .is-hex .result) (c .if1 .left))) ∙ l .loop .inv .1)
+loop-again c = let l = c .before .before .before .before in let s = l .before .before .args .s .now in (omega (arith, c .before .before .before .loop-test .taken), sym (hex-next s (l .loop .i) (c .before .before .before .loop-test .taken) (c .before .is-hex .result) (c .before .is-hex .ensures) ∙ simp (not-false (c .before .is-hex .result) (c .if1 .left))) ∙ l .loop .inv .1)
 
 -- src/lib.rt:145:1
 returns-2 : tie.Need-returns-2 Inv-loop μ-loop

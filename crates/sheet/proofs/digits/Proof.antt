@@ -85,7 +85,7 @@ loop-again c =
     let s = l .before .args .s .now in
     let more = c .before .before .before .before .loop-test .taken in
     let digit = in-span 0x30 0x39 (getD s (l .loop .i) 0) (c .before .before .if1 .left) (c .before .if2 .left) in
-    record { within = more; small = c .if3 .left; value = sym (value-next s (l .loop .i) more (l .loop .n)) ∙ l .loop .inv .value; good = sym (digit-good s (l .loop .i) more digit) ∙ l .loop .inv .good }
+    record { within = omega (arith, more); small = c .if3 .left; value = sym (value-next s (l .loop .i) more (l .loop .n)) ∙ l .loop .inv .value; good = sym (digit-good s (l .loop .i) more digit) ∙ l .loop .inv .good }
 
 -- src/lib.rt:62:1
 returns-4 : tie.Need-returns-4 Inv-loop μ-loop

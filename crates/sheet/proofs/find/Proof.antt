@@ -39,7 +39,7 @@ loop-less c = search needs
 
 -- src/lib.rt:20:5
 loop-again : tie.Need-loop-again Inv-loop μ-loop
-loop-again c = let l = c .before .before .before in let x = l .before .args in (omega (arith, l .loop .inv .0), c .before .before .loop-test .taken, omega (arith, find-on (x .c) (x .s .now) (l .loop .i) (c .before .before .loop-test .taken) (c .if1 .left), l .loop .inv .2))
+loop-again c = let l = c .before .before .before in let x = l .before .args in (omega (arith, l .loop .inv .0), omega (arith, c .before .before .loop-test .taken), omega (arith, find-on (x .c) (x .s .now) (l .loop .i) (c .before .before .loop-test .taken) (c .if1 .left), l .loop .inv .2))
 
 -- src/lib.rt:14:1
 returns-2 : tie.Need-returns-2 Inv-loop μ-loop

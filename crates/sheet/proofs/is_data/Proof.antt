@@ -1,0 +1,27 @@
+use native.Mathlib.Omega.{arith}
+use borrow.Author.Needs.{needs}
+use Rattle.sheet.proofs.is_data.Statement.{statement}
+use Rattle.sheet.proofs.is_data.Tie as tie
+use Rattle.sheet.proofs.is_data.Reads as reads
+use Rattle.sheet.proofs.is_data.Lts as lts
+use Rattle.sheet.proofs.is_dash.Reads as is-dash-reads
+use Rattle.sheet.proofs.is_pairs.Reads as is-pairs-reads
+
+-- src/lib.rt:196:8
+is-dash-requires : tie.Need-is-dash-requires
+is-dash-requires c κs = search needs
+
+-- src/lib.rt:197:9
+returns : tie.Need-returns
+returns c = search needs
+
+-- src/lib.rt:199:5
+is-pairs-requires : tie.Need-is-pairs-requires
+is-pairs-requires c κs = search needs
+
+-- src/lib.rt:193:1
+returns-2 : tie.Need-returns-2
+returns-2 c = search needs
+
+pub is-data-spec : {M : Type 1} → statement M
+is-data-spec = tie.close (tie.spec is-dash-requires returns is-pairs-requires returns-2)
