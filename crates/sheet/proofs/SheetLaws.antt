@@ -180,7 +180,8 @@ pair-at (x ∷ y ∷ s) zero h = refl
 pair-at (x ∷ y ∷ s) (suc k) h =
     let e : 2 * suc k ≡ suc (suc (2 * k)) = omega arith in
     let f : 2 * suc k + 1 ≡ suc (suc (2 * k + 1)) = omega arith in
-    rw (e, f) (pair-at s k (omega (arith, h)))
+    pair-at s k (omega (arith, h)) ∙ ap (λ (j : ℕ). nibble (getD (x ∷ y ∷ s) j 0) * 16 + nibble (getD (x ∷ y ∷ s) (suc (suc (2 * k + 1))) 0)) (sym e)
+    ∙ ap (λ (j : ℕ). nibble (getD (x ∷ y ∷ s) (2 * suc k) 0) * 16 + nibble (getD (x ∷ y ∷ s) j 0)) (sym f)
 
 -- one more byte of a result stored
 pub store-next : (src out : Bytes) (k : ℕ) → k < length src → k < length out → set (take k src ++ drop k out) k (getD src k 0) ≡ take (k + 1) src ++ drop (k + 1) out

@@ -31,7 +31,7 @@ pub fn first_field(s: &[u8]) -> &[u8]
     ensures { λ r. ⌜ now r ≡ upTo 0x20 (now (s .entry)) ⌝ }
 {
     let e = find(s, 0, 0x20);
-    &s[..e]
+    &s[0..e]
 }
 
 // The bytes after the first space.

@@ -1,5 +1,10 @@
+-- The leading zero is tested first, then the digits.
 use native.Mathlib.Omega.{arith}
 use borrow.Author.Needs.{needs}
+use mathlib.Core.Path.{_≡_, refl, sym, ap, _∙_}
+use Prim.Native.Nat.{ℕ, suc, _+_, _-_, _*_, _/_, _≤_, _<_}
+use borrow.Author.Tests.{le-leb, lt-leb, eq-eqb, ne-eqb, not-true, not-false}
+use Rattle.sheet.specs.Sheet.{isDecimal, decimalOr}
 use Rattle.sheet.proofs.decimal_in.Statement.{statement}
 use Rattle.sheet.proofs.decimal_in.Tie as tie
 use Rattle.sheet.proofs.decimal_in.Reads as reads
@@ -13,7 +18,8 @@ no-leading-zero-requires c κs = search needs
 
 -- src/lib.rt:91:9
 returns : tie.Need-returns
-returns c = search needs
+unfolding decimalOr isDecimal
+returns c = (simp (← c .before .no-leading-zero .ensures, not-true (c .before .no-leading-zero .result) (c .if1 .taken)), omega arith)
 
 -- src/lib.rt:93:5
 digits-requires : tie.Need-digits-requires
@@ -21,7 +27,8 @@ digits-requires c κs = search needs
 
 -- src/lib.rt:86:1
 returns-2 : tie.Need-returns-2
-returns-2 c = search needs
+unfolding decimalOr isDecimal
+returns-2 c = (simp (← c .before .before .no-leading-zero .ensures, not-false (c .before .before .no-leading-zero .result) (c .before .if1 .left)) (c .digits .ensures .0), c .digits .ensures .1)
 
 pub decimal-in-spec : {M : Type 1} → statement M
 decimal-in-spec = tie.close (tie.spec no-leading-zero-requires returns digits-requires returns-2)

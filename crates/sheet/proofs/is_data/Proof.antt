@@ -1,5 +1,10 @@
+-- One form or the other.
 use native.Mathlib.Omega.{arith}
 use borrow.Author.Needs.{needs}
+use mathlib.Core.Path.{_≡_, refl, sym, ap, _∙_}
+use Prim.Native.Nat.{ℕ, suc, _+_, _-_, _*_, _/_, _≤_, _<_}
+use borrow.Author.Tests.{le-leb, lt-leb, eq-eqb, ne-eqb, not-true, not-false}
+use Rattle.sheet.specs.Sheet.{isData}
 use Rattle.sheet.proofs.is_data.Statement.{statement}
 use Rattle.sheet.proofs.is_data.Tie as tie
 use Rattle.sheet.proofs.is_data.Reads as reads
@@ -13,7 +18,8 @@ is-dash-requires c κs = search needs
 
 -- src/lib.rt:197:9
 returns : tie.Need-returns
-returns c = search needs
+unfolding isData
+returns c = simp (← c .before .is-dash .ensures, c .if1 .taken)
 
 -- src/lib.rt:199:5
 is-pairs-requires : tie.Need-is-pairs-requires
@@ -21,7 +27,8 @@ is-pairs-requires c κs = search needs
 
 -- src/lib.rt:193:1
 returns-2 : tie.Need-returns-2
-returns-2 c = search needs
+unfolding isData
+returns-2 c = simp (← c .before .before .is-dash .ensures, c .before .if1 .left) (c .is-pairs .ensures)
 
 pub is-data-spec : {M : Type 1} → statement M
 is-data-spec = tie.close (tie.spec is-dash-requires returns is-pairs-requires returns-2)

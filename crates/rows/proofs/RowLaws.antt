@@ -1,0 +1,104 @@
+-- The digits that `io` writes are `decimal`; a write after a write is one; and the rows of numbers, of lines and of sheet lines, one further each time.
+use Prim.Native.Nat.{ℕ, zero, suc, _+_, _-_, _*_, _/_, _%_, _^_, _≤_, _<_}
+use native.Mathlib.Omega.{arith}
+use native.Mathlib.Numerals.{add-one, add-two}
+use mathlib.Core.Bool.{Bool, true, false, cond, _&&_, _||_, not}
+use mathlib.Core.Path.{_≡_, refl, sym, ap, _∙_}
+use mathlib.Core.List.{List, [], _∷_, _++_, append-assoc, append-nil}
+use lib.Dec.{leb, ltb, eqb}
+use lib.ListN.{length, take, drop, getD, length-append, length-drop, drop-of-length-le}
+use lib.Seq.{drop-cons, length-take-le, take-append-seam, drop-append-seam, drop-drop}
+use borrow.Author.Tests.{lt-ltb, le-ltb, ltb-true, ltb-false, le-leb, lt-leb, eq-eqb, ne-eqb, eqb-true}
+use Rattle.io.specs.Digits.{glyph, digits}
+use Rattle.buffer.specs.Place.{over, overAt}
+use Rattle.buffer.proofs.Laws.{put-over}
+use Rattle.recording.specs.Recording.{Bytes}
+use Rattle.layout.specs.Wrap.{Line, lineNumbers}
+use Rattle.sheet.specs.Sheet.{after, upTo, SheetLine, sheetLine, sheetLines, isData, isDash, isPairs}
+use Rattle.sheet.proofs.SheetLaws.{rest-next, rest-none, line-next, up-to-take, after-drop}
+use Rattle.rows.specs.Rows.{decimalUpTo, decimal, field, rowText, badRow, lineRows, numberRows, rowsOf, rowsFrom, same}
+
+-- ── decimals
+power-pos : (k : ℕ) → 1 ≤ 10 ^ k
+power-pos zero = omega arith
+power-pos (suc k) = omega (arith, power-pos k)
+
+digit-glyph : (n : ℕ) → glyph (n % 10) ≡ 0x30 + n % 10
+digit-glyph n = simp (lt-ltb (n % 10) 10 (omega arith))
+
+-- the fewest digits that hold n are the digits without leading zeros
+fewest : (j k n : ℕ) → n < 10 ^ suc j → n < 10 ^ suc k → (1 < suc k → 10 ^ k ≤ n) → digits 10 (suc k) n ≡ decimalUpTo (suc j) n
+fewest j zero n a b h =
+    let small : ltb n 10 ≡ true = lt-ltb n 10 (omega (arith, b)) in
+    simp (small, digit-glyph n)
+fewest zero (suc k) n a b h = absurd (omega (arith, a, h (omega arith), power-pos k))
+fewest (suc j) (suc k) n a b h =
+    let p = h (omega arith) in
+    let large : ltb n 10 ≡ false = le-ltb n 10 (omega (arith, p, power-pos k)) in
+    let ih = fewest j k (n / 10) (omega (arith, a)) (omega (arith, b)) (λ q. omega (arith, p)) in
+    simp large (λ i. ih i ++ (digit-glyph n i ∷ []))
+
+pub decimal-digits : (n k : ℕ) → n < 10000000000 → 1 ≤ k → n < 10 ^ k → (1 < k → 10 ^ (k - 1) ≤ n) → digits 10 k n ≡ decimal n
+unfolding decimal
+decimal-digits n zero s a b h = absurd (omega arith)
+decimal-digits n (suc k) s a b h = fewest 9 k n s b h
+
+up-to-short : (k n : ℕ) → length (decimalUpTo k n) ≤ k
+up-to-short zero n = omega arith
+up-to-short (suc k) n = go (ltb n 10) (up-to-short k (n / 10))
+  where
+    go : (t : Bool) → length (decimalUpTo k (n / 10)) ≤ k → length (cond t [] (decimalUpTo k (n / 10)) ++ (0x30 + n % 10 ∷ [])) ≤ suc k
+    go true h = omega arith
+    go false h = omega (arith, h, length-append (decimalUpTo k (n / 10)) (0x30 + n % 10 ∷ []))
+
+pub decimal-short : (n : ℕ) → length (decimal n) ≤ 10
+unfolding decimal
+decimal-short n = up-to-short 10 n
+
+-- ── a write where the one before it ended
+over-at : (at : ℕ) (x o : Bytes) → at ≤ length o → overAt at x o ≡ over (take at o ++ x) o
+unfolding overAt over
+over-at at x o h =
+    let n : length (take at o) ≡ at = length-take-le at o h in
+    rw (length-append, n, append-assoc, drop-drop)
+
+pub put-put : (at : ℕ) (x y o : Bytes) → at ≤ length o → overAt (at + length x) y (overAt at x o) ≡ overAt at (x ++ y) o
+put-put at x y o h =
+    let n : at + length x ≡ length (take at o ++ x) = omega (arith, length-append (take at o) x, length-take-le at o h) in
+    ap (overAt (at + length x) y) (over-at at x o h) ∙ ap (λ (j : ℕ). overAt j y (over (take at o ++ x) o)) n ∙ put-over (take at o ++ x) y o
+    ∙ ap (λ (l : Bytes). over l o) (append-assoc (take at o) x y) ∙ sym (over-at at (x ++ y) o h)
+
+-- ── rows of a line list
+pub rows-next : (r i : ℕ) (ns : List ℕ) (k : ℕ) → k + 1 < length ns
+    → numberRows r i (drop k ns) ≡ rowText r i (getD ns k 0) (getD ns (k + 1) 0) ++ numberRows r (suc i) (drop (k + 2) ns)
+rows-next r i ns k h =
+    let e : drop k ns ≡ getD ns k 0 ∷ getD ns (k + 1) 0 ∷ drop (k + 2) ns =
+    drop-cons ns k 0 (omega arith) ∙ ap (λ (l : List ℕ). getD ns k 0 ∷ l) (rw (add-one, add-two) (drop-cons ns (suc k) 0 (omega arith))) in
+    ap (numberRows r i) e
+
+pub rows-none : (r i : ℕ) (ns : List ℕ) → length ns ≤ 1 → numberRows r i ns ≡ []
+rows-none r i [] h = refl
+rows-none r i (a ∷ []) h = refl
+rows-none r i (a ∷ e ∷ ns) h = absurd (omega arith)
+
+pub rows-lines : (r k : ℕ) (ls : List Line) → numberRows r k (lineNumbers ls) ≡ lineRows r k ls
+rows-lines r k [] = refl
+rows-lines r k (l ∷ ls) = ap (λ (x : Bytes). rowText r k (l .first) (l .end) ++ x) (rows-lines r (suc k) ls)
+
+-- ── lines of a sheet
+-- the line at p, and the lines after its end e
+pub sheet-next : (s : Bytes) (p e : ℕ) → p < length s → e ≡ p + length (upTo 0x0A (drop p s))
+    → sheetLines (drop p s) ≡ sheetLine (take (e - p) (drop p s)) (ltb e (length s)) ∷ sheetLines (drop (e + 1) s)
+sheet-next s p e h k =
+    let t = drop p s in
+    let c : t ≡ getD s p 0 ∷ drop (p + 1) s = rest-next s p h in
+    let n : length (upTo 0x0A t) ≡ e - p = omega (arith, k) in
+    let first : upTo 0x0A t ≡ take (e - p) t = sym (up-to-take 0x0A t) ∙ ap (λ (j : ℕ). take j t) n in
+    let rest : after 0x0A t ≡ drop (e + 1) s =
+    sym (after-drop 0x0A t) ∙ drop-drop (suc (length (upTo 0x0A t))) p s ∙ ap (λ (j : ℕ). drop j s) (omega (arith, k)) in
+    let ended : ltb (length (upTo 0x0A t)) (length t) ≡ ltb e (length s) = same-test (length (upTo 0x0A t)) (length t) e (length s) (length-drop p s) in
+    ap sheetLines c ∙ line-next (getD s p 0) (drop (p + 1) s) ∙ ap (λ (l : Bytes). sheetLine (upTo 0x0A l) (ltb (length (upTo 0x0A l)) (length l)) ∷ sheetLines (after 0x0A l)) (sym c)
+    ∙ (λ i. sheetLine (first i) (ended i) ∷ sheetLines (rest i))
+  where
+    same-test : (a b c d : ℕ) → b ≡ length s - p → ltb a b ≡ ltb c d
+    same-test a b c d q = ?
