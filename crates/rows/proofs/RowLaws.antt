@@ -3,20 +3,23 @@ use Prim.Native.Nat.{ℕ, zero, suc, _+_, _-_, _*_, _/_, _%_, _^_, _≤_, _<_}
 use native.Mathlib.Omega.{arith}
 use native.Mathlib.Numerals.{add-one, add-two}
 use mathlib.Core.Bool.{Bool, true, false, cond, _&&_, _||_, not}
-use mathlib.Core.Path.{_≡_, refl, sym, ap, _∙_}
+use mathlib.Core.Path.{_≡_, refl, sym, ap, subst, _∙_}
 use mathlib.Core.List.{List, [], _∷_, _++_, append-assoc, append-nil}
 use lib.Dec.{leb, ltb, eqb}
 use lib.ListN.{length, take, drop, getD, length-append, length-drop, drop-of-length-le}
 use lib.Seq.{drop-cons, length-take-le, take-append-seam, drop-append-seam, drop-drop}
-use borrow.Author.Tests.{lt-ltb, le-ltb, ltb-true, ltb-false, le-leb, lt-leb, eq-eqb, ne-eqb, eqb-true}
+use borrow.Author.Tests.{lt-ltb, le-ltb, ltb-true, ltb-false, le-leb, lt-leb, eq-eqb, ne-eqb, eqb-true, leb-true}
 use Rattle.io.specs.Digits.{glyph, digits}
 use Rattle.buffer.specs.Place.{over, overAt}
 use Rattle.buffer.proofs.Laws.{put-over}
 use Rattle.recording.specs.Recording.{Bytes}
 use Rattle.layout.specs.Wrap.{Line, lineNumbers}
-use Rattle.sheet.specs.Sheet.{after, upTo, SheetLine, sheetLine, sheetLines, isData, isDash, isPairs}
+use Rattle.sheet.specs.Sheet.{after, upTo, SheetLine, sheetLine, sheetLines, isData, isDash, isPairs, allHex}
 use Rattle.sheet.proofs.SheetLaws.{rest-next, rest-none, line-next, up-to-take, after-drop}
 use Rattle.rows.specs.Rows.{decimalUpTo, decimal, field, rowText, badRow, lineRows, numberRows, rowsOf, rowsFrom, same}
+
+false-true : false ≡ true → ⊥
+false-true e = subst (λ (b : Bool). cond b ⊥ (Unit {0})) e tt
 
 -- ── decimals
 power-pos : (k : ℕ) → 1 ≤ 10 ^ k
@@ -47,9 +50,9 @@ up-to-short : (k n : ℕ) → length (decimalUpTo k n) ≤ k
 up-to-short zero n = omega arith
 up-to-short (suc k) n = go (ltb n 10) (up-to-short k (n / 10))
   where
-    go : (t : Bool) → length (decimalUpTo k (n / 10)) ≤ k → length (cond t [] (decimalUpTo k (n / 10)) ++ (0x30 + n % 10 ∷ [])) ≤ suc k
+    go : (t : Bool) → length (decimalUpTo k (n / 10)) ≤ k → length (cond t [] (decimalUpTo k (n / 10)) ++ ((0x30 + n % 10) ∷ [])) ≤ suc k
     go true h = omega arith
-    go false h = omega (arith, h, length-append (decimalUpTo k (n / 10)) (0x30 + n % 10 ∷ []))
+    go false h = omega (arith, h, length-append (decimalUpTo k (n / 10)) ((0x30 + n % 10) ∷ []))
 
 pub decimal-short : (n : ℕ) → length (decimal n) ≤ 10
 unfolding decimal
@@ -86,6 +89,13 @@ rows-lines r k [] = refl
 rows-lines r k (l ∷ ls) = ap (λ (x : Bytes). rowText r k (l .first) (l .end) ++ x) (rows-lines r (suc k) ls)
 
 -- ── lines of a sheet
+ltb-shift : (p a b : ℕ) → ltb (p + a) (p + b) ≡ ltb a b
+ltb-shift p a b = go (ltb a b) refl
+  where
+    go : (t : Bool) → ltb a b ≡ t → ltb (p + a) (p + b) ≡ t
+    go true e = lt-ltb (p + a) (p + b) (omega (arith, ltb-true a b e))
+    go false e = le-ltb (p + a) (p + b) (omega (arith, ltb-false a b e))
+
 -- the line at p, and the lines after its end e
 pub sheet-next : (s : Bytes) (p e : ℕ) → p < length s → e ≡ p + length (upTo 0x0A (drop p s))
     → sheetLines (drop p s) ≡ sheetLine (take (e - p) (drop p s)) (ltb e (length s)) ∷ sheetLines (drop (e + 1) s)
@@ -94,11 +104,32 @@ sheet-next s p e h k =
     let c : t ≡ getD s p 0 ∷ drop (p + 1) s = rest-next s p h in
     let n : length (upTo 0x0A t) ≡ e - p = omega (arith, k) in
     let first : upTo 0x0A t ≡ take (e - p) t = sym (up-to-take 0x0A t) ∙ ap (λ (j : ℕ). take j t) n in
-    let rest : after 0x0A t ≡ drop (e + 1) s =
-    sym (after-drop 0x0A t) ∙ drop-drop (suc (length (upTo 0x0A t))) p s ∙ ap (λ (j : ℕ). drop j s) (omega (arith, k)) in
-    let ended : ltb (length (upTo 0x0A t)) (length t) ≡ ltb e (length s) = same-test (length (upTo 0x0A t)) (length t) e (length s) (length-drop p s) in
+    let next : p + suc (length (upTo 0x0A t)) ≡ e + 1 = omega (arith, k) in
+    let rest : after 0x0A t ≡ drop (e + 1) s = sym (after-drop 0x0A t) ∙ drop-drop (suc (length (upTo 0x0A t))) p s ∙ ap (λ (j : ℕ). drop j s) next in
+    let all : p + length t ≡ length s = omega (arith, length-drop p s) in
+    let ended : ltb (length (upTo 0x0A t)) (length t) ≡ ltb e (length s) = sym (ltb-shift p (length (upTo 0x0A t)) (length t)) ∙ (λ i. ltb (sym k i) (all i)) in
     ap sheetLines c ∙ line-next (getD s p 0) (drop (p + 1) s) ∙ ap (λ (l : Bytes). sheetLine (upTo 0x0A l) (ltb (length (upTo 0x0A l)) (length l)) ∷ sheetLines (after 0x0A l)) (sym c)
     ∙ (λ i. sheetLine (first i) (ended i) ∷ sheetLines (rest i))
+
+-- ── the bound: a right third field is not empty, and each space before it takes a byte
+pub after-shorter : (c : ℕ) (s : Bytes) → 0 < length (after c s) → length (after c s) < length s
+after-shorter c [] h = absurd (omega (arith, h))
+after-shorter c (b ∷ s) h = go (eqb b c) (after-shorter c s) h
   where
-    same-test : (a b c d : ℕ) → b ≡ length s - p → ltb a b ≡ ltb c d
-    same-test a b c d q = ?
+    go : (t : Bool) → (0 < length (after c s) → length (after c s) < length s) → 0 < length (cond t s (after c s)) → length (cond t s (after c s)) < suc (length s)
+    go true f h = omega arith
+    go false f h = omega (arith, f h)
+
+both : (a b : Bool) → (a && b) ≡ true → (a ≡ true) × (b ≡ true)
+both true true e = (refl, refl)
+both true false e = (refl, e)
+both false b e = (e, absurd (false-true e))
+
+pub data-size : (s : Bytes) → isData s ≡ true → (1 ≤ length s) × (length s ≤ 8000)
+unfolding isData
+data-size [] e = absurd (false-true e)
+data-size (b ∷ []) e = (omega arith, omega arith)
+data-size (b ∷ c ∷ s) e =
+    let p = both (eqb (length (b ∷ c ∷ s) % 2) 0) (leb (length (b ∷ c ∷ s)) 8000 && allHex (b ∷ c ∷ s)) e in
+    let q = both (leb (length (b ∷ c ∷ s)) 8000) (allHex (b ∷ c ∷ s)) (p .1) in
+    (omega arith, leb-true (length (b ∷ c ∷ s)) 8000 (q .0))

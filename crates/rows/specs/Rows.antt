@@ -11,7 +11,7 @@ use Rattle.sheet.specs.Sheet.{SheetLine, sheetLines, valueFrom, breakOf, dataOf
 -- ── a number in decimal, without leading zeros: at most k digits; ten do for 32 bits
 abbrev pub decimalUpTo : ℕ → ℕ → Bytes
 decimalUpTo zero n = []
-decimalUpTo (suc k) n = cond (ltb n 10) [] (decimalUpTo k (n / 10)) ++ (0x30 + n % 10 ∷ [])
+decimalUpTo (suc k) n = cond (ltb n 10) [] (decimalUpTo k (n / 10)) ++ ((0x30 + n % 10) ∷ [])
 
 unfoldable pub decimal : ℕ → Bytes
 decimal n = decimalUpTo 10 n
@@ -62,9 +62,9 @@ rowsHeading = 0x72 ∷ 0x6F ∷ 0x77 ∷ 0x20 ∷ 0x6C ∷ 0x69 ∷ 0x6E ∷ 0x6
 
 abbrev pub same : Bytes → Bytes → Bool
 same [] [] = true
-same [] (b ∷ bs) = false
-same (a ∷ as) [] = false
-same (a ∷ as) (b ∷ bs) = eqb a b && same as bs
+same [] (b ∷ y) = false
+same (a ∷ x) [] = false
+same (a ∷ x) (b ∷ y) = eqb a b && same x y
 
 abbrev pub sheetLimit : ℕ
 sheetLimit = 65536

@@ -26,8 +26,8 @@ fn put_field(out: &mut [u8], at: usize, n: u32, c: u8) -> usize
     let mut text: [u8; 20] = [0; 20];
     let k = io::decimal(n as u64, &mut text);
     let e = buffer::put(out, at, &text, 0, k);
-    out[e] = c;
-    e + 1
+    let last: [u8; 1] = [c];
+    buffer::put(out, e, &last, 0, 1)
 }
 
 // Puts a row: four numbers.
