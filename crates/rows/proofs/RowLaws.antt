@@ -6,11 +6,11 @@ use mathlib.Core.Bool.{Bool, true, false, cond, _&&_, _||_, not}
 use mathlib.Core.Path.{_≡_, refl, sym, ap, subst, _∙_}
 use mathlib.Core.List.{List, [], _∷_, _++_, append-assoc, append-nil}
 use lib.Dec.{leb, ltb, eqb}
-use lib.ListN.{length, take, drop, getD, length-append, length-drop, drop-of-length-le}
-use lib.Seq.{drop-cons, length-take-le, take-append-seam, drop-append-seam, drop-drop}
+use lib.ListN.{length, take, drop, getD, take-append-drop, length-append, length-drop, drop-of-length-le}
+use lib.Seq.{take-length, drop-cons, length-take-le, take-append-seam, drop-append-seam, drop-drop}
 use borrow.Author.Tests.{lt-ltb, le-ltb, ltb-true, ltb-false, le-leb, lt-leb, eq-eqb, ne-eqb, eqb-true, leb-true}
 use Rattle.io.specs.Digits.{glyph, digits}
-use Rattle.buffer.specs.Place.{over, overAt}
+use Rattle.buffer.specs.Place.{over, overAt, part}
 use Rattle.buffer.proofs.Laws.{put-over}
 use Rattle.recording.specs.Recording.{Bytes}
 use Rattle.layout.specs.Wrap.{Line, lineNumbers}
@@ -44,7 +44,7 @@ fewest (suc j) (suc k) n a b h =
 pub decimal-digits : (n k : ℕ) → n < 10000000000 → 1 ≤ k → n < 10 ^ k → (1 < k → 10 ^ (k - 1) ≤ n) → digits 10 k n ≡ decimal n
 unfolding decimal
 decimal-digits n zero s a b h = absurd (omega arith)
-decimal-digits n (suc k) s a b h = fewest 9 k n s b h
+decimal-digits n (suc k) s a b h = let e : suc k - 1 ≡ k = omega arith in fewest 9 k n s b (rw e at h)
 
 up-to-short : (k n : ℕ) → length (decimalUpTo k n) ≤ k
 up-to-short zero n = omega arith
@@ -133,3 +133,26 @@ data-size (b ∷ c ∷ s) e =
     let p = both (eqb (length (b ∷ c ∷ s) % 2) 0) (leb (length (b ∷ c ∷ s)) 8000 && allHex (b ∷ c ∷ s)) e in
     let q = both (leb (length (b ∷ c ∷ s)) 8000) (allHex (b ∷ c ∷ s)) (p .1) in
     (omega arith, leb-true (length (b ∷ c ∷ s)) 8000 (q .0))
+
+-- two writes, the second where the first one ended
+pub then-put : (at : ℕ) (x y o o₁ o₂ : Bytes) (r : ℕ) → at ≤ length o → o₁ ≡ overAt at x o → r ≡ at + length x → o₂ ≡ overAt r y o₁ → o₂ ≡ overAt at (x ++ y) o
+then-put at x y o o₁ o₂ r h e k f = f ∙ ap (λ (j : ℕ). overAt j y o₁) k ∙ ap (overAt (at + length x) y) e ∙ put-put at x y o h
+
+pub part-all : (k : ℕ) (s : Bytes) → k ≡ length s → part 0 k s ≡ s
+part-all k s e = let z : k - 0 ≡ length s = omega (arith, e) in rw z (take-length s)
+
+-- nothing put
+pub put-none : (at : ℕ) (o : Bytes) → o ≡ overAt at [] o
+unfolding overAt over
+put-none at o = sym (take-append-drop at o)
+
+-- ── what `io` spelled: k digits at the start of t
+pub spelled : (n k : ℕ) (t : Bytes) → n < 10000000000 → 1 ≤ k → n < 10 ^ k → (1 < k → 10 ^ (k - 1) ≤ n) → k ≡ length (take k t) → take k t ≡ digits 10 k n
+    → (take k t ≡ decimal n) × (k ≤ 10)
+spelled n k t a b e f g h =
+    let d = h ∙ decimal-digits n k a b e f in
+    (d, omega (arith, g, ap length d, decimal-short n))
+
+pub numbers-two : (ls : List Line) → length (lineNumbers ls) ≡ length ls * 2
+numbers-two [] = refl
+numbers-two (l ∷ ls) = omega (arith, numbers-two ls)

@@ -25,7 +25,7 @@ fn put_field(out: &mut [u8], at: usize, n: u32, c: u8) -> usize
 {
     let mut text: [u8; 20] = [0; 20];
     let k = io::decimal(n as u64, &mut text);
-    let e = buffer::put(out, at, &text, 0, k);
+    let e = buffer::put(out, at, &text[..k], 0, k);
     let last: [u8; 1] = [c];
     buffer::put(out, e, &last, 0, 1)
 }

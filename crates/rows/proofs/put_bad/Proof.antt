@@ -1,5 +1,13 @@
+-- The number, then the fixed bytes.
 use native.Mathlib.Omega.{arith}
 use borrow.Author.Needs.{needs}
+use mathlib.Core.Path.{_≡_, refl, sym, ap, _∙_}
+use Prim.Native.Nat.{ℕ, suc, _+_, _-_, _*_, _/_, _≤_, _<_}
+use mathlib.Core.List.{List, [], _∷_, _++_, append-assoc, append-nil}
+use lib.ListN.{length, drop, getD, length-append, length-drop}
+use Rattle.buffer.specs.Place.{overAt}
+use Rattle.rows.specs.Rows.{field, badRow}
+use Rattle.rows.proofs.RowLaws.{then-put}
 use Rattle.rows.proofs.put_bad.Statement.{statement}
 use Rattle.rows.proofs.put_bad.Tie as tie
 use Rattle.rows.proofs.put_bad.Reads as reads
@@ -25,7 +33,13 @@ same-length c = search needs
 
 -- src/lib.rt:46:1
 returns : tie.Need-returns
-returns c = search needs
+unfolding badRow
+returns c =
+    let x = c .before .before .before .before .before .before .before .before .before .before .args in
+    let f = c .before .before .before .before .before .before .before .put-field in
+    let p = c .before .before .put in
+    let t : List ℕ = 0x21 ∷ 0x20 ∷ 0x30 ∷ 0x20 ∷ 0x30 ∷ 0x0A ∷ [] in
+    ((omega (arith, f .ensures .0 .0, p .ensures .0, length-append (field (x .row) 0x20) t), then-put (x .at) (field (x .row) 0x20) t (x .out .now) _ _ (f .result) (omega arith) (f .ensures .0 .1) (f .ensures .0 .0) (p .ensures .1)), omega (arith, f .ensures .1, p .ensures .0))
 
 pub put-bad-spec : {M : Type 1} → statement M
 put-bad-spec =

@@ -1,0 +1,79 @@
+-- At most one line a byte and one more, so the line list does; the rows of its numbers are the rows of the lines.
+use native.Mathlib.Omega.{arith}
+use borrow.Author.Needs.{needs}
+use mathlib.Core.Path.{_≡_, refl, sym, ap, _∙_}
+use Prim.Native.Nat.{ℕ, suc, _+_, _-_, _*_, _/_, _≤_, _<_}
+use mathlib.Core.List.{List, [], _∷_, _++_, append-assoc, append-nil}
+use lib.ListN.{length, take, drop, getD, length-append, length-drop}
+use Rattle.buffer.specs.Place.{overAt, part}
+use lib.Seq.{length-take-le}
+use Rattle.chars.specs.Leads.{leadTable}
+use Rattle.layout.specs.Wrap.{Line, lineNumbers, wrapLines}
+use Rattle.wrap.specs.WrapBytes.{linesOf}
+use Rattle.wrap.specs.declared.Lines.{Lines}
+use Rattle.buffer.proofs.Laws.{take-over}
+use Rattle.rows.specs.Rows.{numberRows, lineRows}
+use Rattle.rows.proofs.RowLaws.{numbers-two, rows-lines}
+use Rattle.rows.proofs.good_rows.Statement.{statement}
+use Rattle.rows.proofs.good_rows.Tie as tie
+use Rattle.rows.proofs.good_rows.Reads as reads
+use Rattle.rows.proofs.good_rows.Lts as lts
+use Rattle.rows.proofs.put_lines.Reads as put-lines-reads
+use Rattle.wrap.proofs.count_lines.Reads as count-lines-reads
+use Rattle.wrap.proofs.numbers_of.Reads as numbers-of-reads
+use Rattle.wrap.proofs.write_lines.Reads as write-lines-reads
+
+-- src/lib.rt:79:9
+count-lines-requires : tie.Need-count-lines-requires
+unfolding leadTable
+count-lines-requires c κs = search needs
+
+-- src/lib.rt:81:9
+numbers-of-requires : tie.Need-numbers-of-requires
+numbers-of-requires c κs = search needs
+
+-- src/lib.rt:82:5
+write-lines-requires : tie.Need-write-lines-requires
+unfolding leadTable linesOf
+write-lines-requires c κs =
+    let x = c .before .before .before .before .before .before .before .before .args in
+    let f = c .before .before .before .count-lines in
+    (refl, (omega arith, omega (arith, numbers-two (wrapLines (x .width) (x .breaks) (x .d .now)), ap (λ (l : Lines). l .count) (f .ensures .0), f .ensures .1 .1)))
+
+-- src/lib.rt:83:29
+slice-reshare-prefix-put-lines : tie.Need-slice-reshare-prefix-put-lines
+slice-reshare-prefix-put-lines c = search needs
+
+-- src/lib.rt:83:29
+slice-aggregate-put-lines : tie.Need-slice-aggregate-put-lines
+slice-aggregate-put-lines c = ?s
+
+-- src/lib.rt:83:5
+put-lines-requires : tie.Need-put-lines-requires
+put-lines-requires c κs = ?p
+
+-- src/lib.rt:73:1
+same-length : tie.Need-same-length
+same-length c = search needs
+
+-- src/lib.rt:73:1
+same-length-2 : tie.Need-same-length-2
+same-length-2 c = search needs
+
+-- src/lib.rt:73:1
+returns : tie.Need-returns
+returns c = ?r
+
+pub good-rows-spec : {M : Type 1} → statement M
+good-rows-spec =
+    tie.close
+    (tie.spec
+    count-lines-requires
+    numbers-of-requires
+    write-lines-requires
+    slice-reshare-prefix-put-lines
+    slice-aggregate-put-lines
+    put-lines-requires
+    same-length
+    same-length-2
+    returns)

@@ -1,0 +1,165 @@
+use native.Mathlib.Omega.{arith}
+use borrow.Author.Needs.{needs}
+use Rattle.rows.proofs.one_row.Statement.{statement}
+use Rattle.rows.proofs.one_row.Tie as tie
+use Rattle.rows.proofs.one_row.Reads as reads
+use Rattle.rows.proofs.one_row.Lts as lts
+use Rattle.rows.proofs.good_rows.Reads as good-rows-reads
+use Rattle.rows.proofs.put_bad.Reads as put-bad-reads
+use Rattle.sheet.proofs.after_space.Reads as after-space-reads
+use Rattle.sheet.proofs.break_of.Reads as break-of-reads
+use Rattle.sheet.proofs.decimal_in.Reads as decimal-in-reads
+use Rattle.sheet.proofs.first_field.Reads as first-field-reads
+use Rattle.sheet.proofs.is_break.Reads as is-break-reads
+use Rattle.sheet.proofs.is_data.Reads as is-data-reads
+use Rattle.sheet.proofs.unhex.Reads as unhex-reads
+
+-- src/lib.rt:93:9
+put-bad-requires : tie.Need-put-bad-requires
+put-bad-requires c κs = search needs
+
+-- src/lib.rt:93:9
+same-length : tie.Need-same-length
+same-length c = search needs
+
+-- src/lib.rt:93:9
+returns : tie.Need-returns
+returns c = ?
+
+-- src/lib.rt:95:9
+first-field-requires : tie.Need-first-field-requires
+first-field-requires c κs = search needs
+
+-- src/lib.rt:96:9
+decimal-in-requires : tie.Need-decimal-in-requires
+decimal-in-requires c κs = search needs
+
+-- src/lib.rt:98:9
+put-bad-requires-2 : tie.Need-put-bad-requires-2
+put-bad-requires-2 c κs = search needs
+
+-- src/lib.rt:98:9
+same-length-2 : tie.Need-same-length-2
+same-length-2 c = search needs
+
+-- src/lib.rt:98:9
+returns-2 : tie.Need-returns-2
+returns-2 c = ?
+
+-- src/lib.rt:100:9
+after-space-requires : tie.Need-after-space-requires
+after-space-requires c κs = search needs
+
+-- src/lib.rt:101:9
+first-field-requires-2 : tie.Need-first-field-requires-2
+first-field-requires-2 c κs = search needs
+
+-- src/lib.rt:102:9
+is-break-requires : tie.Need-is-break-requires
+is-break-requires c κs = search needs
+
+-- src/lib.rt:103:9
+put-bad-requires-3 : tie.Need-put-bad-requires-3
+put-bad-requires-3 c κs = search needs
+
+-- src/lib.rt:103:9
+same-length-3 : tie.Need-same-length-3
+same-length-3 c = search needs
+
+-- src/lib.rt:103:9
+returns-3 : tie.Need-returns-3
+returns-3 c = ?
+
+-- src/lib.rt:105:9
+after-space-requires-2 : tie.Need-after-space-requires-2
+after-space-requires-2 c κs = search needs
+
+-- src/lib.rt:106:9
+is-data-requires : tie.Need-is-data-requires
+is-data-requires c κs = search needs
+
+-- src/lib.rt:107:9
+put-bad-requires-4 : tie.Need-put-bad-requires-4
+put-bad-requires-4 c κs = search needs
+
+-- src/lib.rt:107:9
+same-length-4 : tie.Need-same-length-4
+same-length-4 c = search needs
+
+-- src/lib.rt:107:9
+returns-4 : tie.Need-returns-4
+returns-4 c = ?
+
+-- src/lib.rt:109:9
+unhex-requires : tie.Need-unhex-requires
+unhex-requires c κs = ?
+
+-- src/lib.rt:110:15
+slice-reshare-prefix-good-rows : tie.Need-slice-reshare-prefix-good-rows
+slice-reshare-prefix-good-rows c = ?
+
+-- src/lib.rt:110:15
+slice-aggregate-good-rows : tie.Need-slice-aggregate-good-rows
+slice-aggregate-good-rows c = ?
+
+-- src/lib.rt:110:27
+cast-good-rows : tie.Need-cast-good-rows
+cast-good-rows c = search needs
+
+-- src/lib.rt:110:41
+break-of-requires : tie.Need-break-of-requires
+break-of-requires c κs = search needs
+
+-- src/lib.rt:110:5
+good-rows-requires : tie.Need-good-rows-requires
+good-rows-requires c κs = ?
+
+-- src/lib.rt:87:1
+same-length-5 : tie.Need-same-length-5
+same-length-5 c = search needs
+
+-- src/lib.rt:87:1
+same-length-6 : tie.Need-same-length-6
+same-length-6 c = search needs
+
+-- src/lib.rt:87:1
+same-length-7 : tie.Need-same-length-7
+same-length-7 c = search needs
+
+-- src/lib.rt:87:1
+returns-5 : tie.Need-returns-5
+returns-5 c = ?
+
+pub one-row-spec : {M : Type 1} → statement M
+one-row-spec =
+    tie.close
+    (tie.spec
+    put-bad-requires
+    same-length
+    returns
+    first-field-requires
+    decimal-in-requires
+    put-bad-requires-2
+    same-length-2
+    returns-2
+    after-space-requires
+    first-field-requires-2
+    is-break-requires
+    put-bad-requires-3
+    same-length-3
+    returns-3
+    after-space-requires-2
+    is-data-requires
+    put-bad-requires-4
+    same-length-4
+    returns-4
+    unhex-requires
+    slice-reshare-prefix-good-rows
+    slice-aggregate-good-rows
+    cast-good-rows
+    break-of-requires
+    good-rows-requires
+    same-length-5
+    same-length-6
+    same-length-7
+    returns-5)
