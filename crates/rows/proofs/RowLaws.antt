@@ -11,10 +11,10 @@ use lib.Seq.{take-length, drop-cons, length-take-le, take-append-seam, drop-appe
 use borrow.Author.Tests.{lt-ltb, le-ltb, ltb-true, ltb-false, le-leb, lt-leb, eq-eqb, ne-eqb, eqb-true, leb-true}
 use Rattle.io.specs.Digits.{glyph, digits}
 use Rattle.buffer.specs.Place.{over, overAt, part}
-use Rattle.buffer.proofs.Laws.{put-over}
+use Rattle.buffer.proofs.Laws.{put-over, take-over}
 use Rattle.recording.specs.Recording.{Bytes}
-use Rattle.layout.specs.Wrap.{Line, lineNumbers}
-use Rattle.sheet.specs.Sheet.{after, upTo, SheetLine, sheetLine, sheetLines, isData, isDash, isPairs, allHex}
+use Rattle.layout.specs.Wrap.{Line, lineNumbers, wrapLines}
+use Rattle.sheet.specs.Sheet.{after, upTo, SheetLine, sheetLine, sheetLines, allDigits, valueFrom, noLeadingZero, smallDigits, isDecimal, decimalOr, isBreak, breakOf, isData, isDash, isPairs, allHex, dataOf, widthField, breakField, dataField, goodLine}
 use Rattle.sheet.proofs.SheetLaws.{rest-next, rest-none, line-next, up-to-take, after-drop}
 use Rattle.rows.specs.Rows.{decimalUpTo, decimal, field, rowText, badRow, lineRows, numberRows, rowsOf, rowsFrom, same}
 
@@ -156,3 +156,71 @@ spelled n k t a b e f g h =
 pub numbers-two : (ls : List Line) → length (lineNumbers ls) ≡ length ls * 2
 numbers-two [] = refl
 numbers-two (l ∷ ls) = omega (arith, numbers-two ls)
+
+-- what a buffer holds at its front, once a result stands there
+pub held : (n : ℕ) (ns old new : List ℕ) → n ≡ length ns → new ≡ over ns old → take n new ≡ ns
+held n ns old new e f = ap (take n) f ∙ ap (λ (j : ℕ). take j (over ns old)) e ∙ take-over ns old
+
+pub same-row : (at : ℕ) (out x y : Bytes) (r : ℕ) (o : Bytes) → x ≡ y → r ≡ at + length x → o ≡ overAt at x out → (r ≡ at + length y) × (o ≡ overAt at y out)
+same-row at out x y r o e f g = (f ∙ ap (λ (l : Bytes). at + length l) e, g ∙ ap (λ (l : Bytes). overAt at l out) e)
+
+-- ── a value line, bad or good
+pub row-open : (r : ℕ) (t : Bytes) (e : Bool) → e ≡ false → badRow r ≡ rowsOf r (sheetLine t e)
+unfolding rowsOf
+row-open r t e h = simp h
+
+pub row-bad : (r : ℕ) (t : Bytes) (e : Bool) → e ≡ true → goodLine t ≡ false → badRow r ≡ rowsOf r (sheetLine t e)
+unfolding rowsOf
+row-bad r t e h g = simp (h, g)
+
+pub row-good : (r : ℕ) (t : Bytes) (e : Bool) → e ≡ true → goodLine t ≡ true
+    → lineRows r 0 (wrapLines (valueFrom 0 (widthField t)) (breakOf (breakField t)) (dataOf (dataField t))) ≡ rowsOf r (sheetLine t e)
+unfolding rowsOf
+row-good r t e h g = simp (h, g)
+
+-- a width is none exactly if it is no decimal
+decimal-by : (s : Bytes) (t : Bool) → isDecimal s ≡ t → (decimalOr s ≡ 4294967296 → t ≡ false) × ((decimalOr s ≡ 4294967296 → ⊥) → (t ≡ true) × (decimalOr s ≡ valueFrom 0 s))
+unfolding decimalOr isDecimal
+decimal-by s true e =
+    let p = both (noLeadingZero s) (smallDigits s) e in
+    let q = both (allDigits s) (leb (valueFrom 0 s) 4294967295) (p .1) in
+    let m = leb-true (valueFrom 0 s) 4294967295 (q .1) in
+    let v : decimalOr s ≡ valueFrom 0 s = simp e in
+    (λ z. absurd (omega (arith, m, v, z)), λ z. (refl, v))
+decimal-by s false e = (λ z. refl, λ z. absurd (z (simp e)))
+
+pub width-none : (s : Bytes) → decimalOr s ≡ 4294967296 → isDecimal s ≡ false
+width-none s z = decimal-by s (isDecimal s) refl .0 z
+
+pub width-some : (s : Bytes) → (decimalOr s ≡ 4294967296 → ⊥) → (isDecimal s ≡ true) × (decimalOr s ≡ valueFrom 0 s)
+width-some s z = decimal-by s (isDecimal s) refl .1 z
+
+pub bad-width : (t : Bytes) → isDecimal (upTo 0x20 t) ≡ false → goodLine t ≡ false
+unfolding goodLine widthField
+bad-width t h = simp h
+
+pub bad-break : (t : Bytes) → isDecimal (upTo 0x20 t) ≡ true → isBreak (upTo 0x20 (after 0x20 t)) ≡ false → goodLine t ≡ false
+unfolding goodLine widthField breakField
+bad-break t h k = simp (h, k)
+
+pub bad-data : (t : Bytes) → isDecimal (upTo 0x20 t) ≡ true → isBreak (upTo 0x20 (after 0x20 t)) ≡ true → isData (after 0x20 (after 0x20 t)) ≡ false → goodLine t ≡ false
+unfolding goodLine widthField breakField dataField
+bad-data t h k j = simp (h, k, j)
+
+pub all-good : (t : Bytes) → isDecimal (upTo 0x20 t) ≡ true → isBreak (upTo 0x20 (after 0x20 t)) ≡ true → isData (after 0x20 (after 0x20 t)) ≡ true → goodLine t ≡ true
+unfolding goodLine widthField breakField dataField
+all-good t h k j = simp (h, k, j)
+
+-- the rows of a good line, from what its fields were read as
+pub good-fields : (r : ℕ) (t : Bytes) (e : Bool) (w : ℕ) (b : Bool) (d : Bytes) → e ≡ true → goodLine t ≡ true → w ≡ valueFrom 0 (upTo 0x20 t) → b ≡ breakOf (upTo 0x20 (after 0x20 t))
+    → d ≡ dataOf (after 0x20 (after 0x20 t)) → lineRows r 0 (wrapLines w b d) ≡ rowsOf r (sheetLine t e)
+unfolding widthField breakField dataField
+good-fields r t e w b d h g p q u = (λ i. lineRows r 0 (wrapLines (p i) (q i) (u i))) ∙ row-good r t e h g
+
+-- a good line is longer than its third field by two at least
+pub third-shorter : (t : Bytes) → isData (after 0x20 (after 0x20 t)) ≡ true → (length (after 0x20 (after 0x20 t)) ≤ 8000) × (length (after 0x20 (after 0x20 t)) + 2 ≤ length t)
+third-shorter t h =
+    let d = data-size (after 0x20 (after 0x20 t)) h in
+    let a = after-shorter 0x20 (after 0x20 t) (omega (arith, d .0)) in
+    let b = after-shorter 0x20 t (omega (arith, a)) in
+    (d .1, omega (arith, a, b))

@@ -13,7 +13,7 @@ use Rattle.wrap.specs.WrapBytes.{linesOf}
 use Rattle.wrap.specs.declared.Lines.{Lines}
 use Rattle.buffer.proofs.Laws.{take-over}
 use Rattle.rows.specs.Rows.{numberRows, lineRows}
-use Rattle.rows.proofs.RowLaws.{numbers-two, rows-lines}
+use Rattle.rows.proofs.RowLaws.{numbers-two, rows-lines, held, same-row}
 use Rattle.rows.proofs.good_rows.Statement.{statement}
 use Rattle.rows.proofs.good_rows.Tie as tie
 use Rattle.rows.proofs.good_rows.Reads as reads
@@ -46,11 +46,29 @@ slice-reshare-prefix-put-lines c = search needs
 
 -- src/lib.rt:83:29
 slice-aggregate-put-lines : tie.Need-slice-aggregate-put-lines
-slice-aggregate-put-lines c = ?s
+unfolding linesOf
+slice-aggregate-put-lines c =
+    let x = c .before .before .before .before .before .before .before .before .before .before .before .before .before .args in
+    let ls = wrapLines (x .width) (x .breaks) (x .d .now) in
+    let f = c .before .before .before .before .before .before .before .before .count-lines in
+    let n = c .before .before .before .before .before .before .before .numbers-of in
+    let w = c .before .before .before .before .write-lines in
+    let e : n .result ≡ length (lineNumbers ls) = omega (arith, numbers-two ls, ap (λ (l : Lines). l .count) (f .ensures .0), n .ensures) in
+    let h = held (n .result) (lineNumbers ls) (x .lines .now) _ e (w .ensures) in
+    e ∙ ap length (sym h)
 
 -- src/lib.rt:83:5
 put-lines-requires : tie.Need-put-lines-requires
-put-lines-requires c κs = ?p
+unfolding linesOf
+put-lines-requires c κs =
+    let x = c .before .before .before .before .before .before .before .before .before .before .before .before .before .args in
+    let ls = wrapLines (x .width) (x .breaks) (x .d .now) in
+    let f = c .before .before .before .before .before .before .before .before .count-lines in
+    let n = c .before .before .before .before .before .before .before .numbers-of in
+    let w = c .before .before .before .before .write-lines in
+    let e : n .result ≡ length (lineNumbers ls) = omega (arith, numbers-two ls, ap (λ (l : Lines). l .count) (f .ensures .0), n .ensures) in
+    let h = held (n .result) (lineNumbers ls) (x .lines .now) _ e (w .ensures) in
+    (omega (arith, ap length h, e, n .ensures, f .ensures .1 .1), omega (arith, ap length h, e, n .ensures, f .ensures .1 .1))
 
 -- src/lib.rt:73:1
 same-length : tie.Need-same-length
@@ -62,7 +80,18 @@ same-length-2 c = search needs
 
 -- src/lib.rt:73:1
 returns : tie.Need-returns
-returns c = ?r
+unfolding linesOf
+returns c =
+    let x = c .before .before .before .before .before .before .before .before .before .before .before .before .before .before .before .before .args in
+    let ls = wrapLines (x .width) (x .breaks) (x .d .now) in
+    let f = c .before .before .before .before .before .before .before .before .before .before .before .count-lines in
+    let n = c .before .before .before .before .before .before .before .before .before .before .numbers-of in
+    let w = c .before .before .before .before .before .before .before .write-lines in
+    let e : n .result ≡ length (lineNumbers ls) = omega (arith, numbers-two ls, ap (λ (l : Lines). l .count) (f .ensures .0), n .ensures) in
+    let h = held (n .result) (lineNumbers ls) (x .lines .now) _ e (w .ensures) in
+    let p = c .before .before .put-lines in
+    let r = ap (numberRows (x .row) 0) h ∙ rows-lines (x .row) 0 ls in
+    (same-row (x .at) (x .out .now) _ _ (p .result) _ r (p .ensures .0 .0) (p .ensures .0 .1), omega (arith, p .ensures .1, ap length h, e, n .ensures, f .ensures .1 .1))
 
 pub good-rows-spec : {M : Type 1} → statement M
 good-rows-spec =

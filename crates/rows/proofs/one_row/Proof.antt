@@ -1,5 +1,14 @@
+-- Each test that fails gives the bad row; the fields that pass all of them are the definition's.
 use native.Mathlib.Omega.{arith}
 use borrow.Author.Needs.{needs}
+use mathlib.Core.Path.{_≡_, refl, sym, ap, _∙_}
+use Prim.Native.Nat.{ℕ, suc, _+_, _-_, _*_, _/_, _≤_, _<_}
+use mathlib.Core.List.{List, [], _∷_, _++_, append-assoc, append-nil}
+use lib.ListN.{length, take, drop, getD, length-append, length-drop}
+use Rattle.buffer.specs.Place.{over, overAt, part}
+use Rattle.sheet.specs.Sheet.{upTo, after, SheetLine, sheetLine, valueFrom, isDecimal, decimalOr, isBreak, breakOf, isData, dataOf, goodLine}
+use borrow.Author.Tests.{not-true, not-false}
+use Rattle.rows.proofs.RowLaws.{held, same-row, row-open, row-bad, width-none, width-some, bad-width, bad-break, bad-data, all-good, good-fields, third-shorter}
 use Rattle.rows.proofs.one_row.Statement.{statement}
 use Rattle.rows.proofs.one_row.Tie as tie
 use Rattle.rows.proofs.one_row.Reads as reads
@@ -24,7 +33,10 @@ same-length c = search needs
 
 -- src/lib.rt:93:9
 returns : tie.Need-returns
-returns c = ?
+returns c =
+    let x = c .before .before .before .before .before .before .before .before .before .args in
+    let p = c .before .before .put-bad in
+    (same-row (x .at) (x .out .now) _ _ (p .result) _ (row-open (x .row) (x .text .now) (x .ended) (not-true (x .ended) (c .before .before .before .before .if1 .taken))) (p .ensures .0 .0) (p .ensures .0 .1), omega (arith, p .ensures .1))
 
 -- src/lib.rt:95:9
 first-field-requires : tie.Need-first-field-requires
@@ -44,7 +56,10 @@ same-length-2 c = search needs
 
 -- src/lib.rt:98:9
 returns-2 : tie.Need-returns-2
-returns-2 c = ?
+returns-2 c =
+    let x = c .before .before .before .before .before .before .before .before .before .before .before .before .args in
+    let p = c .before .before .put-bad2 in
+    (same-row (x .at) (x .out .now) _ _ (p .result) _ (row-bad (x .row) (x .text .now) (x .ended) (not-false (x .ended) (c .before .before .before .before .before .before .before .if1 .left)) (bad-width (x .text .now) (width-none (upTo 0x20 (x .text .now)) (sym (rw (c .before .before .before .before .before .before .first-field .ensures) at (c .before .before .before .before .before .decimal-in .ensures .0)) ∙ c .before .before .before .before .if2 .taken)))) (p .ensures .0 .0) (p .ensures .0 .1), omega (arith, p .ensures .1))
 
 -- src/lib.rt:100:9
 after-space-requires : tie.Need-after-space-requires
@@ -68,7 +83,7 @@ same-length-3 c = search needs
 
 -- src/lib.rt:103:9
 returns-3 : tie.Need-returns-3
-returns-3 c = ?
+returns-3 c = ?r3
 
 -- src/lib.rt:105:9
 after-space-requires-2 : tie.Need-after-space-requires-2
@@ -88,19 +103,19 @@ same-length-4 c = search needs
 
 -- src/lib.rt:107:9
 returns-4 : tie.Need-returns-4
-returns-4 c = ?
+returns-4 c = ?r4
 
 -- src/lib.rt:109:9
 unhex-requires : tie.Need-unhex-requires
-unhex-requires c κs = ?
+unhex-requires c κs = ?u
 
 -- src/lib.rt:110:15
 slice-reshare-prefix-good-rows : tie.Need-slice-reshare-prefix-good-rows
-slice-reshare-prefix-good-rows c = ?
+slice-reshare-prefix-good-rows c = ?a
 
 -- src/lib.rt:110:15
 slice-aggregate-good-rows : tie.Need-slice-aggregate-good-rows
-slice-aggregate-good-rows c = ?
+slice-aggregate-good-rows c = ?b
 
 -- src/lib.rt:110:27
 cast-good-rows : tie.Need-cast-good-rows
@@ -112,7 +127,7 @@ break-of-requires c κs = search needs
 
 -- src/lib.rt:110:5
 good-rows-requires : tie.Need-good-rows-requires
-good-rows-requires c κs = ?
+good-rows-requires c κs = ?g
 
 -- src/lib.rt:87:1
 same-length-5 : tie.Need-same-length-5
@@ -128,7 +143,7 @@ same-length-7 c = search needs
 
 -- src/lib.rt:87:1
 returns-5 : tie.Need-returns-5
-returns-5 c = ?
+returns-5 c = ?r5
 
 pub one-row-spec : {M : Type 1} → statement M
 one-row-spec =
