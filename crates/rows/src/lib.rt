@@ -154,7 +154,7 @@ pub fn write_output(sheet: &[u8], out: &mut [u8]) -> usize
     if e == sheet.len() {
         return put_bad(out, n, 0);
     }
-    if !check::same(&sheet[..e], b"width break bytes") {
+    if !check::same(&sheet[0..e], b"width break bytes") {
         return put_bad(out, n, 0);
     }
     let mut data = data_buffer();

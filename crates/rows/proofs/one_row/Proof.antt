@@ -83,7 +83,17 @@ same-length-3 c = search needs
 
 -- src/lib.rt:103:9
 returns-3 : tie.Need-returns-3
-returns-3 c = ?r3
+returns-3 c =
+    let x = c .before .before .before .before .before .before .before .before .before .before .before .before .before .before .before .before .args in
+    let t = x .text .now in
+    let ended = not-false (x .ended) (c .before .before .before .before .before .before .before .before .before .before .before .if1 .left) in
+    let D = rw (c .before .before .before .before .before .before .before .before .before .before .first-field .ensures) at (c .before .before .before .before .before .before .before .before .before .decimal-in .ensures .0) in
+    let w = width-some (upTo 0x20 t) (λ z. c .before .before .before .before .before .before .before .before .if2 .left (D ∙ z)) in
+    let A = c .before .before .before .before .before .before .before .after-space .ensures in
+    let F = c .before .before .before .before .before .before .first-field2 .ensures ∙ ap (upTo 0x20) A in
+    let K = c .before .before .before .before .before .is-break .ensures ∙ ap isBreak F in
+    let p = c .before .before .put-bad3 in
+    (same-row (x .at) (x .out .now) _ _ (p .result) _ (row-bad (x .row) t (x .ended) ended (bad-break t (w .0) (sym K ∙ not-true (c .before .before .before .before .before .is-break .result) (c .before .before .before .before .if3 .taken)))) (p .ensures .0 .0) (p .ensures .0 .1), omega (arith, p .ensures .1))
 
 -- src/lib.rt:105:9
 after-space-requires-2 : tie.Need-after-space-requires-2
@@ -103,19 +113,76 @@ same-length-4 c = search needs
 
 -- src/lib.rt:107:9
 returns-4 : tie.Need-returns-4
-returns-4 c = ?r4
+returns-4 c =
+    let x = c .before .before .before .before .before .before .before .before .before .before .before .before .before .before .before .before .before .before .before .args in
+    let t = x .text .now in
+    let ended = not-false (x .ended) (c .before .before .before .before .before .before .before .before .before .before .before .before .before .before .if1 .left) in
+    let D = rw (c .before .before .before .before .before .before .before .before .before .before .before .before .before .first-field .ensures) at (c .before .before .before .before .before .before .before .before .before .before .before .before .decimal-in .ensures .0) in
+    let w = width-some (upTo 0x20 t) (λ z. c .before .before .before .before .before .before .before .before .before .before .before .if2 .left (D ∙ z)) in
+    let A = c .before .before .before .before .before .before .before .before .before .before .after-space .ensures in
+    let F = c .before .before .before .before .before .before .before .before .before .first-field2 .ensures ∙ ap (upTo 0x20) A in
+    let K = c .before .before .before .before .before .before .before .before .is-break .ensures ∙ ap isBreak F in
+    let k = sym K ∙ not-false (c .before .before .before .before .before .before .before .before .is-break .result) (c .before .before .before .before .before .before .before .if3 .left) in
+    let H = c .before .before .before .before .before .before .after-space2 .ensures ∙ ap (after 0x20) A in
+    let J = c .before .before .before .before .before .is-data .ensures ∙ ap isData H in
+    let p = c .before .before .put-bad4 in
+    (same-row (x .at) (x .out .now) _ _ (p .result) _ (row-bad (x .row) t (x .ended) ended (bad-data t (w .0) k (sym J ∙ not-true (c .before .before .before .before .before .is-data .result) (c .before .before .before .before .if4 .taken)))) (p .ensures .0 .0) (p .ensures .0 .1), omega (arith, p .ensures .1))
 
 -- src/lib.rt:109:9
 unhex-requires : tie.Need-unhex-requires
-unhex-requires c κs = ?u
+unhex-requires c κs =
+    let x = c .before .before .before .before .before .before .before .before .before .before .before .before .before .before .before .before .args in
+    let t = x .text .now in
+    let ended = not-false (x .ended) (c .before .before .before .before .before .before .before .before .before .before .before .if1 .left) in
+    let D = rw (c .before .before .before .before .before .before .before .before .before .before .first-field .ensures) at (c .before .before .before .before .before .before .before .before .before .decimal-in .ensures .0) in
+    let w = width-some (upTo 0x20 t) (λ z. c .before .before .before .before .before .before .before .before .if2 .left (D ∙ z)) in
+    let A = c .before .before .before .before .before .before .before .after-space .ensures in
+    let F = c .before .before .before .before .before .before .first-field2 .ensures ∙ ap (upTo 0x20) A in
+    let K = c .before .before .before .before .before .is-break .ensures ∙ ap isBreak F in
+    let k = sym K ∙ not-false (c .before .before .before .before .before .is-break .result) (c .before .before .before .before .if3 .left) in
+    let H = c .before .before .before .after-space2 .ensures ∙ ap (after 0x20) A in
+    let J = c .before .before .is-data .ensures ∙ ap isData H in
+    let j = sym J ∙ not-false (c .before .before .is-data .result) (c .before .if4 .left) in
+    let third = third-shorter t j in
+    omega (arith, ap length H, third .0)
 
 -- src/lib.rt:110:15
 slice-reshare-prefix-good-rows : tie.Need-slice-reshare-prefix-good-rows
-slice-reshare-prefix-good-rows c = ?a
+slice-reshare-prefix-good-rows c =
+    let x = c .before .before .before .before .before .before .before .before .before .before .before .before .before .before .before .before .before .before .before .args in
+    let t = x .text .now in
+    let ended = not-false (x .ended) (c .before .before .before .before .before .before .before .before .before .before .before .before .before .before .if1 .left) in
+    let D = rw (c .before .before .before .before .before .before .before .before .before .before .before .before .before .first-field .ensures) at (c .before .before .before .before .before .before .before .before .before .before .before .before .decimal-in .ensures .0) in
+    let w = width-some (upTo 0x20 t) (λ z. c .before .before .before .before .before .before .before .before .before .before .before .if2 .left (D ∙ z)) in
+    let A = c .before .before .before .before .before .before .before .before .before .before .after-space .ensures in
+    let F = c .before .before .before .before .before .before .before .before .before .first-field2 .ensures ∙ ap (upTo 0x20) A in
+    let K = c .before .before .before .before .before .before .before .before .is-break .ensures ∙ ap isBreak F in
+    let k = sym K ∙ not-false (c .before .before .before .before .before .before .before .before .is-break .result) (c .before .before .before .before .before .before .before .if3 .left) in
+    let H = c .before .before .before .before .before .before .after-space2 .ensures ∙ ap (after 0x20) A in
+    let J = c .before .before .before .before .before .is-data .ensures ∙ ap isData H in
+    let j = sym J ∙ not-false (c .before .before .before .before .before .is-data .result) (c .before .before .before .before .if4 .left) in
+    let third = third-shorter t j in
+    omega (arith, ap length H, third .0, c .before .before .unhex .ensures .0 .1, c .before .before .unhex .kept .1 .0)
 
 -- src/lib.rt:110:15
 slice-aggregate-good-rows : tie.Need-slice-aggregate-good-rows
-slice-aggregate-good-rows c = ?b
+slice-aggregate-good-rows c =
+    let x = c .before .before .before .before .before .before .before .before .before .before .before .before .before .before .before .before .before .before .before .before .args in
+    let t = x .text .now in
+    let ended = not-false (x .ended) (c .before .before .before .before .before .before .before .before .before .before .before .before .before .before .before .if1 .left) in
+    let D = rw (c .before .before .before .before .before .before .before .before .before .before .before .before .before .before .first-field .ensures) at (c .before .before .before .before .before .before .before .before .before .before .before .before .before .decimal-in .ensures .0) in
+    let w = width-some (upTo 0x20 t) (λ z. c .before .before .before .before .before .before .before .before .before .before .before .before .if2 .left (D ∙ z)) in
+    let A = c .before .before .before .before .before .before .before .before .before .before .before .after-space .ensures in
+    let F = c .before .before .before .before .before .before .before .before .before .before .first-field2 .ensures ∙ ap (upTo 0x20) A in
+    let K = c .before .before .before .before .before .before .before .before .before .is-break .ensures ∙ ap isBreak F in
+    let k = sym K ∙ not-false (c .before .before .before .before .before .before .before .before .before .is-break .result) (c .before .before .before .before .before .before .before .before .if3 .left) in
+    let H = c .before .before .before .before .before .before .before .after-space2 .ensures ∙ ap (after 0x20) A in
+    let J = c .before .before .before .before .before .before .is-data .ensures ∙ ap isData H in
+    let j = sym J ∙ not-false (c .before .before .before .before .before .before .is-data .result) (c .before .before .before .before .before .if4 .left) in
+    let third = third-shorter t j in
+    let u = c .before .before .before .unhex in
+    let h = held (u .result) (dataOf (c .before .before .before .before .before .before .before .after-space2 .result .now)) (x .«data» .now) _ (u .ensures .0 .0) (u .ensures .1) in
+    u .ensures .0 .0 ∙ ap length (sym h)
 
 -- src/lib.rt:110:27
 cast-good-rows : tie.Need-cast-good-rows
@@ -127,7 +194,23 @@ break-of-requires c κs = search needs
 
 -- src/lib.rt:110:5
 good-rows-requires : tie.Need-good-rows-requires
-good-rows-requires c κs = ?g
+good-rows-requires c κs =
+    let x = c .before .before .before .before .before .before .before .before .before .before .before .before .before .before .before .before .before .before .before .before .before .before .before .args in
+    let t = x .text .now in
+    let ended = not-false (x .ended) (c .before .before .before .before .before .before .before .before .before .before .before .before .before .before .before .before .before .before .if1 .left) in
+    let D = rw (c .before .before .before .before .before .before .before .before .before .before .before .before .before .before .before .before .before .first-field .ensures) at (c .before .before .before .before .before .before .before .before .before .before .before .before .before .before .before .before .decimal-in .ensures .0) in
+    let w = width-some (upTo 0x20 t) (λ z. c .before .before .before .before .before .before .before .before .before .before .before .before .before .before .before .if2 .left (D ∙ z)) in
+    let A = c .before .before .before .before .before .before .before .before .before .before .before .before .before .before .after-space .ensures in
+    let F = c .before .before .before .before .before .before .before .before .before .before .before .before .before .first-field2 .ensures ∙ ap (upTo 0x20) A in
+    let K = c .before .before .before .before .before .before .before .before .before .before .before .before .is-break .ensures ∙ ap isBreak F in
+    let k = sym K ∙ not-false (c .before .before .before .before .before .before .before .before .before .before .before .before .is-break .result) (c .before .before .before .before .before .before .before .before .before .before .before .if3 .left) in
+    let H = c .before .before .before .before .before .before .before .before .before .before .after-space2 .ensures ∙ ap (after 0x20) A in
+    let J = c .before .before .before .before .before .before .before .before .before .is-data .ensures ∙ ap isData H in
+    let j = sym J ∙ not-false (c .before .before .before .before .before .before .before .before .before .is-data .result) (c .before .before .before .before .before .before .before .before .if4 .left) in
+    let third = third-shorter t j in
+    let u = c .before .before .before .before .before .before .unhex in
+    let h = held (u .result) (dataOf (c .before .before .before .before .before .before .before .before .before .before .after-space2 .result .now)) (x .«data» .now) _ (u .ensures .0 .0) (u .ensures .1) in
+    (omega (arith, ap length h, u .ensures .0 .0, u .ensures .0 .1, ap length H, third .0), omega arith, omega (arith, ap length h, u .ensures .0 .0, u .ensures .0 .1, ap length H, third .1))
 
 -- src/lib.rt:87:1
 same-length-5 : tie.Need-same-length-5
@@ -143,7 +226,26 @@ same-length-7 c = search needs
 
 -- src/lib.rt:87:1
 returns-5 : tie.Need-returns-5
-returns-5 c = ?r5
+returns-5 c =
+    let x = c .before .before .before .before .before .before .before .before .before .before .before .before .before .before .before .before .before .before .before .before .before .before .before .before .before .before .before .before .args in
+    let t = x .text .now in
+    let ended = not-false (x .ended) (c .before .before .before .before .before .before .before .before .before .before .before .before .before .before .before .before .before .before .before .before .before .before .before .if1 .left) in
+    let D = rw (c .before .before .before .before .before .before .before .before .before .before .before .before .before .before .before .before .before .before .before .before .before .before .first-field .ensures) at (c .before .before .before .before .before .before .before .before .before .before .before .before .before .before .before .before .before .before .before .before .before .decimal-in .ensures .0) in
+    let w = width-some (upTo 0x20 t) (λ z. c .before .before .before .before .before .before .before .before .before .before .before .before .before .before .before .before .before .before .before .before .if2 .left (D ∙ z)) in
+    let A = c .before .before .before .before .before .before .before .before .before .before .before .before .before .before .before .before .before .before .before .after-space .ensures in
+    let F = c .before .before .before .before .before .before .before .before .before .before .before .before .before .before .before .before .before .before .first-field2 .ensures ∙ ap (upTo 0x20) A in
+    let K = c .before .before .before .before .before .before .before .before .before .before .before .before .before .before .before .before .before .is-break .ensures ∙ ap isBreak F in
+    let k = sym K ∙ not-false (c .before .before .before .before .before .before .before .before .before .before .before .before .before .before .before .before .before .is-break .result) (c .before .before .before .before .before .before .before .before .before .before .before .before .before .before .before .before .if3 .left) in
+    let H = c .before .before .before .before .before .before .before .before .before .before .before .before .before .before .before .after-space2 .ensures ∙ ap (after 0x20) A in
+    let J = c .before .before .before .before .before .before .before .before .before .before .before .before .before .before .is-data .ensures ∙ ap isData H in
+    let j = sym J ∙ not-false (c .before .before .before .before .before .before .before .before .before .before .before .before .before .before .is-data .result) (c .before .before .before .before .before .before .before .before .before .before .before .before .before .if4 .left) in
+    let third = third-shorter t j in
+    let u = c .before .before .before .before .before .before .before .before .before .before .before .unhex in
+    let h = held (u .result) (dataOf (c .before .before .before .before .before .before .before .before .before .before .before .before .before .before .before .after-space2 .result .now)) (x .«data» .now) _ (u .ensures .0 .0) (u .ensures .1) in
+    let g = c .before .before .before .before .good-rows in
+    let b = c .before .before .before .before .before .before .before .break-of .ensures ∙ ap breakOf F in
+    let e = good-fields (x .row) t (x .ended) (c .before .before .before .before .before .before .before .before .before .before .before .before .before .before .before .before .before .before .before .before .before .decimal-in .result) (c .before .before .before .before .before .before .before .break-of .result) _ ended (all-good t (w .0) k j) (D ∙ w .1) b (h ∙ ap dataOf H) in
+    (same-row (x .at) (x .out .now) _ _ (g .result) _ e (g .ensures .0 .0) (g .ensures .0 .1), omega (arith, g .ensures .1, ap length h, u .ensures .0 .0, u .ensures .0 .1, ap length H, third .1))
 
 pub one-row-spec : {M : Type 1} → statement M
 one-row-spec =
