@@ -18,7 +18,7 @@ use Rattle.sheet.specs.Sheet.{after, upTo, SheetLine, sheetLine, sheetLines, al
 use Rattle.sheet.proofs.SheetLaws.{rest-next, rest-none, line-next, up-to-take, after-drop}
 use Rattle.rows.specs.Rows.{decimalUpTo, decimal, field, rowText, badRow, lineRows, numberRows, rowsOf, rowsFrom, same}
 
-false-true : false ≡ true → ⊥
+pub false-true : false ≡ true → ⊥
 false-true e = subst (λ (b : Bool). cond b ⊥ (Unit {0})) e tt
 
 -- ── decimals
@@ -120,7 +120,7 @@ after-shorter c (b ∷ s) h = go (eqb b c) (after-shorter c s) h
     go true f h = omega arith
     go false f h = omega (arith, f h)
 
-both : (a b : Bool) → (a && b) ≡ true → (a ≡ true) × (b ≡ true)
+pub both : (a b : Bool) → (a && b) ≡ true → (a ≡ true) × (b ≡ true)
 both true true e = (refl, refl)
 both true false e = (refl, e)
 both false b e = (e, absurd (false-true e))

@@ -144,7 +144,7 @@ fn line_list() -> [u32; 8002]
 pub fn write_output(sheet: &[u8], out: &mut [u8]) -> usize
     requires { ⌜ 1441833 ≤ length (now out) ⌝ }
     ensures { λ r. ⌜ (r ≡ length (output (now (sheet .entry)))) × (now (out .exit) ≡ over (output (now (sheet .entry))) (now (out .entry))) ⌝ }
-    ensures { λ r. ⌜ r ≤ length (now (out .exit)) ⌝ }
+    ensures { λ r. ⌜ (r ≤ length (now (out .exit))) × (r ≡ length (take r (now (out .exit)))) ⌝ }
 {
     let n = buffer::put(out, 0, b"row line start end\n", 0, 19);
     if 65536 < sheet.len() {

@@ -1,5 +1,15 @@
+-- Each way puts the heading and what the laws of the output say comes after it.
 use native.Mathlib.Omega.{arith}
 use borrow.Author.Needs.{needs}
+use mathlib.Core.Path.{_≡_, refl, sym, ap, _∙_}
+use Prim.Native.Nat.{ℕ, suc, _+_, _-_, _*_, _/_, _≤_, _<_}
+use mathlib.Core.List.{List}
+use lib.ListN.{length, drop}
+use borrow.Author.Tests.{not-true, not-false}
+use Rattle.sheet.specs.Sheet.{sheetLines}
+use Rattle.rows.specs.Rows.{badRow, rowsFrom, sheetHeading, rowsHeading}
+use Rattle.rows.proofs.RowLaws.{false-true}
+use Rattle.rows.proofs.OutputLaws.{too-long, no-line, no-heading, with-heading, finished}
 use Rattle.rows.proofs.write_output.Statement.{statement}
 use Rattle.rows.proofs.write_output.Tie as tie
 use Rattle.rows.proofs.write_output.Reads as reads
@@ -30,7 +40,13 @@ same-length c = search needs
 
 -- src/lib.rt:151:9
 returns : tie.Need-returns
-returns c = ?
+unfolding rowsHeading
+returns c =
+    let x = c .before .before .before .before .before .before .before .before .before .before .before .before .args in
+    let s = x .sheet .now in
+    let h = c .before .before .before .before .before .before .before .put in
+    let p = c .before .before .put-bad in
+    finished s (x .out .now) _ _ (badRow 0) (h .result) (p .result) (too-long s (c .before .before .before .before .if1 .taken)) (h .ensures .0) (h .ensures .1) (p .ensures .0 .0) (p .ensures .0 .1)
 
 -- src/lib.rt:153:9
 find-requires : tie.Need-find-requires
@@ -46,7 +62,13 @@ same-length-2 c = search needs
 
 -- src/lib.rt:155:9
 returns-2 : tie.Need-returns-2
-returns-2 c = ?
+unfolding rowsHeading
+returns-2 c =
+    let x = c .before .before .before .before .before .before .before .before .before .before .before .before .before .before .args in
+    let s = x .sheet .now in
+    let h = c .before .before .before .before .before .before .before .before .before .put in
+    let p = c .before .before .put-bad2 in
+    finished s (x .out .now) _ _ (badRow 0) (h .result) (p .result) (no-line s (c .before .before .before .before .before .find .result) (c .before .before .before .before .before .before .if1 .left) (c .before .before .before .before .before .find .ensures .0) (c .before .before .before .before .if2 .taken)) (h .ensures .0) (h .ensures .1) (p .ensures .0 .0) (p .ensures .0 .1)
 
 -- src/lib.rt:157:21
 sub-same : tie.Need-sub-same
@@ -78,7 +100,15 @@ same-length-3 c = search needs
 
 -- src/lib.rt:158:9
 returns-3 : tie.Need-returns-3
-returns-3 c = ?
+unfolding rowsHeading sheetHeading
+returns-3 c =
+    let x = c .before .before .before .before .before .before .before .before .before .before .before .before .before .before .before .before .before .before .args in
+    let s = x .sheet .now in
+    let h = c .before .before .before .before .before .before .before .before .before .before .before .before .before .put in
+    let p = c .before .before .put-bad3 in
+    let f = c .before .before .before .before .before .before .before .before .before .find in
+    let more : f .result < length s = omega (arith, f .ensures .1 .1, c .before .before .before .before .before .before .before .before .if2 .left) in
+    finished s (x .out .now) _ _ (badRow 0) (h .result) (p .result) (no-heading s (f .result) (c .before .before .before .before .before .before .before .before .before .before .if1 .left) (f .ensures .0) more (λ q. false-true (sym (not-true (c .before .before .before .before .before .same .result) (c .before .before .before .before .if3 .taken)) ∙ c .before .before .before .before .before .same .ensures .1 q))) (h .ensures .0) (h .ensures .1) (p .ensures .0 .0) (p .ensures .0 .1)
 
 -- src/lib.rt:160:20
 data-buffer-requires : tie.Need-data-buffer-requires
@@ -110,7 +140,15 @@ same-length-4 c = search needs
 
 -- src/lib.rt:144:1
 returns-4 : tie.Need-returns-4
-returns-4 c = ?
+unfolding rowsHeading sheetHeading
+returns-4 c =
+    let x = c .before .before .before .before .before .before .before .before .before .before .before .before .before .before .before .before .before .before .before .before .before .before .before .before .args in
+    let s = x .sheet .now in
+    let h = c .before .before .before .before .before .before .before .before .before .before .before .before .before .before .before .before .before .before .before .put in
+    let p = c .before .before .before .before .put-rows in
+    let f = c .before .before .before .before .before .before .before .before .before .before .before .before .before .before .before .find in
+    let more : f .result < length s = omega (arith, f .ensures .1 .1, c .before .before .before .before .before .before .before .before .before .before .before .before .before .before .if2 .left) in
+    finished s (x .out .now) _ _ (rowsFrom 0 (sheetLines (drop (f .result + 1) s))) (h .result) (p .result) (with-heading s (f .result) (c .before .before .before .before .before .before .before .before .before .before .before .before .before .before .before .before .if1 .left) (f .ensures .0) more (c .before .before .before .before .before .before .before .before .before .before .before .same .ensures .0 (not-false (c .before .before .before .before .before .before .before .before .before .before .before .same .result) (c .before .before .before .before .before .before .before .before .before .before .if3 .left)))) (h .ensures .0) (h .ensures .1) (p .ensures .0) (p .ensures .1)
 
 pub write-output-spec : {M : Type 1} → statement M
 write-output-spec =
