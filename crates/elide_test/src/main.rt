@@ -39,7 +39,12 @@ fn three(refusal: u64, len: u64, width: u64) {
 fn answer(a: Answer) {
     match a {
         Answer::Refused(f) => three(number_of(f), 0, 0),
-        Answer::Done { data, entries, text, number } => three(0, data as u64, number),
+        Answer::Done {
+            data,
+            entries,
+            text,
+            number,
+        } => three(0, data as u64, number),
     }
 }
 

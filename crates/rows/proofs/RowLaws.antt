@@ -2,21 +2,21 @@
 use Prim.Native.Nat.{ℕ, zero, suc, _+_, _-_, _*_, _/_, _%_, _^_, _≤_, _<_}
 use native.Mathlib.Omega.{arith}
 use native.Mathlib.Numerals.{add-one, add-two}
-use mathlib.Core.Bool.{Bool, true, false, cond, _&&_, _||_, not}
+use mathlib.Core.Bool.{Bool, true, false, cond, _&&_}
 use mathlib.Core.Path.{_≡_, refl, sym, ap, subst, _∙_}
-use mathlib.Core.List.{List, [], _∷_, _++_, append-assoc, append-nil}
+use mathlib.Core.List.{List, [], _∷_, _++_, append-assoc}
 use lib.Dec.{leb, ltb, eqb}
-use lib.ListN.{length, take, drop, getD, take-append-drop, length-append, length-drop, drop-of-length-le}
-use lib.Seq.{take-length, drop-cons, length-take-le, take-append-seam, drop-append-seam, drop-drop}
-use borrow.Author.Tests.{lt-ltb, le-ltb, ltb-true, ltb-false, le-leb, lt-leb, eq-eqb, ne-eqb, eqb-true, leb-true}
+use lib.ListN.{length, take, drop, getD, take-append-drop, length-append, length-drop}
+use lib.Seq.{take-length, drop-cons, length-take-le, drop-drop}
+use borrow.Author.Tests.{lt-ltb, le-ltb, ltb-true, ltb-false, leb-true}
 use Rattle.io.specs.Digits.{glyph, digits}
 use Rattle.buffer.specs.Place.{over, overAt, part}
 use Rattle.buffer.proofs.Laws.{put-over, take-over}
 use Rattle.recording.specs.Recording.{Bytes}
 use Rattle.layout.specs.Wrap.{Line, lineNumbers, wrapLines}
-use Rattle.sheet.specs.Sheet.{after, upTo, SheetLine, sheetLine, sheetLines, allDigits, valueFrom, noLeadingZero, smallDigits, isDecimal, decimalOr, isBreak, breakOf, isData, isDash, isPairs, allHex, dataOf, widthField, breakField, dataField, goodLine}
-use Rattle.sheet.proofs.SheetLaws.{rest-next, rest-none, line-next, up-to-take, after-drop}
-use Rattle.rows.specs.Rows.{decimalUpTo, decimal, field, rowText, badRow, lineRows, numberRows, rowsOf, rowsFrom, same}
+use Rattle.sheet.specs.Sheet.{after, upTo, sheetLine, sheetLines, allDigits, valueFrom, noLeadingZero, smallDigits, isDecimal, decimalOr, isBreak, breakOf, isData, allHex, dataOf, widthField, breakField, dataField, goodLine}
+use Rattle.sheet.proofs.SheetLaws.{rest-next, line-next, up-to-take, after-drop}
+use Rattle.rows.specs.Rows.{decimalUpTo, decimal, rowText, badRow, lineRows, numberRows, rowsOf}
 
 pub false-true : false ≡ true → ⊥
 false-true e = subst (λ (b : Bool). cond b ⊥ (Unit {0})) e tt

@@ -70,7 +70,15 @@ fn put_lines(out: &mut [u8], at: usize, row: u32, lines: &[u32]) -> usize
 }
 
 // Puts the rows of a value line's data.
-fn good_rows(d: &[u8], width: u32, breaks: bool, row: u32, lines: &mut [u32], out: &mut [u8], at: usize) -> usize
+fn good_rows(
+    d: &[u8],
+    width: u32,
+    breaks: bool,
+    row: u32,
+    lines: &mut [u32],
+    out: &mut [u8],
+    at: usize,
+) -> usize
     requires { ⌜ (length (now d) ≤ 4000) × (8002 ≤ length (now lines)) × (at + 44 * (length (now d) + 1) ≤ length (now out)) ⌝ }
     ensures { λ r. ⌜ (r ≡ at + length (lineRows row 0 (wrapLines width breaks (now (d .entry))))) × (now (out .exit) ≡ overAt at (lineRows row 0 (wrapLines width breaks (now (d .entry)))) (now (out .entry))) ⌝ }
     ensures { λ r. ⌜ r ≤ at + 44 * (length (now (d .entry)) + 1) ⌝ }
@@ -84,7 +92,15 @@ fn good_rows(d: &[u8], width: u32, breaks: bool, row: u32, lines: &mut [u32], ou
 }
 
 // Puts what a line of the sheet gives. `data` and `lines` are lent for the work.
-fn one_row(text: &[u8], ended: bool, row: u32, data: &mut [u8], lines: &mut [u32], out: &mut [u8], at: usize) -> usize
+fn one_row(
+    text: &[u8],
+    ended: bool,
+    row: u32,
+    data: &mut [u8],
+    lines: &mut [u32],
+    out: &mut [u8],
+    at: usize,
+) -> usize
     requires { ⌜ (4000 ≤ length (now «data»)) × (8002 ≤ length (now lines)) × (at + 22 * (length (now text) + 1) ≤ length (now out)) ⌝ }
     ensures { λ r. ⌜ (r ≡ at + length (rowsOf row (sheetLine (now (text .entry)) ended))) × (now (out .exit) ≡ overAt at (rowsOf row (sheetLine (now (text .entry)) ended)) (now (out .entry))) ⌝ }
     ensures { λ r. ⌜ r ≤ at + 22 * (length (now (text .entry)) + 1) ⌝ }
@@ -107,11 +123,26 @@ fn one_row(text: &[u8], ended: bool, row: u32, data: &mut [u8], lines: &mut [u32
         return put_bad(out, at, row);
     }
     let n = unhex(hex, data);
-    good_rows(&data[..n], width as u32, break_of(flag), row, lines, out, at)
+    good_rows(
+        &data[..n],
+        width as u32,
+        break_of(flag),
+        row,
+        lines,
+        out,
+        at,
+    )
 }
 
 // Puts what the lines of the sheet give from `from` on.
-fn put_rows(sheet: &[u8], from: usize, data: &mut [u8], lines: &mut [u32], out: &mut [u8], start: usize) -> usize
+fn put_rows(
+    sheet: &[u8],
+    from: usize,
+    data: &mut [u8],
+    lines: &mut [u32],
+    out: &mut [u8],
+    start: usize,
+) -> usize
     requires { ⌜ (from ≤ length (now sheet)) × (length (now sheet) ≤ 65536) × (4000 ≤ length (now «data»)) × (8002 ≤ length (now lines)) × (start + 22 * (length (now sheet) + 1) ≤ length (now out)) ⌝ }
     ensures { λ r. ⌜ (r ≡ start + length (rowsFrom 0 (sheetLines (drop from (now (sheet .entry)))))) × (now (out .exit) ≡ overAt start (rowsFrom 0 (sheetLines (drop from (now (sheet .entry))))) (now (out .entry))) ⌝ }
 {

@@ -1,17 +1,17 @@
 -- One byte further in a scan of a line or a field: what a definition says of the bytes from a place on, by the byte there and the bytes after it.
-use Prim.Native.Nat.{ℕ, zero, suc, _+_, _-_, _*_, _/_, _%_, _≤_, _<_}
+use Prim.Native.Nat.{ℕ, zero, suc, _+_, _-_, _*_, _/_, _≤_, _<_}
 use native.Mathlib.Omega.{arith}
-use mathlib.Core.Bool.{Bool, true, false, cond, _&&_, _||_, not}
+use mathlib.Core.Bool.{Bool, true, false, cond, _&&_, not}
 use mathlib.Core.Path.{_≡_, refl, sym, ap, _∙_}
-use mathlib.Core.List.{List, [], _∷_, _++_}
+use mathlib.Core.List.{[], _∷_, _++_}
 use lib.Dec.{leb, ltb, eqb}
-use lib.ListN.{length, take, drop, getD, set, length-drop, drop-of-length-le}
+use lib.ListN.{length, take, drop, getD, set, drop-of-length-le}
 use lib.Seq.{take-suc, drop-cons, set-at, append-snoc, length-take-le}
-use borrow.Author.Tests.{le-leb, lt-leb, eq-eqb, ne-eqb, lt-ltb, le-ltb, leb-true, leb-false, ltb-true, ltb-false, eqb-true, eqb-false}
+use borrow.Author.Tests.{le-leb, lt-leb, eq-eqb, ne-eqb, lt-ltb, le-ltb, ltb-true, ltb-false}
 use native.Mathlib.Numerals.{add-one}
 use Rattle.chars.specs.Utf8.{within}
 use Rattle.recording.specs.Recording.{Bytes, isNil}
-use Rattle.sheet.specs.Sheet.{upTo, after, has, SheetLine, sheetLine, ontoLine, sheetLines, isDigit, allDigits, valueFrom, noLeadingZero, smallDigits, isBreak, breakOf, nibble, isHex, allHex, fromPairs, isDash, isPairs}
+use Rattle.sheet.specs.Sheet.{upTo, after, sheetLine, ontoLine, sheetLines, isDigit, allDigits, valueFrom, noLeadingZero, smallDigits, isBreak, breakOf, nibble, isHex, allHex, fromPairs, isDash}
 
 -- ── the byte at a place
 -- what is left from a place on
@@ -76,6 +76,7 @@ line-next b (c ∷ s) = go (eqb b 0x0A) (line-next c s)
   where
     n : ℕ
     n = length (upTo 0x0A (c ∷ s))
+
     go : (t : Bool) → sheetLines (c ∷ s) ≡ sheetLine (upTo 0x0A (c ∷ s)) (ltb n (length (c ∷ s))) ∷ sheetLines (after 0x0A (c ∷ s))
         → cond t (sheetLine [] true ∷ sheetLines (c ∷ s)) (ontoLine b (sheetLines (c ∷ s)))
         ≡ sheetLine (cond t [] (b ∷ upTo 0x0A (c ∷ s))) (ltb (length (cond t [] (b ∷ upTo 0x0A (c ∷ s)))) (suc (length (c ∷ s)))) ∷ sheetLines (cond t (c ∷ s) (after 0x0A (c ∷ s)))

@@ -2,17 +2,13 @@
 use native.Mathlib.Omega.{arith}
 use borrow.Author.Needs.{needs}
 use mathlib.Core.Path.{_≡_, refl, sym, ap, _∙_}
-use Prim.Native.Nat.{ℕ, suc, _+_, _-_, _*_, _/_, _≤_, _<_}
-use mathlib.Core.List.{List, [], _∷_, _++_, append-assoc, append-nil}
-use lib.ListN.{length, take, drop, getD, length-append, length-drop}
-use Rattle.buffer.specs.Place.{overAt, part}
-use lib.Seq.{length-take-le}
+use Prim.Native.Nat.{_-_}
+use lib.ListN.{length}
 use Rattle.chars.specs.Leads.{leadTable}
-use Rattle.layout.specs.Wrap.{Line, lineNumbers, wrapLines}
+use Rattle.layout.specs.Wrap.{lineNumbers, wrapLines}
 use Rattle.wrap.specs.WrapBytes.{linesOf}
 use Rattle.wrap.specs.declared.Lines.{Lines}
-use Rattle.buffer.proofs.Laws.{take-over}
-use Rattle.rows.specs.Rows.{numberRows, lineRows}
+use Rattle.rows.specs.Rows.{numberRows}
 use Rattle.rows.proofs.RowLaws.{numbers-two, rows-lines, held, same-row}
 use Rattle.rows.proofs.good_rows.Statement.{statement}
 use Rattle.rows.proofs.good_rows.Tie as tie

@@ -1,12 +1,10 @@
 -- Each test that fails gives the bad row; the fields that pass all of them are the definition's.
 use native.Mathlib.Omega.{arith}
 use borrow.Author.Needs.{needs}
-use mathlib.Core.Path.{_≡_, refl, sym, ap, _∙_}
-use Prim.Native.Nat.{ℕ, suc, _+_, _-_, _*_, _/_, _≤_, _<_}
-use mathlib.Core.List.{List, [], _∷_, _++_, append-assoc, append-nil}
-use lib.ListN.{length, take, drop, getD, length-append, length-drop}
-use Rattle.buffer.specs.Place.{over, overAt, part}
-use Rattle.sheet.specs.Sheet.{upTo, after, SheetLine, sheetLine, valueFrom, isDecimal, decimalOr, isBreak, breakOf, isData, dataOf, goodLine}
+use mathlib.Core.Path.{sym, ap, _∙_}
+use Prim.Native.Nat.{_-_}
+use lib.ListN.{length}
+use Rattle.sheet.specs.Sheet.{upTo, after, isBreak, breakOf, isData, dataOf}
 use borrow.Author.Tests.{not-true, not-false}
 use Rattle.rows.proofs.RowLaws.{held, same-row, row-open, row-bad, width-none, width-some, bad-width, bad-break, bad-data, all-good, good-fields, third-shorter}
 use Rattle.rows.proofs.one_row.Statement.{statement}

@@ -1,11 +1,11 @@
 -- The digits that `io` spells are the decimal; then the byte after them.
 use native.Mathlib.Omega.{arith}
 use borrow.Author.Needs.{needs}
-use mathlib.Core.Path.{_≡_, refl, sym, ap, _∙_}
-use Prim.Native.Nat.{ℕ, suc, _+_, _-_, _*_, _/_, _≤_, _<_}
-use mathlib.Core.List.{List, [], _∷_, _++_, append-assoc, append-nil}
-use lib.ListN.{length, take, drop, getD, length-append, length-drop}
-use Rattle.buffer.specs.Place.{overAt, part}
+use mathlib.Core.Path.{_≡_, ap, _∙_}
+use Prim.Native.Nat.{ℕ, _+_, _-_}
+use mathlib.Core.List.{List, [], _∷_}
+use lib.ListN.{length, take, length-append}
+use Rattle.buffer.specs.Place.{overAt}
 use Rattle.rows.specs.Rows.{decimal}
 use Rattle.rows.proofs.RowLaws.{then-put, part-all, spelled}
 use Rattle.rows.proofs.put_field.Statement.{statement}

@@ -1,8 +1,8 @@
 -- What comes after the first space, or nothing.
 use native.Mathlib.Omega.{arith}
 use borrow.Author.Needs.{needs}
-use mathlib.Core.Path.{_≡_, refl, sym, ap, _∙_}
-use Prim.Native.Nat.{ℕ, suc, _+_, _-_, _*_, _/_, _≤_, _<_}
+use mathlib.Core.Path.{_≡_, sym, ap, _∙_}
+use Prim.Native.Nat.{ℕ, suc, _+_, _-_}
 use lib.ListN.{length, drop}
 use borrow.Rule.Slice.PartAt.{part-to-end}
 use Rattle.sheet.specs.Sheet.{upTo}

@@ -1,11 +1,9 @@
 -- Every byte so far is a digit, so those from the place on decide.
 use native.Mathlib.Omega.{arith}
 use borrow.Author.Needs.{needs}
-use mathlib.Core.Path.{_≡_, refl, sym, ap, _∙_}
-use Prim.Native.Nat.{ℕ, suc, _+_, _-_, _*_, _/_, _≤_, _<_}
-use Rattle.chars.proofs.ReaderLaws.{in-span, below, above}
-use borrow.Author.Tests.{le-leb, lt-leb, not-true, not-false}
-use mathlib.Core.List.{[]}
+use mathlib.Core.Path.{_≡_, sym, ap, _∙_}
+use Prim.Native.Nat.{_-_, _≤_}
+use borrow.Author.Tests.{not-true, not-false}
 use lib.ListN.{length, drop}
 use Rattle.sheet.specs.Sheet.{allHex}
 use Rattle.sheet.proofs.SheetLaws.{hex-next, rest-none}

@@ -1,8 +1,7 @@
 -- The first byte, where there is one.
-use native.Mathlib.Omega.{arith}
 use borrow.Author.Needs.{needs}
-use mathlib.Core.Path.{_≡_, refl, sym, ap, _∙_}
-use Prim.Native.Nat.{ℕ, suc, _+_, _-_, _*_, _/_, _≤_, _<_}
+use mathlib.Core.Path.{refl, sym}
+use Prim.Native.Nat.{_-_}
 use Rattle.sheet.specs.Sheet.{breakOf}
 use Rattle.sheet.proofs.SheetLaws.{break-none}
 use Rattle.sheet.proofs.break_of.Statement.{statement}

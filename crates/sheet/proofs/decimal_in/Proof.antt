@@ -1,9 +1,8 @@
 -- The leading zero is tested first, then the digits.
 use native.Mathlib.Omega.{arith}
 use borrow.Author.Needs.{needs}
-use mathlib.Core.Path.{_≡_, refl, sym, ap, _∙_}
-use Prim.Native.Nat.{ℕ, suc, _+_, _-_, _*_, _/_, _≤_, _<_}
-use borrow.Author.Tests.{le-leb, lt-leb, eq-eqb, ne-eqb, not-true, not-false}
+use Prim.Native.Nat.{_-_}
+use borrow.Author.Tests.{not-true, not-false}
 use Rattle.sheet.specs.Sheet.{isDecimal, decimalOr}
 use Rattle.sheet.proofs.decimal_in.Statement.{statement}
 use Rattle.sheet.proofs.decimal_in.Tie as tie

@@ -1,8 +1,8 @@
 -- At each place: the bytes passed and those up to the first c from here on make the answer.
 use native.Mathlib.Omega.{arith}
 use borrow.Author.Needs.{needs}
-use mathlib.Core.Path.{_≡_, refl, sym, ap, _∙_}
-use Prim.Native.Nat.{ℕ, suc, _+_, _-_, _*_, _/_, _≤_, _<_}
+use mathlib.Core.Path.{_≡_}
+use Prim.Native.Nat.{_+_, _-_, _≤_}
 use lib.ListN.{length, drop}
 use Rattle.sheet.specs.Sheet.{upTo}
 use Rattle.sheet.proofs.SheetLaws.{find-here, find-on, find-none}

@@ -1,8 +1,8 @@
 -- The place of the first space is as many bytes on as come before it.
 use native.Mathlib.Omega.{arith}
 use borrow.Author.Needs.{needs}
-use mathlib.Core.Path.{_≡_, refl, sym, ap, _∙_}
-use Prim.Native.Nat.{ℕ, suc, _+_, _-_, _*_, _/_, _≤_, _<_}
+use mathlib.Core.Path.{_≡_}
+use Prim.Native.Nat.{_-_}
 use lib.ListN.{length}
 use Rattle.sheet.specs.Sheet.{upTo}
 use Rattle.sheet.proofs.SheetLaws.{up-to-take}

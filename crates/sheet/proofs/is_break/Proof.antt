@@ -1,10 +1,9 @@
 -- One byte, in the range 30 to 31.
-use native.Mathlib.Omega.{arith}
 use borrow.Author.Needs.{needs}
-use mathlib.Core.Path.{_≡_, refl, sym, ap, _∙_}
-use Prim.Native.Nat.{ℕ, suc, _+_, _-_, _*_, _/_, _≤_, _<_}
-use Rattle.chars.proofs.ReaderLaws.{in-span, below, above}
-use borrow.Author.Tests.{le-leb, lt-leb, not-true, not-false}
+use mathlib.Core.Path.{sym, _∙_}
+use Prim.Native.Nat.{_-_}
+use Rattle.chars.proofs.ReaderLaws.{below}
+use borrow.Author.Tests.{le-leb}
 use Rattle.sheet.proofs.SheetLaws.{break-long, break-one}
 use lib.ListN.{getD}
 use Rattle.sheet.proofs.is_break.Statement.{statement}

@@ -1,9 +1,8 @@
 -- One byte, 2D.
-use native.Mathlib.Omega.{arith}
 use borrow.Author.Needs.{needs}
 use Rattle.sheet.proofs.SheetLaws.{dash-long, dash-one}
-use mathlib.Core.Path.{_≡_, refl, sym, ap, _∙_}
-use Prim.Native.Nat.{ℕ, suc, _+_, _-_, _*_, _/_, _≤_, _<_}
+use mathlib.Core.Path.{sym}
+use Prim.Native.Nat.{_-_}
 use Rattle.sheet.proofs.is_dash.Statement.{statement}
 use Rattle.sheet.proofs.is_dash.Tie as tie
 use Rattle.sheet.proofs.is_dash.Reads as reads

@@ -1,9 +1,6 @@
 -- One form or the other.
-use native.Mathlib.Omega.{arith}
 use borrow.Author.Needs.{needs}
-use mathlib.Core.Path.{_≡_, refl, sym, ap, _∙_}
-use Prim.Native.Nat.{ℕ, suc, _+_, _-_, _*_, _/_, _≤_, _<_}
-use borrow.Author.Tests.{le-leb, lt-leb, eq-eqb, ne-eqb, not-true, not-false}
+use Prim.Native.Nat.{_-_}
 use Rattle.sheet.specs.Sheet.{isData}
 use Rattle.sheet.proofs.is_data.Statement.{statement}
 use Rattle.sheet.proofs.is_data.Tie as tie

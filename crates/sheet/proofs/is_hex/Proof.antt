@@ -1,10 +1,8 @@
 -- The tests are the ends of the two ranges.
 use native.Mathlib.Omega.{arith}
-use borrow.Author.Needs.{needs}
-use mathlib.Core.Path.{_≡_, refl, sym, ap, _∙_}
-use Prim.Native.Nat.{ℕ, suc, _+_, _-_, _*_, _/_, _≤_, _<_}
+use Prim.Native.Nat.{_-_}
 use Rattle.chars.proofs.ReaderLaws.{in-span, below, above}
-use borrow.Author.Tests.{le-leb, lt-leb, not-true, not-false}
+use borrow.Author.Tests.{le-leb}
 use Rattle.sheet.proofs.is_hex.Statement.{statement}
 use Rattle.sheet.proofs.is_hex.Tie as tie
 use Rattle.sheet.proofs.is_hex.Reads as reads

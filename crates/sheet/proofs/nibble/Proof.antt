@@ -1,10 +1,8 @@
 -- The tests are the ends of the two ranges.
 use native.Mathlib.Omega.{arith}
 use borrow.Author.Needs.{needs}
-use mathlib.Core.Path.{_≡_, refl, sym, ap, _∙_}
-use Prim.Native.Nat.{ℕ, suc, _+_, _-_, _*_, _/_, _≤_, _<_}
+use Prim.Native.Nat.{_-_}
 use Rattle.chars.proofs.ReaderLaws.{in-span, below, above}
-use borrow.Author.Tests.{le-leb, lt-leb, not-true, not-false}
 use Rattle.sheet.specs.Sheet.{nibble}
 use Rattle.sheet.proofs.nibble.Statement.{statement}
 use Rattle.sheet.proofs.nibble.Tie as tie

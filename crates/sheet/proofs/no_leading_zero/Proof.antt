@@ -1,9 +1,8 @@
 -- No byte, one byte, or the first of several.
-use native.Mathlib.Omega.{arith}
 use borrow.Author.Needs.{needs}
 use Rattle.sheet.proofs.SheetLaws.{zero-none, zero-one, zero-more}
-use mathlib.Core.Path.{_≡_, refl, sym, ap, _∙_}
-use Prim.Native.Nat.{ℕ, suc, _+_, _-_, _*_, _/_, _≤_, _<_}
+use mathlib.Core.Path.{sym}
+use Prim.Native.Nat.{_-_}
 use Rattle.sheet.proofs.no_leading_zero.Statement.{statement}
 use Rattle.sheet.proofs.no_leading_zero.Tie as tie
 use Rattle.sheet.proofs.no_leading_zero.Reads as reads
