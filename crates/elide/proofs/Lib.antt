@@ -1,0 +1,4 @@
+pub mod ElideLaws
+pub mod PartLaws
+pub mod CallLaws
+pub mod PinsHold

@@ -1,0 +1,2 @@
+pub mod Elide
+pub mod Pins

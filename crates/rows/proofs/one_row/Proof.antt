@@ -1,0 +1,280 @@
+-- Each test that fails gives the bad row; the fields that pass all of them are the definition's.
+use native.Mathlib.Omega.{arith}
+use borrow.Author.Needs.{needs}
+use mathlib.Core.Path.{sym, ap, _∙_}
+use Prim.Native.Nat.{_-_}
+use lib.ListN.{length}
+use Rattle.sheet.specs.Sheet.{upTo, after, isBreak, breakOf, isData, dataOf}
+use borrow.Author.Tests.{not-true, not-false}
+use Rattle.rows.proofs.RowLaws.{held, same-row, row-open, row-bad, width-none, width-some, bad-width, bad-break, bad-data, all-good, good-fields, third-shorter}
+use Rattle.rows.proofs.one_row.Statement.{statement}
+use Rattle.rows.proofs.one_row.Tie as tie
+use Rattle.rows.proofs.one_row.Reads as reads
+use Rattle.rows.proofs.one_row.Lts as lts
+use Rattle.rows.proofs.good_rows.Reads as good-rows-reads
+use Rattle.rows.proofs.put_bad.Reads as put-bad-reads
+use Rattle.sheet.proofs.after_space.Reads as after-space-reads
+use Rattle.sheet.proofs.break_of.Reads as break-of-reads
+use Rattle.sheet.proofs.decimal_in.Reads as decimal-in-reads
+use Rattle.sheet.proofs.first_field.Reads as first-field-reads
+use Rattle.sheet.proofs.is_break.Reads as is-break-reads
+use Rattle.sheet.proofs.is_data.Reads as is-data-reads
+use Rattle.sheet.proofs.unhex.Reads as unhex-reads
+
+-- src/lib.rt:93:9
+put-bad-requires : tie.Need-put-bad-requires
+put-bad-requires c κs = search needs
+
+-- src/lib.rt:93:9
+same-length : tie.Need-same-length
+same-length c = search needs
+
+-- src/lib.rt:93:9
+returns : tie.Need-returns
+returns c =
+    let x = c .before .before .before .before .before .before .before .before .before .args in
+    let p = c .before .before .put-bad in
+    (same-row (x .at) (x .out .now) _ _ (p .result) _ (row-open (x .row) (x .text .now) (x .ended) (not-true (x .ended) (c .before .before .before .before .if1 .taken))) (p .ensures .0 .0) (p .ensures .0 .1), omega (arith, p .ensures .1))
+
+-- src/lib.rt:95:9
+first-field-requires : tie.Need-first-field-requires
+first-field-requires c κs = search needs
+
+-- src/lib.rt:96:9
+decimal-in-requires : tie.Need-decimal-in-requires
+decimal-in-requires c κs = search needs
+
+-- src/lib.rt:98:9
+put-bad-requires-2 : tie.Need-put-bad-requires-2
+put-bad-requires-2 c κs = search needs
+
+-- src/lib.rt:98:9
+same-length-2 : tie.Need-same-length-2
+same-length-2 c = search needs
+
+-- src/lib.rt:98:9
+returns-2 : tie.Need-returns-2
+returns-2 c =
+    let x = c .before .before .before .before .before .before .before .before .before .before .before .before .args in
+    let p = c .before .before .put-bad2 in
+    (same-row (x .at) (x .out .now) _ _ (p .result) _ (row-bad (x .row) (x .text .now) (x .ended) (not-false (x .ended) (c .before .before .before .before .before .before .before .if1 .left)) (bad-width (x .text .now) (width-none (upTo 0x20 (x .text .now)) (sym (rw (c .before .before .before .before .before .before .first-field .ensures) at (c .before .before .before .before .before .decimal-in .ensures .0)) ∙ c .before .before .before .before .if2 .taken)))) (p .ensures .0 .0) (p .ensures .0 .1), omega (arith, p .ensures .1))
+
+-- src/lib.rt:100:9
+after-space-requires : tie.Need-after-space-requires
+after-space-requires c κs = search needs
+
+-- src/lib.rt:101:9
+first-field-requires-2 : tie.Need-first-field-requires-2
+first-field-requires-2 c κs = search needs
+
+-- src/lib.rt:102:9
+is-break-requires : tie.Need-is-break-requires
+is-break-requires c κs = search needs
+
+-- src/lib.rt:103:9
+put-bad-requires-3 : tie.Need-put-bad-requires-3
+put-bad-requires-3 c κs = search needs
+
+-- src/lib.rt:103:9
+same-length-3 : tie.Need-same-length-3
+same-length-3 c = search needs
+
+-- src/lib.rt:103:9
+returns-3 : tie.Need-returns-3
+returns-3 c =
+    let x = c .before .before .before .before .before .before .before .before .before .before .before .before .before .before .before .before .args in
+    let t = x .text .now in
+    let ended = not-false (x .ended) (c .before .before .before .before .before .before .before .before .before .before .before .if1 .left) in
+    let D = rw (c .before .before .before .before .before .before .before .before .before .before .first-field .ensures) at (c .before .before .before .before .before .before .before .before .before .decimal-in .ensures .0) in
+    let w = width-some (upTo 0x20 t) (λ z. c .before .before .before .before .before .before .before .before .if2 .left (D ∙ z)) in
+    let A = c .before .before .before .before .before .before .before .after-space .ensures in
+    let F = c .before .before .before .before .before .before .first-field2 .ensures ∙ ap (upTo 0x20) A in
+    let K = c .before .before .before .before .before .is-break .ensures ∙ ap isBreak F in
+    let p = c .before .before .put-bad3 in
+    (same-row (x .at) (x .out .now) _ _ (p .result) _ (row-bad (x .row) t (x .ended) ended (bad-break t (w .0) (sym K ∙ not-true (c .before .before .before .before .before .is-break .result) (c .before .before .before .before .if3 .taken)))) (p .ensures .0 .0) (p .ensures .0 .1), omega (arith, p .ensures .1))
+
+-- src/lib.rt:105:9
+after-space-requires-2 : tie.Need-after-space-requires-2
+after-space-requires-2 c κs = search needs
+
+-- src/lib.rt:106:9
+is-data-requires : tie.Need-is-data-requires
+is-data-requires c κs = search needs
+
+-- src/lib.rt:107:9
+put-bad-requires-4 : tie.Need-put-bad-requires-4
+put-bad-requires-4 c κs = search needs
+
+-- src/lib.rt:107:9
+same-length-4 : tie.Need-same-length-4
+same-length-4 c = search needs
+
+-- src/lib.rt:107:9
+returns-4 : tie.Need-returns-4
+returns-4 c =
+    let x = c .before .before .before .before .before .before .before .before .before .before .before .before .before .before .before .before .before .before .before .args in
+    let t = x .text .now in
+    let ended = not-false (x .ended) (c .before .before .before .before .before .before .before .before .before .before .before .before .before .before .if1 .left) in
+    let D = rw (c .before .before .before .before .before .before .before .before .before .before .before .before .before .first-field .ensures) at (c .before .before .before .before .before .before .before .before .before .before .before .before .decimal-in .ensures .0) in
+    let w = width-some (upTo 0x20 t) (λ z. c .before .before .before .before .before .before .before .before .before .before .before .if2 .left (D ∙ z)) in
+    let A = c .before .before .before .before .before .before .before .before .before .before .after-space .ensures in
+    let F = c .before .before .before .before .before .before .before .before .before .first-field2 .ensures ∙ ap (upTo 0x20) A in
+    let K = c .before .before .before .before .before .before .before .before .is-break .ensures ∙ ap isBreak F in
+    let k = sym K ∙ not-false (c .before .before .before .before .before .before .before .before .is-break .result) (c .before .before .before .before .before .before .before .if3 .left) in
+    let H = c .before .before .before .before .before .before .after-space2 .ensures ∙ ap (after 0x20) A in
+    let J = c .before .before .before .before .before .is-data .ensures ∙ ap isData H in
+    let p = c .before .before .put-bad4 in
+    (same-row (x .at) (x .out .now) _ _ (p .result) _ (row-bad (x .row) t (x .ended) ended (bad-data t (w .0) k (sym J ∙ not-true (c .before .before .before .before .before .is-data .result) (c .before .before .before .before .if4 .taken)))) (p .ensures .0 .0) (p .ensures .0 .1), omega (arith, p .ensures .1))
+
+-- src/lib.rt:109:9
+unhex-requires : tie.Need-unhex-requires
+unhex-requires c κs =
+    let x = c .before .before .before .before .before .before .before .before .before .before .before .before .before .before .before .before .args in
+    let t = x .text .now in
+    let ended = not-false (x .ended) (c .before .before .before .before .before .before .before .before .before .before .before .if1 .left) in
+    let D = rw (c .before .before .before .before .before .before .before .before .before .before .first-field .ensures) at (c .before .before .before .before .before .before .before .before .before .decimal-in .ensures .0) in
+    let w = width-some (upTo 0x20 t) (λ z. c .before .before .before .before .before .before .before .before .if2 .left (D ∙ z)) in
+    let A = c .before .before .before .before .before .before .before .after-space .ensures in
+    let F = c .before .before .before .before .before .before .first-field2 .ensures ∙ ap (upTo 0x20) A in
+    let K = c .before .before .before .before .before .is-break .ensures ∙ ap isBreak F in
+    let k = sym K ∙ not-false (c .before .before .before .before .before .is-break .result) (c .before .before .before .before .if3 .left) in
+    let H = c .before .before .before .after-space2 .ensures ∙ ap (after 0x20) A in
+    let J = c .before .before .is-data .ensures ∙ ap isData H in
+    let j = sym J ∙ not-false (c .before .before .is-data .result) (c .before .if4 .left) in
+    let third = third-shorter t j in
+    omega (arith, ap length H, third .0)
+
+-- src/lib.rt:110:15
+slice-reshare-prefix-good-rows : tie.Need-slice-reshare-prefix-good-rows
+slice-reshare-prefix-good-rows c =
+    let x = c .before .before .before .before .before .before .before .before .before .before .before .before .before .before .before .before .before .before .before .args in
+    let t = x .text .now in
+    let ended = not-false (x .ended) (c .before .before .before .before .before .before .before .before .before .before .before .before .before .before .if1 .left) in
+    let D = rw (c .before .before .before .before .before .before .before .before .before .before .before .before .before .first-field .ensures) at (c .before .before .before .before .before .before .before .before .before .before .before .before .decimal-in .ensures .0) in
+    let w = width-some (upTo 0x20 t) (λ z. c .before .before .before .before .before .before .before .before .before .before .before .if2 .left (D ∙ z)) in
+    let A = c .before .before .before .before .before .before .before .before .before .before .after-space .ensures in
+    let F = c .before .before .before .before .before .before .before .before .before .first-field2 .ensures ∙ ap (upTo 0x20) A in
+    let K = c .before .before .before .before .before .before .before .before .is-break .ensures ∙ ap isBreak F in
+    let k = sym K ∙ not-false (c .before .before .before .before .before .before .before .before .is-break .result) (c .before .before .before .before .before .before .before .if3 .left) in
+    let H = c .before .before .before .before .before .before .after-space2 .ensures ∙ ap (after 0x20) A in
+    let J = c .before .before .before .before .before .is-data .ensures ∙ ap isData H in
+    let j = sym J ∙ not-false (c .before .before .before .before .before .is-data .result) (c .before .before .before .before .if4 .left) in
+    let third = third-shorter t j in
+    omega (arith, ap length H, third .0, c .before .before .unhex .ensures .0 .1, c .before .before .unhex .kept .1 .0)
+
+-- src/lib.rt:110:15
+slice-aggregate-good-rows : tie.Need-slice-aggregate-good-rows
+slice-aggregate-good-rows c =
+    let x = c .before .before .before .before .before .before .before .before .before .before .before .before .before .before .before .before .before .before .before .before .args in
+    let t = x .text .now in
+    let ended = not-false (x .ended) (c .before .before .before .before .before .before .before .before .before .before .before .before .before .before .before .if1 .left) in
+    let D = rw (c .before .before .before .before .before .before .before .before .before .before .before .before .before .before .first-field .ensures) at (c .before .before .before .before .before .before .before .before .before .before .before .before .before .decimal-in .ensures .0) in
+    let w = width-some (upTo 0x20 t) (λ z. c .before .before .before .before .before .before .before .before .before .before .before .before .if2 .left (D ∙ z)) in
+    let A = c .before .before .before .before .before .before .before .before .before .before .before .after-space .ensures in
+    let F = c .before .before .before .before .before .before .before .before .before .before .first-field2 .ensures ∙ ap (upTo 0x20) A in
+    let K = c .before .before .before .before .before .before .before .before .before .is-break .ensures ∙ ap isBreak F in
+    let k = sym K ∙ not-false (c .before .before .before .before .before .before .before .before .before .is-break .result) (c .before .before .before .before .before .before .before .before .if3 .left) in
+    let H = c .before .before .before .before .before .before .before .after-space2 .ensures ∙ ap (after 0x20) A in
+    let J = c .before .before .before .before .before .before .is-data .ensures ∙ ap isData H in
+    let j = sym J ∙ not-false (c .before .before .before .before .before .before .is-data .result) (c .before .before .before .before .before .if4 .left) in
+    let third = third-shorter t j in
+    let u = c .before .before .before .unhex in
+    let h = held (u .result) (dataOf (c .before .before .before .before .before .before .before .after-space2 .result .now)) (x .«data» .now) _ (u .ensures .0 .0) (u .ensures .1) in
+    u .ensures .0 .0 ∙ ap length (sym h)
+
+-- src/lib.rt:110:27
+cast-good-rows : tie.Need-cast-good-rows
+cast-good-rows c = search needs
+
+-- src/lib.rt:110:41
+break-of-requires : tie.Need-break-of-requires
+break-of-requires c κs = search needs
+
+-- src/lib.rt:110:5
+good-rows-requires : tie.Need-good-rows-requires
+good-rows-requires c κs =
+    let x = c .before .before .before .before .before .before .before .before .before .before .before .before .before .before .before .before .before .before .before .before .before .before .before .args in
+    let t = x .text .now in
+    let ended = not-false (x .ended) (c .before .before .before .before .before .before .before .before .before .before .before .before .before .before .before .before .before .before .if1 .left) in
+    let D = rw (c .before .before .before .before .before .before .before .before .before .before .before .before .before .before .before .before .before .first-field .ensures) at (c .before .before .before .before .before .before .before .before .before .before .before .before .before .before .before .before .decimal-in .ensures .0) in
+    let w = width-some (upTo 0x20 t) (λ z. c .before .before .before .before .before .before .before .before .before .before .before .before .before .before .before .if2 .left (D ∙ z)) in
+    let A = c .before .before .before .before .before .before .before .before .before .before .before .before .before .before .after-space .ensures in
+    let F = c .before .before .before .before .before .before .before .before .before .before .before .before .before .first-field2 .ensures ∙ ap (upTo 0x20) A in
+    let K = c .before .before .before .before .before .before .before .before .before .before .before .before .is-break .ensures ∙ ap isBreak F in
+    let k = sym K ∙ not-false (c .before .before .before .before .before .before .before .before .before .before .before .before .is-break .result) (c .before .before .before .before .before .before .before .before .before .before .before .if3 .left) in
+    let H = c .before .before .before .before .before .before .before .before .before .before .after-space2 .ensures ∙ ap (after 0x20) A in
+    let J = c .before .before .before .before .before .before .before .before .before .is-data .ensures ∙ ap isData H in
+    let j = sym J ∙ not-false (c .before .before .before .before .before .before .before .before .before .is-data .result) (c .before .before .before .before .before .before .before .before .if4 .left) in
+    let third = third-shorter t j in
+    let u = c .before .before .before .before .before .before .unhex in
+    let h = held (u .result) (dataOf (c .before .before .before .before .before .before .before .before .before .before .after-space2 .result .now)) (x .«data» .now) _ (u .ensures .0 .0) (u .ensures .1) in
+    (omega (arith, ap length h, u .ensures .0 .0, u .ensures .0 .1, ap length H, third .0), omega arith, omega (arith, ap length h, u .ensures .0 .0, u .ensures .0 .1, ap length H, third .1))
+
+-- src/lib.rt:87:1
+same-length-5 : tie.Need-same-length-5
+same-length-5 c = search needs
+
+-- src/lib.rt:87:1
+same-length-6 : tie.Need-same-length-6
+same-length-6 c = search needs
+
+-- src/lib.rt:87:1
+same-length-7 : tie.Need-same-length-7
+same-length-7 c = search needs
+
+-- src/lib.rt:87:1
+returns-5 : tie.Need-returns-5
+returns-5 c =
+    let x = c .before .before .before .before .before .before .before .before .before .before .before .before .before .before .before .before .before .before .before .before .before .before .before .before .before .before .before .before .args in
+    let t = x .text .now in
+    let ended = not-false (x .ended) (c .before .before .before .before .before .before .before .before .before .before .before .before .before .before .before .before .before .before .before .before .before .before .before .if1 .left) in
+    let D = rw (c .before .before .before .before .before .before .before .before .before .before .before .before .before .before .before .before .before .before .before .before .before .before .first-field .ensures) at (c .before .before .before .before .before .before .before .before .before .before .before .before .before .before .before .before .before .before .before .before .before .decimal-in .ensures .0) in
+    let w = width-some (upTo 0x20 t) (λ z. c .before .before .before .before .before .before .before .before .before .before .before .before .before .before .before .before .before .before .before .before .if2 .left (D ∙ z)) in
+    let A = c .before .before .before .before .before .before .before .before .before .before .before .before .before .before .before .before .before .before .before .after-space .ensures in
+    let F = c .before .before .before .before .before .before .before .before .before .before .before .before .before .before .before .before .before .before .first-field2 .ensures ∙ ap (upTo 0x20) A in
+    let K = c .before .before .before .before .before .before .before .before .before .before .before .before .before .before .before .before .before .is-break .ensures ∙ ap isBreak F in
+    let k = sym K ∙ not-false (c .before .before .before .before .before .before .before .before .before .before .before .before .before .before .before .before .before .is-break .result) (c .before .before .before .before .before .before .before .before .before .before .before .before .before .before .before .before .if3 .left) in
+    let H = c .before .before .before .before .before .before .before .before .before .before .before .before .before .before .before .after-space2 .ensures ∙ ap (after 0x20) A in
+    let J = c .before .before .before .before .before .before .before .before .before .before .before .before .before .before .is-data .ensures ∙ ap isData H in
+    let j = sym J ∙ not-false (c .before .before .before .before .before .before .before .before .before .before .before .before .before .before .is-data .result) (c .before .before .before .before .before .before .before .before .before .before .before .before .before .if4 .left) in
+    let third = third-shorter t j in
+    let u = c .before .before .before .before .before .before .before .before .before .before .before .unhex in
+    let h = held (u .result) (dataOf (c .before .before .before .before .before .before .before .before .before .before .before .before .before .before .before .after-space2 .result .now)) (x .«data» .now) _ (u .ensures .0 .0) (u .ensures .1) in
+    let g = c .before .before .before .before .good-rows in
+    let b = c .before .before .before .before .before .before .before .break-of .ensures ∙ ap breakOf F in
+    let e = good-fields (x .row) t (x .ended) (c .before .before .before .before .before .before .before .before .before .before .before .before .before .before .before .before .before .before .before .before .before .decimal-in .result) (c .before .before .before .before .before .before .before .break-of .result) _ ended (all-good t (w .0) k j) (D ∙ w .1) b (h ∙ ap dataOf H) in
+    (same-row (x .at) (x .out .now) _ _ (g .result) _ e (g .ensures .0 .0) (g .ensures .0 .1), omega (arith, g .ensures .1, ap length h, u .ensures .0 .0, u .ensures .0 .1, ap length H, third .1))
+
+pub one-row-spec : {M : Type 1} → statement M
+one-row-spec =
+    tie.close
+    (tie.spec
+    put-bad-requires
+    same-length
+    returns
+    first-field-requires
+    decimal-in-requires
+    put-bad-requires-2
+    same-length-2
+    returns-2
+    after-space-requires
+    first-field-requires-2
+    is-break-requires
+    put-bad-requires-3
+    same-length-3
+    returns-3
+    after-space-requires-2
+    is-data-requires
+    put-bad-requires-4
+    same-length-4
+    returns-4
+    unhex-requires
+    slice-reshare-prefix-good-rows
+    slice-aggregate-good-rows
+    cast-good-rows
+    break-of-requires
+    good-rows-requires
+    same-length-5
+    same-length-6
+    same-length-7
+    returns-5)

@@ -1,0 +1,63 @@
+-- Four numbers, each put where the one before it ended.
+use native.Mathlib.Omega.{arith}
+use borrow.Author.Needs.{needs}
+use Prim.Native.Nat.{_+_, _-_}
+use mathlib.Core.List.{_++_}
+use lib.ListN.{length-append}
+use Rattle.rows.specs.Rows.{field, rowText}
+use Rattle.rows.proofs.RowLaws.{then-put}
+use Rattle.rows.proofs.put_row.Statement.{statement}
+use Rattle.rows.proofs.put_row.Tie as tie
+use Rattle.rows.proofs.put_row.Reads as reads
+use Rattle.rows.proofs.put_row.Lts as lts
+use Rattle.rows.proofs.put_field.Reads as put-field-reads
+
+-- src/lib.rt:39:9
+put-field-requires : tie.Need-put-field-requires
+put-field-requires c κs = search needs
+
+-- src/lib.rt:40:9
+put-field-requires-2 : tie.Need-put-field-requires-2
+put-field-requires-2 c κs = search needs
+
+-- src/lib.rt:41:9
+put-field-requires-3 : tie.Need-put-field-requires-3
+put-field-requires-3 c κs = search needs
+
+-- src/lib.rt:42:5
+put-field-requires-4 : tie.Need-put-field-requires-4
+put-field-requires-4 c κs = search needs
+
+-- src/lib.rt:34:1
+same-length : tie.Need-same-length
+same-length c = search needs
+
+-- src/lib.rt:34:1
+returns : tie.Need-returns
+unfolding rowText
+returns c =
+    let x = c .before .before .before .before .before .before .before .before .before .before .before .before .before .before .before .before .before .args in
+    let f₁ = c .before .before .before .before .before .before .before .before .before .before .before .before .before .before .put-field in
+    let f₂ = c .before .before .before .before .before .before .before .before .before .before .put-field2 in
+    let f₃ = c .before .before .before .before .before .before .put-field3 in
+    let f₄ = c .before .before .put-field4 in
+    let t₁ = field (x .row) 0x20 in
+    let t₂ = field (x .k) 0x20 in
+    let t₃ = field (x .first) 0x20 in
+    let t₄ = field (x .end) 0x0A in
+    let g₃ = then-put (f₂ .result) t₃ t₄ _ _ _ (f₃ .result) (omega (arith, f₁ .ensures .1, f₂ .ensures .1, f₁ .kept .0, f₂ .kept .0)) (f₃ .ensures .0 .1) (f₃ .ensures .0 .0) (f₄ .ensures .0 .1) in
+    let g₂ = then-put (f₁ .result) t₂ (t₃ ++ t₄) _ _ _ (f₂ .result) (omega (arith, f₁ .ensures .1, f₁ .kept .0)) (f₂ .ensures .0 .1) (f₂ .ensures .0 .0) g₃ in
+    let g₁ = then-put (x .at) t₁ (t₂ ++ (t₃ ++ t₄)) (x .out .now) _ _ (f₁ .result) (omega arith) (f₁ .ensures .0 .1) (f₁ .ensures .0 .0) g₂ in
+    let n = length-append t₁ (t₂ ++ (t₃ ++ t₄)) in
+    ((omega (arith, n, length-append t₂ (t₃ ++ t₄), length-append t₃ t₄, f₁ .ensures .0 .0, f₂ .ensures .0 .0, f₃ .ensures .0 .0, f₄ .ensures .0 .0), g₁), omega (arith, f₁ .ensures .1, f₂ .ensures .1, f₃ .ensures .1, f₄ .ensures .1))
+
+pub put-row-spec : {M : Type 1} → statement M
+put-row-spec =
+    tie.close
+    (tie.spec
+    put-field-requires
+    put-field-requires-2
+    put-field-requires-3
+    put-field-requires-4
+    same-length
+    returns)

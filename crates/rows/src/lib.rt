@@ -1,0 +1,194 @@
+// What `wraplist` prints for a sheet (document 01, module 7), in one lent buffer: `write_output` leaves `output` of `specs/Rows.antt`, whatever the sheet's bytes are.
+// Each byte of a sheet gives at most 22 bytes, so a buffer of OUTPUT bytes always does.
+use sheet::after_space;
+use sheet::break_of;
+use sheet::decimal_in;
+use sheet::find;
+use sheet::first_field;
+use sheet::is_break;
+use sheet::is_data;
+use sheet::unhex;
+ghost use mathlib.Core.Path.{_≡_};
+ghost use mathlib.Core.List.{_++_, _∷_, []};
+ghost use Prim.Native.Nat.{_+_, _-_, _*_, _≤_, _<_};
+ghost use lib.ListN.{length, take, drop};
+ghost use Rattle.buffer.specs.Place.{over, overAt};
+ghost use Rattle.layout.specs.Wrap.{wrapLines};
+ghost use Rattle.sheet.specs.Sheet.{sheetLine, sheetLines};
+ghost use Rattle.rows.specs.Rows.{decimal, field, rowText, badRow, numberRows, lineRows, rowsOf, rowsFrom, output};
+
+// Puts the decimal digits of n, and c after them.
+fn put_field(out: &mut [u8], at: usize, n: u32, c: u8) -> usize
+    requires { ⌜ at + 11 ≤ length (now out) ⌝ }
+    ensures { λ r. ⌜ (r ≡ at + length (field n c)) × (now (out .exit) ≡ overAt at (field n c) (now (out .entry))) ⌝ }
+    ensures { λ r. ⌜ r ≤ at + 11 ⌝ }
+{
+    let mut text: [u8; 20] = [0; 20];
+    let k = io::decimal(n as u64, &mut text);
+    let e = buffer::put(out, at, &text[..k], 0, k);
+    let last: [u8; 1] = [c];
+    buffer::put(out, e, &last, 0, 1)
+}
+
+// Puts a row: four numbers.
+fn put_row(out: &mut [u8], at: usize, row: u32, k: u32, first: u32, end: u32) -> usize
+    requires { ⌜ at + 44 ≤ length (now out) ⌝ }
+    ensures { λ r. ⌜ (r ≡ at + length (rowText row k first end)) × (now (out .exit) ≡ overAt at (rowText row k first end) (now (out .entry))) ⌝ }
+    ensures { λ r. ⌜ r ≤ at + 44 ⌝ }
+{
+    let b = put_field(out, at, row, 0x20);
+    let c = put_field(out, b, k, 0x20);
+    let d = put_field(out, c, first, 0x20);
+    put_field(out, d, end, 0x0A)
+}
+
+// Puts the row of a bad line.
+fn put_bad(out: &mut [u8], at: usize, row: u32) -> usize
+    requires { ⌜ at + 17 ≤ length (now out) ⌝ }
+    ensures { λ r. ⌜ (r ≡ at + length (badRow row)) × (now (out .exit) ≡ overAt at (badRow row) (now (out .entry))) ⌝ }
+    ensures { λ r. ⌜ r ≤ at + 17 ⌝ }
+{
+    let e = put_field(out, at, row, 0x20);
+    buffer::put(out, e, b"! 0 0\n", 0, 6)
+}
+
+// Puts a row for each two numbers of a line list.
+fn put_lines(out: &mut [u8], at: usize, row: u32, lines: &[u32]) -> usize
+    requires { ⌜ (length (now lines) ≤ 8002) × (at + 22 * length (now lines) ≤ length (now out)) ⌝ }
+    ensures { λ r. ⌜ (r ≡ at + length (numberRows row 0 (now (lines .entry)))) × (now (out .exit) ≡ overAt at (numberRows row 0 (now (lines .entry))) (now (out .entry))) ⌝ }
+    ensures { λ r. ⌜ r ≤ at + 22 * length (now (lines .entry)) ⌝ }
+{
+    let mut end = at;
+    let mut k: usize = 0;
+    let mut line: u32 = 0;
+    while k + 1 < lines.len() {
+        end = put_row(out, end, row, line, lines[k], lines[k + 1]);
+        line += 1;
+        k += 2;
+    }
+    end
+}
+
+// Puts the rows of a value line's data.
+fn good_rows(
+    d: &[u8],
+    width: u32,
+    breaks: bool,
+    row: u32,
+    lines: &mut [u32],
+    out: &mut [u8],
+    at: usize,
+) -> usize
+    requires { ⌜ (length (now d) ≤ 4000) × (8002 ≤ length (now lines)) × (at + 44 * (length (now d) + 1) ≤ length (now out)) ⌝ }
+    ensures { λ r. ⌜ (r ≡ at + length (lineRows row 0 (wrapLines width breaks (now (d .entry))))) × (now (out .exit) ≡ overAt at (lineRows row 0 (wrapLines width breaks (now (d .entry)))) (now (out .entry))) ⌝ }
+    ensures { λ r. ⌜ r ≤ at + 44 * (length (now (d .entry)) + 1) ⌝ }
+{
+    let t = chars::LEADS;
+    let found = wrap::count_lines(&t, d, width, breaks);
+    let count = found.count;
+    let n = wrap::numbers_of(count);
+    wrap::write_lines(&t, d, width, breaks, lines);
+    put_lines(out, at, row, &lines[..n])
+}
+
+// Puts what a line of the sheet gives. `data` and `lines` are lent for the work.
+fn one_row(
+    text: &[u8],
+    ended: bool,
+    row: u32,
+    data: &mut [u8],
+    lines: &mut [u32],
+    out: &mut [u8],
+    at: usize,
+) -> usize
+    requires { ⌜ (4000 ≤ length (now «data»)) × (8002 ≤ length (now lines)) × (at + 22 * (length (now text) + 1) ≤ length (now out)) ⌝ }
+    ensures { λ r. ⌜ (r ≡ at + length (rowsOf row (sheetLine (now (text .entry)) ended))) × (now (out .exit) ≡ overAt at (rowsOf row (sheetLine (now (text .entry)) ended)) (now (out .entry))) ⌝ }
+    ensures { λ r. ⌜ r ≤ at + 22 * (length (now (text .entry)) + 1) ⌝ }
+{
+    if !ended {
+        return put_bad(out, at, row);
+    }
+    let first = first_field(text);
+    let width = decimal_in(first);
+    if width == 4294967296 {
+        return put_bad(out, at, row);
+    }
+    let rest = after_space(text);
+    let flag = first_field(rest);
+    if !is_break(flag) {
+        return put_bad(out, at, row);
+    }
+    let hex = after_space(rest);
+    if !is_data(hex) {
+        return put_bad(out, at, row);
+    }
+    let n = unhex(hex, data);
+    good_rows(
+        &data[..n],
+        width as u32,
+        break_of(flag),
+        row,
+        lines,
+        out,
+        at,
+    )
+}
+
+// Puts what the lines of the sheet give from `from` on.
+fn put_rows(
+    sheet: &[u8],
+    from: usize,
+    data: &mut [u8],
+    lines: &mut [u32],
+    out: &mut [u8],
+    start: usize,
+) -> usize
+    requires { ⌜ (from ≤ length (now sheet)) × (length (now sheet) ≤ 65536) × (4000 ≤ length (now «data»)) × (8002 ≤ length (now lines)) × (start + 22 * (length (now sheet) + 1) ≤ length (now out)) ⌝ }
+    ensures { λ r. ⌜ (r ≡ start + length (rowsFrom 0 (sheetLines (drop from (now (sheet .entry)))))) × (now (out .exit) ≡ overAt start (rowsFrom 0 (sheetLines (drop from (now (sheet .entry))))) (now (out .entry))) ⌝ }
+{
+    let mut p = from;
+    let mut row: u32 = 0;
+    let mut at = start;
+    while p < sheet.len() {
+        let e = find(sheet, p, 0x0A);
+        let ended = e < sheet.len();
+        at = one_row(&sheet[p..e], ended, row, data, lines, out, at);
+        row += 1;
+        p = e + 1;
+    }
+    at
+}
+
+fn data_buffer() -> [u8; 4000]
+    ensures { λ r. ⌜ 4000 ≡ length r ⌝ }
+{
+    [0; 4000]
+}
+
+fn line_list() -> [u32; 8002]
+    ensures { λ r. ⌜ 8002 ≡ length r ⌝ }
+{
+    [0; 8002]
+}
+
+// What is printed for a sheet, in out; returns its length.
+pub fn write_output(sheet: &[u8], out: &mut [u8]) -> usize
+    requires { ⌜ 1441833 ≤ length (now out) ⌝ }
+    ensures { λ r. ⌜ (r ≡ length (output (now (sheet .entry)))) × (now (out .exit) ≡ over (output (now (sheet .entry))) (now (out .entry))) ⌝ }
+    ensures { λ r. ⌜ (r ≤ length (now (out .exit))) × (r ≡ length (take r (now (out .exit)))) ⌝ }
+{
+    let n = buffer::put(out, 0, b"row line start end\n", 0, 19);
+    if 65536 < sheet.len() {
+        return put_bad(out, n, 0);
+    }
+    let e = find(sheet, 0, 0x0A);
+    if e == sheet.len() {
+        return put_bad(out, n, 0);
+    }
+    if !check::same(&sheet[0..e], b"width break bytes") {
+        return put_bad(out, n, 0);
+    }
+    let mut data = data_buffer();
+    let mut lines = line_list();
+    put_rows(sheet, e + 1, &mut data, &mut lines, out, n)
+}
