@@ -43,6 +43,9 @@ first-of-three (suc a) b c n e f g h = f (e ∙ first-hit (suc a) (b ∷ c ∷ [
 first-of-three zero (suc b) c n e f g h = g refl (e ∙ first-on 0 (suc b ∷ c ∷ []) refl ∙ first-hit (suc b) (c ∷ []) (omega arith))
 first-of-three zero zero c n e f g h = h refl refl (e ∙ first-on 0 (0 ∷ c ∷ []) refl ∙ first-on 0 (c ∷ []) refl ∙ first-one c)
 
+pub from-first : (ds new : List ℕ) (xs : List Replacement) (z s : Scan) → z ≡ scan false 0 0 → s ≡ checkAll (length ds) (length new) xs z → s ≡ checkAll (length ds) (length new) xs (scan false 0 0)
+from-first ds new xs z s e q = q ∙ ap (λ (v : Scan). checkAll (length ds) (length new) xs v) e
+
 module _ (ds ns ts new od oe ot : List ℕ) (xs : List Replacement) (s : Scan) (scanned : s ≡ checkAll (length ds) (length new) xs (scan false 0 0)) where
   fault : cond (s .bad) 8 0 ≡ recordsFault 0 (length ds) (length new) xs
   fault = ap (λ (w : Scan). cond (w .bad) 8 0) scanned ∙ eight (length ds) (length new) xs (scan false 0 0) refl

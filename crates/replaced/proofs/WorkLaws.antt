@@ -1,4 +1,4 @@
--- All turns together. With room: each may be made, and after the last one nothing but the rest of the content is to come (`PlanLaws.State`). Refused: each may be made, and nothing has moved.
+-- One turn, all turns together, and the end. With room: each may be made, and after the last one nothing but the rest of the content is to come (`PlanLaws.State`). Refused: each may be made, and nothing has moved.
 use mathlib.Core.Path.{_≡_, refl, sym, ap, subst, _∙_}
 use mathlib.Core.List.{List, [], _∷_}
 use Prim.Native.Nat.{ℕ}
@@ -17,8 +17,9 @@ use Rattle.writer.specs.Write.{Out, out, add, Fits}
 use Rattle.writer.specs.Sizes.{settledFault}
 use Rattle.layout.specs.declared.Replacement.{Replacement}
 use Rattle.layout.specs.Layout.{replaceOps}
+use Rattle.replace.specs.Turn.{Turned}
 use Rattle.replace.proofs.PlanLaws as plan
-use Rattle.replaced.specs.Work.{World, outOf, rest, MayTurn, TurnOf, MayTurns, Turns, Last, Ended}
+use Rattle.replaced.specs.Work.{World, world, outOf, rest, MayTurn, TurnOf, MayTurns, Turns, Last, Ended}
 
 pub refused-is : (v : Settled) (f : Refusal) → v ≡ S.Refused f → settledFault v ≡ numberOf f
 unfolding settledFault
@@ -39,7 +40,16 @@ same-refusal f g e = ap answered e
     answered (S.Refused h) = Refused h
     answered S.Room = Refused f
 
--- ── with room
+-- ── one turn
+module _ (ds ns ts new : List ℕ) (x : Replacement) (w : World) where
+  pub turn-none : (f : Refusal) → w .work .verdict ≡ S.Refused f → TurnOf ds ns ts new x w w
+  turn-none f e = record { verdict = refl; turned = λ r. absurd (not-both (w .work .verdict) f r e); still = λ g q. refl }
+
+  pub turn-made : w .work .verdict ≡ S.Room → (c : Cursor) (od oe ot : List ℕ) → Turned ds ns ts new x (w .work .cursor) c (outOf w) (out od oe ot c)
+      → TurnOf ds ns ts new x w (world (record { verdict = S.Room; cursor = c }) od oe ot)
+  turn-made r c od oe ot t = record { verdict = sym r; turned = λ _. t; still = λ g q. absurd (not-both (w .work .verdict) g r q) }
+
+-- ── all turns with room
 module _ (ds ns ts new : List ℕ) (all : List Replacement) (o : Out) (room : Fits (edit (replaceOps new 0 all) (items (recording ds ns ts))) o) where
   abbrev At : List Replacement → World → Type 0
   At xs w = plan.State ds ns ts new all xs o (outOf w) (w .work .cursor)
@@ -69,7 +79,7 @@ module _ (ds ns ts new : List ℕ) (all : List Replacement) (o : Out) (room : Fi
   pub all-wrote : (w : World) (o′ : Out) → At [] w → o′ ≡ add (rest ds ns ts (w .work .cursor)) (outOf w) → o′ ≡ add (edit (replaceOps new 0 all) (items (recording ds ns ts))) o
   all-wrote w o′ s e = plan.finish ds ns ts new all [] o (outOf w) (w .work .cursor) s room refl o′ e
 
--- ── refused
+-- ── all turns of a refused call
 module _ (ds ns ts new : List ℕ) (f : Refusal) where
   pub may-none : (xs : List Replacement) (w : World) → w .work .verdict ≡ S.Refused f → MayTurns ds ns ts new xs w
   unfolding MayTurns MayTurn

@@ -129,15 +129,13 @@ pub fn write_turn(
     let v = w.verdict;
     match v {
         Settled::Refused(f) => {
-            return Work {
-                verdict: Settled::Refused(f),
-                cursor: w.cursor,
-            };
+            return w;
         }
         Settled::Room => {}
     }
+    let at = w.cursor;
     let c = write_step(
-        w.cursor,
+        at,
         x,
         content,
         entries,
