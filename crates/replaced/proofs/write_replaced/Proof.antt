@@ -118,7 +118,7 @@ fnX = record {
   lifetimes = 8;
   outlives = [];
   params = 8;
-  locals = local Answer-l.mir valueLocal ∷ local (sliceTy (tyRef (named 0) imm (tyInt w8))) valueLocal ∷ local (sliceTy (tyRef (named 1) imm (tyInt w32))) valueLocal ∷ local (sliceTy (tyRef (named 2) imm (tyInt w8))) valueLocal ∷ local (sliceTy (tyRef (named 3) imm (pointee (row-Replacement .written)))) valueLocal ∷ local (sliceTy (tyRef (named 4) imm (tyInt w8))) valueLocal ∷ local (sliceTy (tyRef (named 5) mut (tyInt w8))) valueLocal ∷ local (sliceTy (tyRef (named 6) mut (tyInt w32))) valueLocal ∷ local (sliceTy (tyRef (named 7) mut (tyInt w8))) valueLocal ∷ local Scan-l.mir valueLocal ∷ local Work-l.mir valueLocal ∷ local Work-l.mir valueLocal ∷ local Scan-l.mir valueLocal ∷ local word valueLocal ∷ local word valueLocal ∷ local word valueLocal ∷ local word valueLocal ∷ local word valueLocal ∷ local (tyRef erased mut (tyInt w8)) valueLocal ∷ local (sliceTy (tyRef erased mut (tyInt w8))) valueLocal ∷ local (tyRef erased mut (tyInt w32)) valueLocal ∷ local (sliceTy (tyRef erased mut (tyInt w32))) valueLocal ∷ local (tyRef erased mut (tyInt w8)) valueLocal ∷ local (sliceTy (tyRef erased mut (tyInt w8))) valueLocal ∷ local (tyRef erased mut (tyInt w8)) valueLocal ∷ local (sliceTy (tyRef erased mut (tyInt w8))) valueLocal ∷ local (tyRef erased mut (tyInt w32)) valueLocal ∷ local (sliceTy (tyRef erased mut (tyInt w32))) valueLocal ∷ local (tyRef erased mut (tyInt w8)) valueLocal ∷ local (sliceTy (tyRef erased mut (tyInt w8))) valueLocal ∷ [];
+  locals = local Answer-l.mir valueLocal ∷ local (sliceTy (tyRef (named 0) imm (tyInt w8))) valueLocal ∷ local (sliceTy (tyRef (named 1) imm (tyInt w32))) valueLocal ∷ local (sliceTy (tyRef (named 2) imm (tyInt w8))) valueLocal ∷ local (sliceTy (tyRef (named 3) imm (pointee (row-Replacement .written)))) valueLocal ∷ local (sliceTy (tyRef (named 4) imm (tyInt w8))) valueLocal ∷ local (sliceTy (tyRef (named 5) mut (tyInt w8))) valueLocal ∷ local (sliceTy (tyRef (named 6) mut (tyInt w32))) valueLocal ∷ local (sliceTy (tyRef (named 7) mut (tyInt w8))) valueLocal ∷ local Scan-l.mir valueLocal ∷ local Work-l.mir valueLocal ∷ local Work-l.mir valueLocal ∷ local Scan-l.mir valueLocal ∷ local word valueLocal ∷ local word valueLocal ∷ local word valueLocal ∷ local (tyRef erased mut (tyInt w8)) valueLocal ∷ local (sliceTy (tyRef erased mut (tyInt w8))) valueLocal ∷ local (tyRef erased mut (tyInt w32)) valueLocal ∷ local (sliceTy (tyRef erased mut (tyInt w32))) valueLocal ∷ local (tyRef erased mut (tyInt w8)) valueLocal ∷ local (sliceTy (tyRef erased mut (tyInt w8))) valueLocal ∷ local (tyRef erased mut (tyInt w8)) valueLocal ∷ local (sliceTy (tyRef erased mut (tyInt w8))) valueLocal ∷ local (tyRef erased mut (tyInt w32)) valueLocal ∷ local (sliceTy (tyRef erased mut (tyInt w32))) valueLocal ∷ local (tyRef erased mut (tyInt w8)) valueLocal ∷ local (sliceTy (tyRef erased mut (tyInt w8))) valueLocal ∷ [];
   body = body.t-1;
 }
 
@@ -319,51 +319,50 @@ module _ {M : Type 1} (𝓤 : URA M) (H : Heap 𝓤) (A : Atoms 𝓤) (W : Given
       move ! (5 ∷ 0 ∷ []) $ fjoin ! $ move ! (4 ∷ 0 ∷ []) $ fjoin ! $ move ! (3 ∷ 0 ∷ []) $ fjoin ! $ move ! (2 ∷ 0 ∷ []) $ fjoin ! $ move ! (1 ∷ 0 ∷ []) $ fjoin ! $
       owned ! row-Work (Is row-Work) (LL.makes Work-m.the-type Work-l.the-plain 𝓤 H A) w (mach-Work w ∷ []) g-w $ fjoin ! $ done !
 
-  module _ (𝓣 : Tables 𝓤 H) (fm : FmC 𝓤 H (W .laws) (𝓣 .C)) (known-check-each : Triple 𝓤 (𝓣 .C #replaced·check-each) (C-check-each 𝓤 H A mem run)) (known-finish : Triple 𝓤 (𝓣 .C #replaced·finish) (C-finish 𝓤 H A mem run)) (known-first : Triple 𝓤 (𝓣 .C #replaced·first) (C-first 𝓤 H A mem run)) (known-plan : Triple 𝓤 (𝓣 .C #replaced·plan) (C-plan 𝓤 H A mem run)) (known-write-each : Triple 𝓤 (𝓣 .C #replaced·write-each) (C-write-each 𝓤 H A mem run)) (room-content : Room u8 (length content)) (room-entries : Room u32 (length entries)) (room-text : Room u8 (length text)) (room-records : Room row-Replacement (length records)) (room-new : Room u8 (length new)) (room-bytes : Room u8 (length bytes0)) (room-numbers : Room u32 (length numbers0)) (room-texts : Room u8 (length texts0)) (l0 l1 l2 l3 l4 l5 l6 l7 l8 l9 l10 l11 l12 l13 l14 l15 l16 l17 l18 l19 l20 l21 l22 l23 l24 l25 l26 l27 l28 l29 : ℕ) where
+  module _ (𝓣 : Tables 𝓤 H) (fm : FmC 𝓤 H (W .laws) (𝓣 .C)) (known-check-each : Triple 𝓤 (𝓣 .C #replaced·check-each) (C-check-each 𝓤 H A mem run)) (known-finish : Triple 𝓤 (𝓣 .C #replaced·finish) (C-finish 𝓤 H A mem run)) (known-first : Triple 𝓤 (𝓣 .C #replaced·first) (C-first 𝓤 H A mem run)) (known-plan : Triple 𝓤 (𝓣 .C #replaced·plan) (C-plan 𝓤 H A mem run)) (known-write-each : Triple 𝓤 (𝓣 .C #replaced·write-each) (C-write-each 𝓤 H A mem run)) (room-content : Room u8 (length content)) (room-entries : Room u32 (length entries)) (room-text : Room u8 (length text)) (room-records : Room row-Replacement (length records)) (room-new : Room u8 (length new)) (room-bytes : Room u8 (length bytes0)) (room-numbers : Room u32 (length numbers0)) (room-texts : Room u8 (length texts0)) (l0 l1 l2 l3 l4 l5 l6 l7 l8 l9 l10 l11 l12 l13 l14 l15 l16 l17 l18 l19 l20 l21 l22 l23 l24 l25 l26 l27 : ℕ) where
     abbrev En : Env 𝓤 H
-    En = (Answer-l.mir, l0) ∷ (sliceTy (tyRef (named 0) imm (tyInt w8)), l1) ∷ (sliceTy (tyRef (named 1) imm (tyInt w32)), l2) ∷ (sliceTy (tyRef (named 2) imm (tyInt w8)), l3) ∷ (sliceTy (tyRef (named 3) imm (pointee (row-Replacement .written))), l4) ∷ (sliceTy (tyRef (named 4) imm (tyInt w8)), l5) ∷ (sliceTy (tyRef (named 5) mut (tyInt w8)), l6) ∷ (sliceTy (tyRef (named 6) mut (tyInt w32)), l7) ∷ (sliceTy (tyRef (named 7) mut (tyInt w8)), l8) ∷ (Scan-l.mir, l9) ∷ (Work-l.mir, l10) ∷ (Work-l.mir, l11) ∷ (Scan-l.mir, l12) ∷ (word, l13) ∷ (word, l14) ∷ (word, l15) ∷ (word, l16) ∷ (word, l17) ∷ (tyRef erased mut (tyInt w8), l18) ∷ (sliceTy (tyRef erased mut (tyInt w8)), l19) ∷ (tyRef erased mut (tyInt w32), l20) ∷ (sliceTy (tyRef erased mut (tyInt w32)), l21) ∷ (tyRef erased mut (tyInt w8), l22) ∷ (sliceTy (tyRef erased mut (tyInt w8)), l23) ∷ (tyRef erased mut (tyInt w8), l24) ∷ (sliceTy (tyRef erased mut (tyInt w8)), l25) ∷ (tyRef erased mut (tyInt w32), l26) ∷ (sliceTy (tyRef erased mut (tyInt w32)), l27) ∷ (tyRef erased mut (tyInt w8), l28) ∷ (sliceTy (tyRef erased mut (tyInt w8)), l29) ∷ []
+    En = (Answer-l.mir, l0) ∷ (sliceTy (tyRef (named 0) imm (tyInt w8)), l1) ∷ (sliceTy (tyRef (named 1) imm (tyInt w32)), l2) ∷ (sliceTy (tyRef (named 2) imm (tyInt w8)), l3) ∷ (sliceTy (tyRef (named 3) imm (pointee (row-Replacement .written))), l4) ∷ (sliceTy (tyRef (named 4) imm (tyInt w8)), l5) ∷ (sliceTy (tyRef (named 5) mut (tyInt w8)), l6) ∷ (sliceTy (tyRef (named 6) mut (tyInt w32)), l7) ∷ (sliceTy (tyRef (named 7) mut (tyInt w8)), l8) ∷ (Scan-l.mir, l9) ∷ (Work-l.mir, l10) ∷ (Work-l.mir, l11) ∷ (Scan-l.mir, l12) ∷ (word, l13) ∷ (word, l14) ∷ (word, l15) ∷ (tyRef erased mut (tyInt w8), l16) ∷ (sliceTy (tyRef erased mut (tyInt w8)), l17) ∷ (tyRef erased mut (tyInt w32), l18) ∷ (sliceTy (tyRef erased mut (tyInt w32)), l19) ∷ (tyRef erased mut (tyInt w8), l20) ∷ (sliceTy (tyRef erased mut (tyInt w8)), l21) ∷ (tyRef erased mut (tyInt w8), l22) ∷ (sliceTy (tyRef erased mut (tyInt w8)), l23) ∷ (tyRef erased mut (tyInt w32), l24) ∷ (sliceTy (tyRef erased mut (tyInt w32)), l25) ∷ (tyRef erased mut (tyInt w8), l26) ∷ (sliceTy (tyRef erased mut (tyInt w8)), l27) ∷ []
 
     -- from the call of `finish` on
     abbrev At-5 : (z : Scan) (g-z : Is row-Scan z (mach-Scan z ∷ [])) (E-z : z ≡ scan false 0 0) (s : Scan) (g-s : Is row-Scan s (mach-Scan s ∷ [])) (E-s : s ≡ checkAll (length content) (length new) records z) (p : Work) (g-p : Is row-Work p (mach-Work p ∷ [])) (E-p : (settledFault (p .verdict) ≡ planFault content entries text s (roomOf (length bytes0) (length numbers0) (length texts0) 0)) × (p .cursor ≡ atStart)) (w : Work) (bytes4 : List ℕ) (numbers4 : List ℕ) (texts4 : List ℕ) (g-w : Is row-Work w (mach-Work w ∷ [])) (len-bytes4 : length bytes4 ≡ length bytes0) (len-numbers4 : length numbers4 ≡ length numbers0) (len-texts4 : length texts4 ≡ length texts0) (E-w : Turns content entries text new records (world p bytes0 numbers0 texts0) (world w bytes4 numbers4 texts4)) → List (Item 𝓤)
     At-5 z g-z E-z s g-s E-s p g-p E-p w bytes4 numbers4 texts4 g-w len-bytes4 len-numbers4 len-texts4 E-w =
-        ‵ (froom (sliceTy (tyRef erased mut (tyInt w8))) l29 0) ∷ ‵ (fdies (sliceTy (tyRef erased mut (tyInt w8))) l29) ∷ ‵ (froom (tyRef erased mut (tyInt w8)) l28 0) ∷ ‵ (fdies (tyRef erased mut (tyInt w8)) l28) ∷ ‵ (froom (sliceTy (tyRef erased mut (tyInt w32))) l27 0) ∷ ‵ (fdies (sliceTy (tyRef erased mut (tyInt w32))) l27) ∷ ‵ (froom (tyRef erased mut (tyInt w32)) l26 0) ∷ ‵ (fdies (tyRef erased mut (tyInt w32)) l26)
-        ∷ ‵ (froom (sliceTy (tyRef erased mut (tyInt w8))) l25 0) ∷ ‵ (fdies (sliceTy (tyRef erased mut (tyInt w8))) l25) ∷ ‵ (froom (tyRef erased mut (tyInt w8)) l24 0) ∷ ‵ (fdies (tyRef erased mut (tyInt w8)) l24) ∷ ‵ (froom (sliceTy (tyRef erased mut (tyInt w8))) l23 0) ∷ ‵ (fdies (sliceTy (tyRef erased mut (tyInt w8))) l23) ∷ ‵ (froom (tyRef erased mut (tyInt w8)) l22 0) ∷ ‵ (fdies (tyRef erased mut (tyInt w8)) l22)
-        ∷ ‵ (froom (sliceTy (tyRef erased mut (tyInt w32))) l21 0) ∷ ‵ (fdies (sliceTy (tyRef erased mut (tyInt w32))) l21) ∷ ‵ (froom (tyRef erased mut (tyInt w32)) l20 0) ∷ ‵ (fdies (tyRef erased mut (tyInt w32)) l20) ∷ ‵ (froom (sliceTy (tyRef erased mut (tyInt w8))) l19 0) ∷ ‵ (fdies (sliceTy (tyRef erased mut (tyInt w8))) l19) ∷ ‵ (froom (tyRef erased mut (tyInt w8)) l18 0) ∷ ‵ (fdies (tyRef erased mut (tyInt w8)) l18)
-        ∷ ‵ (froom word l17 0) ∷ ‵ (fdies word l17) ∷ ‵ (froom word l16 0) ∷ ‵ (fdies word l16) ∷ ‵ (froom word l15 0) ∷ ‵ (fdies word l15) ∷ ‵ (froom word l14 0) ∷ ‵ (fdies word l14)
-        ∷ ‵ (froom word l13 0) ∷ ‵ (fdies word l13) ∷ ‵ (fat fullShare Scan-l.mir l12 0 (mach-Scan z)) ∷ ‵ (fdies Scan-l.mir l12) ∷ ‵ (fat fullShare Work-l.mir l11 0 (mach-Work w)) ∷ ‵ (fdies Work-l.mir l11) ∷ ‵ (fat fullShare Work-l.mir l10 0 (mach-Work p)) ∷ ‵ (fdies Work-l.mir l10)
-        ∷ ‵ (fat fullShare Scan-l.mir l9 0 (mach-Scan s)) ∷ ‵ (fdies Scan-l.mir l9) ∷ ‵ (fat fullShare (sliceTy (tyRef (named 7) mut (tyInt w8))) l8 0 v-texts) ∷ ‵ (fdies (sliceTy (tyRef (named 7) mut (tyInt w8))) l8) ∷ ‵ (fat fullShare (sliceTy (tyRef (named 6) mut (tyInt w32))) l7 0 v-numbers) ∷ ‵ (fdies (sliceTy (tyRef (named 6) mut (tyInt w32))) l7) ∷ ‵ (fat fullShare (sliceTy (tyRef (named 5) mut (tyInt w8))) l6 0 v-bytes) ∷ ‵ (fdies (sliceTy (tyRef (named 5) mut (tyInt w8))) l6)
-        ∷ ‵ (fat fullShare (sliceTy (tyRef (named 4) imm (tyInt w8))) l5 0 v-new) ∷ ‵ (fdies (sliceTy (tyRef (named 4) imm (tyInt w8))) l5) ∷ ‵ (fat fullShare (sliceTy (tyRef (named 3) imm (pointee (row-Replacement .written)))) l4 0 v-records) ∷ ‵ (fdies (sliceTy (tyRef (named 3) imm (pointee (row-Replacement .written)))) l4) ∷ ‵ (fat fullShare (sliceTy (tyRef (named 2) imm (tyInt w8))) l3 0 v-text) ∷ ‵ (fdies (sliceTy (tyRef (named 2) imm (tyInt w8))) l3) ∷ ‵ (fat fullShare (sliceTy (tyRef (named 1) imm (tyInt w32))) l2 0 v-entries) ∷ ‵ (fdies (sliceTy (tyRef (named 1) imm (tyInt w32))) l2)
-        ∷ ‵ (fat fullShare (sliceTy (tyRef (named 0) imm (tyInt w8))) l1 0 v-content) ∷ ‵ (fdies (sliceTy (tyRef (named 0) imm (tyInt w8))) l1) ∷ ‵ (froom Answer-l.mir l0 0) ∷ ‵ (fdies Answer-l.mir l0)
+        ‵ (froom (sliceTy (tyRef erased mut (tyInt w8))) l27 0) ∷ ‵ (fdies (sliceTy (tyRef erased mut (tyInt w8))) l27) ∷ ‵ (froom (tyRef erased mut (tyInt w8)) l26 0) ∷ ‵ (fdies (tyRef erased mut (tyInt w8)) l26) ∷ ‵ (froom (sliceTy (tyRef erased mut (tyInt w32))) l25 0) ∷ ‵ (fdies (sliceTy (tyRef erased mut (tyInt w32))) l25) ∷ ‵ (froom (tyRef erased mut (tyInt w32)) l24 0) ∷ ‵ (fdies (tyRef erased mut (tyInt w32)) l24)
+        ∷ ‵ (froom (sliceTy (tyRef erased mut (tyInt w8))) l23 0) ∷ ‵ (fdies (sliceTy (tyRef erased mut (tyInt w8))) l23) ∷ ‵ (froom (tyRef erased mut (tyInt w8)) l22 0) ∷ ‵ (fdies (tyRef erased mut (tyInt w8)) l22) ∷ ‵ (froom (sliceTy (tyRef erased mut (tyInt w8))) l21 0) ∷ ‵ (fdies (sliceTy (tyRef erased mut (tyInt w8))) l21) ∷ ‵ (froom (tyRef erased mut (tyInt w8)) l20 0) ∷ ‵ (fdies (tyRef erased mut (tyInt w8)) l20)
+        ∷ ‵ (froom (sliceTy (tyRef erased mut (tyInt w32))) l19 0) ∷ ‵ (fdies (sliceTy (tyRef erased mut (tyInt w32))) l19) ∷ ‵ (froom (tyRef erased mut (tyInt w32)) l18 0) ∷ ‵ (fdies (tyRef erased mut (tyInt w32)) l18) ∷ ‵ (froom (sliceTy (tyRef erased mut (tyInt w8))) l17 0) ∷ ‵ (fdies (sliceTy (tyRef erased mut (tyInt w8))) l17) ∷ ‵ (froom (tyRef erased mut (tyInt w8)) l16 0) ∷ ‵ (fdies (tyRef erased mut (tyInt w8)) l16)
+        ∷ ‵ (froom word l15 0) ∷ ‵ (fdies word l15) ∷ ‵ (froom word l14 0) ∷ ‵ (fdies word l14) ∷ ‵ (froom word l13 0) ∷ ‵ (fdies word l13) ∷ ‵ (fat fullShare Scan-l.mir l12 0 (mach-Scan z)) ∷ ‵ (fdies Scan-l.mir l12)
+        ∷ ‵ (fat fullShare Work-l.mir l11 0 (mach-Work w)) ∷ ‵ (fdies Work-l.mir l11) ∷ ‵ (fat fullShare Work-l.mir l10 0 (mach-Work p)) ∷ ‵ (fdies Work-l.mir l10) ∷ ‵ (fat fullShare Scan-l.mir l9 0 (mach-Scan s)) ∷ ‵ (fdies Scan-l.mir l9) ∷ ‵ (fat fullShare (sliceTy (tyRef (named 7) mut (tyInt w8))) l8 0 v-texts) ∷ ‵ (fdies (sliceTy (tyRef (named 7) mut (tyInt w8))) l8)
+        ∷ ‵ (fat fullShare (sliceTy (tyRef (named 6) mut (tyInt w32))) l7 0 v-numbers) ∷ ‵ (fdies (sliceTy (tyRef (named 6) mut (tyInt w32))) l7) ∷ ‵ (fat fullShare (sliceTy (tyRef (named 5) mut (tyInt w8))) l6 0 v-bytes) ∷ ‵ (fdies (sliceTy (tyRef (named 5) mut (tyInt w8))) l6) ∷ ‵ (fat fullShare (sliceTy (tyRef (named 4) imm (tyInt w8))) l5 0 v-new) ∷ ‵ (fdies (sliceTy (tyRef (named 4) imm (tyInt w8))) l5) ∷ ‵ (fat fullShare (sliceTy (tyRef (named 3) imm (pointee (row-Replacement .written)))) l4 0 v-records) ∷ ‵ (fdies (sliceTy (tyRef (named 3) imm (pointee (row-Replacement .written)))) l4)
+        ∷ ‵ (fat fullShare (sliceTy (tyRef (named 2) imm (tyInt w8))) l3 0 v-text) ∷ ‵ (fdies (sliceTy (tyRef (named 2) imm (tyInt w8))) l3) ∷ ‵ (fat fullShare (sliceTy (tyRef (named 1) imm (tyInt w32))) l2 0 v-entries) ∷ ‵ (fdies (sliceTy (tyRef (named 1) imm (tyInt w32))) l2) ∷ ‵ (fat fullShare (sliceTy (tyRef (named 0) imm (tyInt w8))) l1 0 v-content) ∷ ‵ (fdies (sliceTy (tyRef (named 0) imm (tyInt w8))) l1) ∷ ‵ (froom Answer-l.mir l0 0) ∷ ‵ (fdies Answer-l.mir l0)
         ∷ Tail bytes4 numbers4 texts4
 
     part-5 : (z : Scan) (g-z : Is row-Scan z (mach-Scan z ∷ [])) (E-z : z ≡ scan false 0 0) (s : Scan) (g-s : Is row-Scan s (mach-Scan s ∷ [])) (E-s : s ≡ checkAll (length content) (length new) records z) (p : Work) (g-p : Is row-Work p (mach-Work p ∷ [])) (E-p : (settledFault (p .verdict) ≡ planFault content entries text s (roomOf (length bytes0) (length numbers0) (length texts0) 0)) × (p .cursor ≡ atStart)) (w : Work) (bytes4 : List ℕ) (numbers4 : List ℕ) (texts4 : List ℕ) (g-w : Is row-Work w (mach-Work w ∷ [])) (len-bytes4 : length bytes4 ≡ length bytes0) (len-numbers4 : length numbers4 ≡ length numbers0) (len-texts4 : length texts4 ≡ length texts0) (E-w : Turns content entries text new records (world p bytes0 numbers0 texts0) (world w bytes4 numbers4 texts4)) → ent 𝓤 (⋆ 𝓤 H A (At-5 z g-z E-z s g-s E-s p g-p E-p w bytes4 numbers4 texts4 g-w len-bytes4 len-numbers4 len-texts4 E-w)) (Wp 𝓤 H (𝓣 .C) (𝓣 .Λ) En body.t-16 (atReturn 𝓤 H En Post))
     part-5 z g-z E-z s g-s E-s p g-p E-p w bytes4 numbers4 texts4 g-w len-bytes4 len-numbers4 len-texts4 E-w =
         qed W (At-5 z g-z E-z s g-s E-s p g-p E-p w bytes4 numbers4 texts4 g-w len-bytes4 len-numbers4 len-texts4 E-w) ∵ exec ! (𝓣 .C) (𝓣 .Λ) En body.t-16 (atRet En Post) $
-        assigns ! (addr ! (from ! (fld ! refl (hop ! (look-in ! 46 (sub ! 0 refl (whole !))) (stop !))))) (from ! (stop !)) (init ! 10 refl (tt, tt)) $
-        assigns ! (agg ! (and-then ! (load ! (from ! (stop !)) (look ! 10 refl)) (and-then ! (load ! (from ! (fld ! refl (stop !))) (look-in ! 46 (sub ! 1 refl (whole !)))) (no-more !)))) (from ! (stop !)) (init ! 8 refl (tt, (tt, (record { fits = room-bytes .0 }, tt)))) $
-        assigns ! (addr ! (from ! (fld ! refl (hop ! (look-in ! 44 (sub ! 0 refl (whole !))) (stop !))))) (from ! (stop !)) (init ! 6 refl (tt, tt)) $
-        assigns ! (agg ! (and-then ! (load ! (from ! (stop !)) (look ! 6 refl)) (and-then ! (load ! (from ! (fld ! refl (stop !))) (look-in ! 44 (sub ! 1 refl (whole !)))) (no-more !)))) (from ! (stop !)) (init ! 4 refl (tt, (tt, (record { fits = room-numbers .0 }, tt)))) $
-        assigns ! (addr ! (from ! (fld ! refl (hop ! (look-in ! 42 (sub ! 0 refl (whole !))) (stop !))))) (from ! (stop !)) (init ! 2 refl (tt, tt)) $
-        assigns ! (agg ! (and-then ! (load ! (from ! (stop !)) (look ! 2 refl)) (and-then ! (load ! (from ! (fld ! refl (stop !))) (look-in ! 42 (sub ! 1 refl (whole !)))) (no-more !)))) (from ! (stop !)) (init ! 0 refl (tt, (tt, (record { fits = room-texts .0 }, tt)))) $
+        assigns ! (addr ! (from ! (fld ! refl (hop ! (look-in ! 42 (sub ! 0 refl (whole !))) (stop !))))) (from ! (stop !)) (init ! 10 refl (tt, tt)) $
+        assigns ! (agg ! (and-then ! (load ! (from ! (stop !)) (look ! 10 refl)) (and-then ! (load ! (from ! (fld ! refl (stop !))) (look-in ! 42 (sub ! 1 refl (whole !)))) (no-more !)))) (from ! (stop !)) (init ! 8 refl (tt, (tt, (record { fits = room-bytes .0 }, tt)))) $
+        assigns ! (addr ! (from ! (fld ! refl (hop ! (look-in ! 40 (sub ! 0 refl (whole !))) (stop !))))) (from ! (stop !)) (init ! 6 refl (tt, tt)) $
+        assigns ! (agg ! (and-then ! (load ! (from ! (stop !)) (look ! 6 refl)) (and-then ! (load ! (from ! (fld ! refl (stop !))) (look-in ! 40 (sub ! 1 refl (whole !)))) (no-more !)))) (from ! (stop !)) (init ! 4 refl (tt, (tt, (record { fits = room-numbers .0 }, tt)))) $
+        assigns ! (addr ! (from ! (fld ! refl (hop ! (look-in ! 38 (sub ! 0 refl (whole !))) (stop !))))) (from ! (stop !)) (init ! 2 refl (tt, tt)) $
+        assigns ! (agg ! (and-then ! (load ! (from ! (stop !)) (look ! 2 refl)) (and-then ! (load ! (from ! (fld ! refl (stop !))) (look-in ! 38 (sub ! 1 refl (whole !)))) (no-more !)))) (from ! (stop !)) (init ! 0 refl (tt, (tt, (record { fits = room-texts .0 }, tt)))) $
         -- bytes is lent again
-        lft-new ! tt (λ ν-bytes. move ! (72 ∷ 71 ∷ []) $
+        lft-new ! tt (λ ν-bytes. move ! (68 ∷ 67 ∷ []) $
         use2 W (later (some (λ (δ : GName). ‵ (N-bytes ν-bytes δ bytes4) ⊛ ‵ (A-bytes ν-bytes δ bytes4)))) (lends-at u8 κ-bytes (ν-bytes ∷ []) q-bytes γ-bytes b-bytes o-bytes 𝓤 H A W (named 5) (named 5) bytes4 (length bytes0) len-bytes4) $ await ! tt $ pick ! (λ δ-bytes.
         split ! $
         -- numbers is lent again
-        lft-new ! tt (λ ν-numbers. move ! (75 ∷ 74 ∷ []) $
+        lft-new ! tt (λ ν-numbers. move ! (71 ∷ 70 ∷ []) $
         use2 W (later (some (λ (δ : GName). ‵ (N-numbers ν-numbers δ numbers4) ⊛ ‵ (A-numbers ν-numbers δ numbers4)))) (lends-at u32 κ-numbers (ν-numbers ∷ []) q-numbers γ-numbers b-numbers o-numbers 𝓤 H A W (named 6) (named 6) numbers4 (length numbers0) len-numbers4) $ await ! tt $ pick ! (λ δ-numbers.
         split ! $
         -- texts is lent again
-        lft-new ! tt (λ ν-texts. move ! (78 ∷ 77 ∷ []) $
+        lft-new ! tt (λ ν-texts. move ! (74 ∷ 73 ∷ []) $
         use2 W (later (some (λ (δ : GName). ‵ (N-texts ν-texts δ texts4) ⊛ ‵ (A-texts ν-texts δ texts4)))) (lends-at u8 κ-texts (ν-texts ∷ []) q-texts γ-texts b-texts o-texts 𝓤 H A W (named 7) (named 7) texts4 (length texts0) len-texts4) $ await ! tt $ pick ! (λ δ-texts.
-        split ! $ move ! (70 ∷ []) $ use1 W (‵ O-content ⊛ ‵ O-content) (shr-slice-copy 𝓤 H A W (named 0) κ-content u8 .twice x-content (v-content ∷ [])) $ split ! $ move ! (73 ∷ []) $
-        use1 W (‵ O-entries ⊛ ‵ O-entries) (shr-slice-copy 𝓤 H A W (named 1) κ-entries u32 .twice x-entries (v-entries ∷ [])) $ split ! $ move ! (76 ∷ []) $
+        split ! $ move ! (66 ∷ []) $ use1 W (‵ O-content ⊛ ‵ O-content) (shr-slice-copy 𝓤 H A W (named 0) κ-content u8 .twice x-content (v-content ∷ [])) $ split ! $ move ! (69 ∷ []) $
+        use1 W (‵ O-entries ⊛ ‵ O-entries) (shr-slice-copy 𝓤 H A W (named 1) κ-entries u32 .twice x-entries (v-entries ∷ [])) $ split ! $ move ! (72 ∷ []) $
         use1 W (‵ O-text ⊛ ‵ O-text) (shr-slice-copy 𝓤 H A W (named 2) κ-text u8 .twice x-text (v-text ∷ [])) $ split ! $
         -- the call
-        move ! (8 ∷ 6 ∷ []) $ join ! $ move ! (8 ∷ 0 ∷ []) $ join ! $ move ! (9 ∷ 0 ∷ []) $ join ! $ move ! (9 ∷ 0 ∷ []) $ join ! $ move ! (10 ∷ 0 ∷ []) $ join ! $ move ! (1 ∷ 0 ∷ []) $ join ! $ move ! (71 ∷ 0 ∷ []) $ join ! $
-        move ! (2 ∷ 0 ∷ []) $ join ! $ move ! (69 ∷ 0 ∷ []) $ join ! $ move ! (3 ∷ 0 ∷ []) $ join ! $ move ! (67 ∷ 0 ∷ []) $ join ! $
+        move ! (8 ∷ 6 ∷ []) $ join ! $ move ! (8 ∷ 0 ∷ []) $ join ! $ move ! (9 ∷ 0 ∷ []) $ join ! $ move ! (9 ∷ 0 ∷ []) $ join ! $ move ! (10 ∷ 0 ∷ []) $ join ! $ move ! (1 ∷ 0 ∷ []) $ join ! $ move ! (67 ∷ 0 ∷ []) $ join ! $
+        move ! (2 ∷ 0 ∷ []) $ join ! $ move ! (65 ∷ 0 ∷ []) $ join ! $ move ! (3 ∷ 0 ∷ []) $ join ! $ move ! (63 ∷ 0 ∷ []) $ join ! $
         use1 W (raw (C-finish 𝓤 H A mem run .pre (to-5 room-content room-entries room-text room-records room-new room-bytes room-numbers room-texts z g-z E-z s g-s E-s p g-p E-p w bytes4 numbers4 texts4 g-w len-bytes4 len-numbers4 len-texts4 E-w ν-bytes δ-bytes ν-numbers δ-numbers ν-texts δ-texts))) (goes-5 room-content room-entries room-text room-records room-new room-bytes room-numbers room-texts z g-z E-z s g-s E-s p g-p E-p w bytes4 numbers4 texts4 g-w len-bytes4 len-numbers4 len-texts4 E-w ν-bytes δ-bytes ν-numbers δ-numbers ν-texts δ-texts) $
-        calls-at ! fm (C-finish 𝓤 H A mem run) known-finish (to-5 room-content room-entries room-text room-records room-new room-bytes room-numbers room-texts z g-z E-z s g-s E-s p g-p E-p w bytes4 numbers4 texts4 g-w len-bytes4 len-numbers4 len-texts4 E-w ν-bytes δ-bytes ν-numbers δ-numbers ν-texts δ-texts) (and-then ! (load ! (from ! (stop !)) (look ! 43 refl)) (and-then ! (load ! (from ! (stop !)) (look ! 63 refl)) (and-then ! (load ! (from ! (stop !)) (look ! 61 refl)) (and-then ! (load ! (from ! (stop !)) (look ! 59 refl)) (and-then ! (load ! (from ! (stop !)) (look ! 15 refl)) (and-then ! (load ! (from ! (stop !)) (look ! 11 refl)) (and-then ! (load ! (from ! (stop !)) (look ! 7 refl)) (no-more !)))))))) (λ u.
+        calls-at ! fm (C-finish 𝓤 H A mem run) known-finish (to-5 room-content room-entries room-text room-records room-new room-bytes room-numbers room-texts z g-z E-z s g-s E-s p g-p E-p w bytes4 numbers4 texts4 g-w len-bytes4 len-numbers4 len-texts4 E-w ν-bytes δ-bytes ν-numbers δ-numbers ν-texts δ-texts) (and-then ! (load ! (from ! (stop !)) (look ! 39 refl)) (and-then ! (load ! (from ! (stop !)) (look ! 59 refl)) (and-then ! (load ! (from ! (stop !)) (look ! 57 refl)) (and-then ! (load ! (from ! (stop !)) (look ! 55 refl)) (and-then ! (load ! (from ! (stop !)) (look ! 15 refl)) (and-then ! (load ! (from ! (stop !)) (look ! 11 refl)) (and-then ! (load ! (from ! (stop !)) (look ! 7 refl)) (no-more !)))))))) (λ u.
         use1 W (later (some (λ (r : Answer). ((‵ (flft κ-content q-content) ⊛ (‵ (flft κ-entries q-entries) ⊛ (‵ (flft κ-text q-text) ⊛ (‵ (flft (ν-bytes ∷ []) fullShare) ⊛ (‵ (flft (ν-numbers ∷ []) fullShare) ⊛ (‵ (flft (ν-texts ∷ []) fullShare) ⊛ (‵ ftrue))))))) ⊛ ‵ (row-Answer .own r (u ∷ []))) ⊛ raw (ensured 𝓤 H A finish.ended (finish.clauses 𝓤 H A mem run) (κ-content, (κ-entries, (κ-text, (ν-bytes ∷ [], (ν-numbers ∷ [], (ν-texts ∷ [], tt)))))) (w, (x-content, (x-entries, (x-text, (x-bytes δ-bytes bytes4, (x-numbers δ-numbers numbers4, (x-texts δ-texts texts4, tt))))))) tt r)))) (id⊢ 𝓤 _) $ await ! tt $ pick ! (λ r.
         split ! $ move ! (1 ∷ []) $
         use1 W (some (λ (zs : Unit {0} × (Unit {0} × (Unit {0} × (Unit {0} × (List ℕ × (List ℕ × (List ℕ × (Unit {0})))))))). ‵ (lasts finish.ended (κ-content, (κ-entries, (κ-text, (ν-bytes ∷ [], (ν-numbers ∷ [], (ν-texts ∷ [], tt)))))) (w, (x-content, (x-entries, (x-text, (x-bytes δ-bytes bytes4, (x-numbers δ-numbers numbers4, (x-texts δ-texts texts4, tt))))))) zs) ⊛ (raw (fact 𝓤 (Ended content entries text (world w bytes4 numbers4 texts4) r (zs .1 .1 .1 .1 .0) (zs .1 .1 .1 .1 .1 .0) (zs .1 .1 .1 .1 .1 .1 .0)))))) (id⊢ 𝓤 _) $ pick ! (λ zs.
@@ -371,7 +370,7 @@ module _ {M : Type 1} (𝓤 : URA M) (H : Heap 𝓤) (A : Atoms 𝓤) (W : Given
         fsplit ! $ drop ! $ fsplit ! $ drop ! $ fsplit ! $ fsplit ! $ move ! (1 ∷ []) $ feqL ! (λ d-bytes. move ! (1 ∷ []) $ fsplit ! $ fsplit ! $ move ! (1 ∷ []) $ feqL ! (λ d-numbers. move ! (1 ∷ []) $ fsplit ! $ fsplit ! $
         move ! (1 ∷ []) $ feqL ! (λ d-texts. move ! (1 ∷ []) $ drop ! $ move ! (3 ∷ []) $ split ! $ split ! $ move ! (1 ∷ []) $ split ! $ move ! (1 ∷ []) $ split ! $ move ! (1 ∷ []) $ split ! $ move ! (1 ∷ []) $ split ! $
         move ! (1 ∷ []) $ split ! $ move ! (1 ∷ []) $ drop ! $ move ! (6 ∷ []) $ peeks ! row-Answer (Is row-Answer) (shows 𝓤 H A row-Answer) r (u ∷ []) (λ is.
-        land ! (from ! (stop !)) (init ! 74 refl (EL.lawful Answer-m.the-type Answer-l.the-laws 𝓤 H A W tt .typed r _ is .0)) $
+        land ! (from ! (stop !)) (init ! 70 refl (EL.lawful Answer-m.the-type Answer-l.the-laws 𝓤 H A W tt .typed r _ is .0)) $
         -- bytes comes back
         move ! (3 ∷ []) $ lft-end ! tt $ move ! (0 ∷ 15 ∷ 9 ∷ []) $
         use3 W (later (‵ (O-bytes (zs .1 .1 .1 .1 .0)) ⊛ ‵ (flft κ-bytes q-bytes))) (back-at u8 κ-bytes (ν-bytes ∷ []) q-bytes γ-bytes b-bytes o-bytes 𝓤 H A W (named 5) (named 5) bytes4 δ-bytes (zs .1 .1 .1 .1 .0) (length bytes0) len-bytes4 room-bytes d-bytes) $ await ! tt $
@@ -385,59 +384,58 @@ module _ {M : Type 1} (𝓤 : URA M) (H : Heap 𝓤) (A : Atoms 𝓤) (W : Given
         use3 W (later (‵ (O-texts (zs .1 .1 .1 .1 .1 .1 .0)) ⊛ ‵ (flft κ-texts q-texts))) (back-at u8 κ-texts (ν-texts ∷ []) q-texts γ-texts b-texts o-texts 𝓤 H A W (named 7) (named 7) texts4 δ-texts (zs .1 .1 .1 .1 .1 .1 .0) (length texts0) len-texts4 room-texts d-texts) $ await ! tt $
         split ! $ forget ! 23 refl $ forget ! 21 refl $ forget ! 19 refl $ forget ! 17 refl $ forget ! 15 refl $ forget ! 13 refl $
         -- the end
-        returns ! (look ! 71 refl) $ forget ! 71 refl $ forget ! 69 refl $ forget ! 67 refl $ forget ! 65 refl $ forget ! 63 refl $ forget ! 61 refl $ forget ! 59 refl $ forget ! 57 refl $ forget ! 55 refl $ forget ! 53 refl $
-        forget ! 51 refl $ forget ! 49 refl $ forget ! 47 refl $ move ! (71 ∷ 72 ∷ []) $ free1 ! $ move ! (69 ∷ 70 ∷ []) $ free1 ! $ move ! (67 ∷ 68 ∷ []) $ free1 ! $ move ! (65 ∷ 66 ∷ []) $ free1 ! $ move ! (63 ∷ 64 ∷ []) $
-        free1 ! $ move ! (61 ∷ 62 ∷ []) $ free1 ! $ move ! (59 ∷ 60 ∷ []) $ free1 ! $ move ! (57 ∷ 58 ∷ []) $ free1 ! $ move ! (55 ∷ 56 ∷ []) $ free1 ! $ move ! (53 ∷ 54 ∷ []) $ free1 ! $ move ! (51 ∷ 52 ∷ []) $ free1 ! $
-        move ! (49 ∷ 50 ∷ []) $ free1 ! $ move ! (47 ∷ 48 ∷ []) $ free1 ! $ move ! (45 ∷ 46 ∷ []) $ free1 ! $ move ! (43 ∷ 44 ∷ []) $ free1 ! $ move ! (41 ∷ 42 ∷ []) $ free1 ! $ move ! (39 ∷ 40 ∷ []) $ free1 ! $
-        move ! (37 ∷ 38 ∷ []) $ free1 ! $ move ! (35 ∷ 36 ∷ []) $ free1 ! $ move ! (33 ∷ 34 ∷ []) $ free1 ! $ move ! (31 ∷ 32 ∷ []) $ free1 ! $ move ! (29 ∷ 30 ∷ []) $ free1 ! $ move ! (27 ∷ 28 ∷ []) $ free1 ! $
-        move ! (25 ∷ 26 ∷ []) $ free1 ! $ move ! (23 ∷ 24 ∷ []) $ free1 ! $ move ! (21 ∷ 22 ∷ []) $ free1 ! $ move ! (19 ∷ 20 ∷ []) $ free1 ! $ move ! (17 ∷ 18 ∷ []) $ free1 ! $ move ! (15 ∷ 16 ∷ []) $ free1 ! $
-        move ! (13 ∷ 14 ∷ []) $ free1 ! $ free0 ! $ keep ! (6 ∷ 9 ∷ 12 ∷ 8 ∷ 11 ∷ 7 ∷ 10 ∷ 13 ∷ 14 ∷ 15 ∷ 16 ∷ 5 ∷ 4 ∷ 3 ∷ 2 ∷ 1 ∷ 0 ∷ []) $
+        returns ! (look ! 67 refl) $ forget ! 67 refl $ forget ! 65 refl $ forget ! 63 refl $ forget ! 61 refl $ forget ! 59 refl $ forget ! 57 refl $ forget ! 55 refl $ forget ! 53 refl $ forget ! 51 refl $ forget ! 49 refl $
+        forget ! 47 refl $ forget ! 45 refl $ forget ! 43 refl $ move ! (67 ∷ 68 ∷ []) $ free1 ! $ move ! (65 ∷ 66 ∷ []) $ free1 ! $ move ! (63 ∷ 64 ∷ []) $ free1 ! $ move ! (61 ∷ 62 ∷ []) $ free1 ! $ move ! (59 ∷ 60 ∷ []) $
+        free1 ! $ move ! (57 ∷ 58 ∷ []) $ free1 ! $ move ! (55 ∷ 56 ∷ []) $ free1 ! $ move ! (53 ∷ 54 ∷ []) $ free1 ! $ move ! (51 ∷ 52 ∷ []) $ free1 ! $ move ! (49 ∷ 50 ∷ []) $ free1 ! $ move ! (47 ∷ 48 ∷ []) $ free1 ! $
+        move ! (45 ∷ 46 ∷ []) $ free1 ! $ move ! (43 ∷ 44 ∷ []) $ free1 ! $ move ! (41 ∷ 42 ∷ []) $ free1 ! $ move ! (39 ∷ 40 ∷ []) $ free1 ! $ move ! (37 ∷ 38 ∷ []) $ free1 ! $ move ! (35 ∷ 36 ∷ []) $ free1 ! $
+        move ! (33 ∷ 34 ∷ []) $ free1 ! $ move ! (31 ∷ 32 ∷ []) $ free1 ! $ move ! (29 ∷ 30 ∷ []) $ free1 ! $ move ! (27 ∷ 28 ∷ []) $ free1 ! $ move ! (25 ∷ 26 ∷ []) $ free1 ! $ move ! (23 ∷ 24 ∷ []) $ free1 ! $
+        move ! (21 ∷ 22 ∷ []) $ free1 ! $ move ! (19 ∷ 20 ∷ []) $ free1 ! $ move ! (17 ∷ 18 ∷ []) $ free1 ! $ move ! (15 ∷ 16 ∷ []) $ free1 ! $ move ! (13 ∷ 14 ∷ []) $ free1 ! $ free0 ! $
+        keep ! (6 ∷ 9 ∷ 12 ∷ 8 ∷ 11 ∷ 7 ∷ 10 ∷ 13 ∷ 14 ∷ 15 ∷ 16 ∷ 5 ∷ 4 ∷ 3 ∷ 2 ∷ 1 ∷ 0 ∷ []) $
         by ! (exits u z g-z E-z s g-s E-s p g-p E-p w bytes4 numbers4 texts4 g-w len-bytes4 len-numbers4 len-texts4 E-w r (zs .1 .1 .1 .1 .0) (zs .1 .1 .1 .1 .1 .0) (zs .1 .1 .1 .1 .1 .1 .0) (d-bytes ∙ len-bytes4) (d-numbers ∙ len-numbers4) (d-texts ∙ len-texts4) E-r)))))))))))))))
 
     -- from the call of `write_each` on
     abbrev At-4 : (z : Scan) (g-z : Is row-Scan z (mach-Scan z ∷ [])) (E-z : z ≡ scan false 0 0) (s : Scan) (g-s : Is row-Scan s (mach-Scan s ∷ [])) (E-s : s ≡ checkAll (length content) (length new) records z) (p : Work) (g-p : Is row-Work p (mach-Work p ∷ [])) (E-p : (settledFault (p .verdict) ≡ planFault content entries text s (roomOf (length bytes0) (length numbers0) (length texts0) 0)) × (p .cursor ≡ atStart)) → List (Item 𝓤)
     At-4 z g-z E-z s g-s E-s p g-p E-p =
-        ‵ (froom (sliceTy (tyRef erased mut (tyInt w8))) l29 0) ∷ ‵ (fdies (sliceTy (tyRef erased mut (tyInt w8))) l29) ∷ ‵ (froom (tyRef erased mut (tyInt w8)) l28 0) ∷ ‵ (fdies (tyRef erased mut (tyInt w8)) l28) ∷ ‵ (froom (sliceTy (tyRef erased mut (tyInt w32))) l27 0) ∷ ‵ (fdies (sliceTy (tyRef erased mut (tyInt w32))) l27) ∷ ‵ (froom (tyRef erased mut (tyInt w32)) l26 0) ∷ ‵ (fdies (tyRef erased mut (tyInt w32)) l26)
-        ∷ ‵ (froom (sliceTy (tyRef erased mut (tyInt w8))) l25 0) ∷ ‵ (fdies (sliceTy (tyRef erased mut (tyInt w8))) l25) ∷ ‵ (froom (tyRef erased mut (tyInt w8)) l24 0) ∷ ‵ (fdies (tyRef erased mut (tyInt w8)) l24) ∷ ‵ (froom (sliceTy (tyRef erased mut (tyInt w8))) l23 0) ∷ ‵ (fdies (sliceTy (tyRef erased mut (tyInt w8))) l23) ∷ ‵ (froom (tyRef erased mut (tyInt w8)) l22 0) ∷ ‵ (fdies (tyRef erased mut (tyInt w8)) l22)
-        ∷ ‵ (froom (sliceTy (tyRef erased mut (tyInt w32))) l21 0) ∷ ‵ (fdies (sliceTy (tyRef erased mut (tyInt w32))) l21) ∷ ‵ (froom (tyRef erased mut (tyInt w32)) l20 0) ∷ ‵ (fdies (tyRef erased mut (tyInt w32)) l20) ∷ ‵ (froom (sliceTy (tyRef erased mut (tyInt w8))) l19 0) ∷ ‵ (fdies (sliceTy (tyRef erased mut (tyInt w8))) l19) ∷ ‵ (froom (tyRef erased mut (tyInt w8)) l18 0) ∷ ‵ (fdies (tyRef erased mut (tyInt w8)) l18)
-        ∷ ‵ (froom word l17 0) ∷ ‵ (fdies word l17) ∷ ‵ (froom word l16 0) ∷ ‵ (fdies word l16) ∷ ‵ (froom word l15 0) ∷ ‵ (fdies word l15) ∷ ‵ (froom word l14 0) ∷ ‵ (fdies word l14)
-        ∷ ‵ (froom word l13 0) ∷ ‵ (fdies word l13) ∷ ‵ (fat fullShare Scan-l.mir l12 0 (mach-Scan z)) ∷ ‵ (fdies Scan-l.mir l12) ∷ ‵ (froom Work-l.mir l11 0) ∷ ‵ (fdies Work-l.mir l11) ∷ ‵ (fat fullShare Work-l.mir l10 0 (mach-Work p)) ∷ ‵ (fdies Work-l.mir l10)
-        ∷ ‵ (fat fullShare Scan-l.mir l9 0 (mach-Scan s)) ∷ ‵ (fdies Scan-l.mir l9) ∷ ‵ (fat fullShare (sliceTy (tyRef (named 7) mut (tyInt w8))) l8 0 v-texts) ∷ ‵ (fdies (sliceTy (tyRef (named 7) mut (tyInt w8))) l8) ∷ ‵ (fat fullShare (sliceTy (tyRef (named 6) mut (tyInt w32))) l7 0 v-numbers) ∷ ‵ (fdies (sliceTy (tyRef (named 6) mut (tyInt w32))) l7) ∷ ‵ (fat fullShare (sliceTy (tyRef (named 5) mut (tyInt w8))) l6 0 v-bytes) ∷ ‵ (fdies (sliceTy (tyRef (named 5) mut (tyInt w8))) l6)
-        ∷ ‵ (fat fullShare (sliceTy (tyRef (named 4) imm (tyInt w8))) l5 0 v-new) ∷ ‵ (fdies (sliceTy (tyRef (named 4) imm (tyInt w8))) l5) ∷ ‵ (fat fullShare (sliceTy (tyRef (named 3) imm (pointee (row-Replacement .written)))) l4 0 v-records) ∷ ‵ (fdies (sliceTy (tyRef (named 3) imm (pointee (row-Replacement .written)))) l4) ∷ ‵ (fat fullShare (sliceTy (tyRef (named 2) imm (tyInt w8))) l3 0 v-text) ∷ ‵ (fdies (sliceTy (tyRef (named 2) imm (tyInt w8))) l3) ∷ ‵ (fat fullShare (sliceTy (tyRef (named 1) imm (tyInt w32))) l2 0 v-entries) ∷ ‵ (fdies (sliceTy (tyRef (named 1) imm (tyInt w32))) l2)
-        ∷ ‵ (fat fullShare (sliceTy (tyRef (named 0) imm (tyInt w8))) l1 0 v-content) ∷ ‵ (fdies (sliceTy (tyRef (named 0) imm (tyInt w8))) l1) ∷ ‵ (froom Answer-l.mir l0 0) ∷ ‵ (fdies Answer-l.mir l0)
+        ‵ (froom (sliceTy (tyRef erased mut (tyInt w8))) l27 0) ∷ ‵ (fdies (sliceTy (tyRef erased mut (tyInt w8))) l27) ∷ ‵ (froom (tyRef erased mut (tyInt w8)) l26 0) ∷ ‵ (fdies (tyRef erased mut (tyInt w8)) l26) ∷ ‵ (froom (sliceTy (tyRef erased mut (tyInt w32))) l25 0) ∷ ‵ (fdies (sliceTy (tyRef erased mut (tyInt w32))) l25) ∷ ‵ (froom (tyRef erased mut (tyInt w32)) l24 0) ∷ ‵ (fdies (tyRef erased mut (tyInt w32)) l24)
+        ∷ ‵ (froom (sliceTy (tyRef erased mut (tyInt w8))) l23 0) ∷ ‵ (fdies (sliceTy (tyRef erased mut (tyInt w8))) l23) ∷ ‵ (froom (tyRef erased mut (tyInt w8)) l22 0) ∷ ‵ (fdies (tyRef erased mut (tyInt w8)) l22) ∷ ‵ (froom (sliceTy (tyRef erased mut (tyInt w8))) l21 0) ∷ ‵ (fdies (sliceTy (tyRef erased mut (tyInt w8))) l21) ∷ ‵ (froom (tyRef erased mut (tyInt w8)) l20 0) ∷ ‵ (fdies (tyRef erased mut (tyInt w8)) l20)
+        ∷ ‵ (froom (sliceTy (tyRef erased mut (tyInt w32))) l19 0) ∷ ‵ (fdies (sliceTy (tyRef erased mut (tyInt w32))) l19) ∷ ‵ (froom (tyRef erased mut (tyInt w32)) l18 0) ∷ ‵ (fdies (tyRef erased mut (tyInt w32)) l18) ∷ ‵ (froom (sliceTy (tyRef erased mut (tyInt w8))) l17 0) ∷ ‵ (fdies (sliceTy (tyRef erased mut (tyInt w8))) l17) ∷ ‵ (froom (tyRef erased mut (tyInt w8)) l16 0) ∷ ‵ (fdies (tyRef erased mut (tyInt w8)) l16)
+        ∷ ‵ (froom word l15 0) ∷ ‵ (fdies word l15) ∷ ‵ (froom word l14 0) ∷ ‵ (fdies word l14) ∷ ‵ (froom word l13 0) ∷ ‵ (fdies word l13) ∷ ‵ (fat fullShare Scan-l.mir l12 0 (mach-Scan z)) ∷ ‵ (fdies Scan-l.mir l12)
+        ∷ ‵ (froom Work-l.mir l11 0) ∷ ‵ (fdies Work-l.mir l11) ∷ ‵ (fat fullShare Work-l.mir l10 0 (mach-Work p)) ∷ ‵ (fdies Work-l.mir l10) ∷ ‵ (fat fullShare Scan-l.mir l9 0 (mach-Scan s)) ∷ ‵ (fdies Scan-l.mir l9) ∷ ‵ (fat fullShare (sliceTy (tyRef (named 7) mut (tyInt w8))) l8 0 v-texts) ∷ ‵ (fdies (sliceTy (tyRef (named 7) mut (tyInt w8))) l8)
+        ∷ ‵ (fat fullShare (sliceTy (tyRef (named 6) mut (tyInt w32))) l7 0 v-numbers) ∷ ‵ (fdies (sliceTy (tyRef (named 6) mut (tyInt w32))) l7) ∷ ‵ (fat fullShare (sliceTy (tyRef (named 5) mut (tyInt w8))) l6 0 v-bytes) ∷ ‵ (fdies (sliceTy (tyRef (named 5) mut (tyInt w8))) l6) ∷ ‵ (fat fullShare (sliceTy (tyRef (named 4) imm (tyInt w8))) l5 0 v-new) ∷ ‵ (fdies (sliceTy (tyRef (named 4) imm (tyInt w8))) l5) ∷ ‵ (fat fullShare (sliceTy (tyRef (named 3) imm (pointee (row-Replacement .written)))) l4 0 v-records) ∷ ‵ (fdies (sliceTy (tyRef (named 3) imm (pointee (row-Replacement .written)))) l4)
+        ∷ ‵ (fat fullShare (sliceTy (tyRef (named 2) imm (tyInt w8))) l3 0 v-text) ∷ ‵ (fdies (sliceTy (tyRef (named 2) imm (tyInt w8))) l3) ∷ ‵ (fat fullShare (sliceTy (tyRef (named 1) imm (tyInt w32))) l2 0 v-entries) ∷ ‵ (fdies (sliceTy (tyRef (named 1) imm (tyInt w32))) l2) ∷ ‵ (fat fullShare (sliceTy (tyRef (named 0) imm (tyInt w8))) l1 0 v-content) ∷ ‵ (fdies (sliceTy (tyRef (named 0) imm (tyInt w8))) l1) ∷ ‵ (froom Answer-l.mir l0 0) ∷ ‵ (fdies Answer-l.mir l0)
         ∷ Tail bytes0 numbers0 texts0
 
     part-4 : (z : Scan) (g-z : Is row-Scan z (mach-Scan z ∷ [])) (E-z : z ≡ scan false 0 0) (s : Scan) (g-s : Is row-Scan s (mach-Scan s ∷ [])) (E-s : s ≡ checkAll (length content) (length new) records z) (p : Work) (g-p : Is row-Work p (mach-Work p ∷ [])) (E-p : (settledFault (p .verdict) ≡ planFault content entries text s (roomOf (length bytes0) (length numbers0) (length texts0) 0)) × (p .cursor ≡ atStart)) → ent 𝓤 (⋆ 𝓤 H A (At-4 z g-z E-z s g-s E-s p g-p E-p)) (Wp 𝓤 H (𝓣 .C) (𝓣 .Λ) En body.t-9 (atReturn 𝓤 H En Post))
     part-4 z g-z E-z s g-s E-s p g-p E-p =
         qed W (At-4 z g-z E-z s g-s E-s p g-p E-p) ∵ exec ! (𝓣 .C) (𝓣 .Λ) En body.t-9 (atRet En Post) $
-        assigns ! (addr ! (from ! (fld ! refl (hop ! (look-in ! 46 (sub ! 0 refl (whole !))) (stop !))))) (from ! (stop !)) (init ! 22 refl (tt, tt)) $
-        assigns ! (agg ! (and-then ! (load ! (from ! (stop !)) (look ! 22 refl)) (and-then ! (load ! (from ! (fld ! refl (stop !))) (look-in ! 46 (sub ! 1 refl (whole !)))) (no-more !)))) (from ! (stop !)) (init ! 20 refl (tt, (tt, (record { fits = room-bytes .0 }, tt)))) $
-        assigns ! (addr ! (from ! (fld ! refl (hop ! (look-in ! 44 (sub ! 0 refl (whole !))) (stop !))))) (from ! (stop !)) (init ! 18 refl (tt, tt)) $
-        assigns ! (agg ! (and-then ! (load ! (from ! (stop !)) (look ! 18 refl)) (and-then ! (load ! (from ! (fld ! refl (stop !))) (look-in ! 44 (sub ! 1 refl (whole !)))) (no-more !)))) (from ! (stop !)) (init ! 16 refl (tt, (tt, (record { fits = room-numbers .0 }, tt)))) $
-        assigns ! (addr ! (from ! (fld ! refl (hop ! (look-in ! 42 (sub ! 0 refl (whole !))) (stop !))))) (from ! (stop !)) (init ! 14 refl (tt, tt)) $
-        assigns ! (agg ! (and-then ! (load ! (from ! (stop !)) (look ! 14 refl)) (and-then ! (load ! (from ! (fld ! refl (stop !))) (look-in ! 42 (sub ! 1 refl (whole !)))) (no-more !)))) (from ! (stop !)) (init ! 12 refl (tt, (tt, (record { fits = room-texts .0 }, tt)))) $
+        assigns ! (addr ! (from ! (fld ! refl (hop ! (look-in ! 42 (sub ! 0 refl (whole !))) (stop !))))) (from ! (stop !)) (init ! 22 refl (tt, tt)) $
+        assigns ! (agg ! (and-then ! (load ! (from ! (stop !)) (look ! 22 refl)) (and-then ! (load ! (from ! (fld ! refl (stop !))) (look-in ! 42 (sub ! 1 refl (whole !)))) (no-more !)))) (from ! (stop !)) (init ! 20 refl (tt, (tt, (record { fits = room-bytes .0 }, tt)))) $
+        assigns ! (addr ! (from ! (fld ! refl (hop ! (look-in ! 40 (sub ! 0 refl (whole !))) (stop !))))) (from ! (stop !)) (init ! 18 refl (tt, tt)) $
+        assigns ! (agg ! (and-then ! (load ! (from ! (stop !)) (look ! 18 refl)) (and-then ! (load ! (from ! (fld ! refl (stop !))) (look-in ! 40 (sub ! 1 refl (whole !)))) (no-more !)))) (from ! (stop !)) (init ! 16 refl (tt, (tt, (record { fits = room-numbers .0 }, tt)))) $
+        assigns ! (addr ! (from ! (fld ! refl (hop ! (look-in ! 38 (sub ! 0 refl (whole !))) (stop !))))) (from ! (stop !)) (init ! 14 refl (tt, tt)) $
+        assigns ! (agg ! (and-then ! (load ! (from ! (stop !)) (look ! 14 refl)) (and-then ! (load ! (from ! (fld ! refl (stop !))) (look-in ! 38 (sub ! 1 refl (whole !)))) (no-more !)))) (from ! (stop !)) (init ! 12 refl (tt, (tt, (record { fits = room-texts .0 }, tt)))) $
         -- bytes is lent again
-        lft-new ! tt (λ ν-bytes. move ! (72 ∷ 71 ∷ []) $
+        lft-new ! tt (λ ν-bytes. move ! (68 ∷ 67 ∷ []) $
         use2 W (later (some (λ (δ : GName). ‵ (N-bytes ν-bytes δ bytes0) ⊛ ‵ (A-bytes ν-bytes δ bytes0)))) (lends-at u8 κ-bytes (ν-bytes ∷ []) q-bytes γ-bytes b-bytes o-bytes 𝓤 H A W (named 5) (named 5) bytes0 (length bytes0) refl) $ await ! tt $ pick ! (λ δ-bytes.
         split ! $
         -- numbers is lent again
-        lft-new ! tt (λ ν-numbers. move ! (75 ∷ 74 ∷ []) $
+        lft-new ! tt (λ ν-numbers. move ! (71 ∷ 70 ∷ []) $
         use2 W (later (some (λ (δ : GName). ‵ (N-numbers ν-numbers δ numbers0) ⊛ ‵ (A-numbers ν-numbers δ numbers0)))) (lends-at u32 κ-numbers (ν-numbers ∷ []) q-numbers γ-numbers b-numbers o-numbers 𝓤 H A W (named 6) (named 6) numbers0 (length numbers0) refl) $ await ! tt $ pick ! (λ δ-numbers.
         split ! $
         -- texts is lent again
-        lft-new ! tt (λ ν-texts. move ! (78 ∷ 77 ∷ []) $
+        lft-new ! tt (λ ν-texts. move ! (74 ∷ 73 ∷ []) $
         use2 W (later (some (λ (δ : GName). ‵ (N-texts ν-texts δ texts0) ⊛ ‵ (A-texts ν-texts δ texts0)))) (lends-at u8 κ-texts (ν-texts ∷ []) q-texts γ-texts b-texts o-texts 𝓤 H A W (named 7) (named 7) texts0 (length texts0) refl) $ await ! tt $ pick ! (λ δ-texts.
-        split ! $ move ! (76 ∷ []) $ use1 W (‵ O-records ⊛ ‵ O-records) (shr-slice-copy 𝓤 H A W (named 3) κ-records row-Replacement .twice x-records (v-records ∷ [])) $ split ! $ move ! (72 ∷ []) $
-        use1 W (‵ O-content ⊛ ‵ O-content) (shr-slice-copy 𝓤 H A W (named 0) κ-content u8 .twice x-content (v-content ∷ [])) $ split ! $ move ! (75 ∷ []) $
-        use1 W (‵ O-entries ⊛ ‵ O-entries) (shr-slice-copy 𝓤 H A W (named 1) κ-entries u32 .twice x-entries (v-entries ∷ [])) $ split ! $ move ! (78 ∷ []) $
-        use1 W (‵ O-text ⊛ ‵ O-text) (shr-slice-copy 𝓤 H A W (named 2) κ-text u8 .twice x-text (v-text ∷ [])) $ split ! $ move ! (82 ∷ []) $
+        split ! $ move ! (72 ∷ []) $ use1 W (‵ O-records ⊛ ‵ O-records) (shr-slice-copy 𝓤 H A W (named 3) κ-records row-Replacement .twice x-records (v-records ∷ [])) $ split ! $ move ! (68 ∷ []) $
+        use1 W (‵ O-content ⊛ ‵ O-content) (shr-slice-copy 𝓤 H A W (named 0) κ-content u8 .twice x-content (v-content ∷ [])) $ split ! $ move ! (71 ∷ []) $
+        use1 W (‵ O-entries ⊛ ‵ O-entries) (shr-slice-copy 𝓤 H A W (named 1) κ-entries u32 .twice x-entries (v-entries ∷ [])) $ split ! $ move ! (74 ∷ []) $
+        use1 W (‵ O-text ⊛ ‵ O-text) (shr-slice-copy 𝓤 H A W (named 2) κ-text u8 .twice x-text (v-text ∷ [])) $ split ! $ move ! (78 ∷ []) $
         use1 W (‵ O-new ⊛ ‵ O-new) (shr-slice-copy 𝓤 H A W (named 4) κ-new u8 .twice x-new (v-new ∷ [])) $ split ! $
         -- the call
-        move ! (12 ∷ 10 ∷ []) $ join ! $ move ! (12 ∷ 0 ∷ []) $ join ! $ move ! (13 ∷ 0 ∷ []) $ join ! $ move ! (13 ∷ 0 ∷ []) $ join ! $ move ! (14 ∷ 0 ∷ []) $ join ! $ move ! (1 ∷ 0 ∷ []) $ join ! $ move ! (77 ∷ 0 ∷ []) $
-        join ! $ move ! (2 ∷ 0 ∷ []) $ join ! $ move ! (74 ∷ 0 ∷ []) $ join ! $ move ! (3 ∷ 0 ∷ []) $ join ! $ move ! (72 ∷ 0 ∷ []) $ join ! $ move ! (4 ∷ 0 ∷ []) $ join ! $ move ! (70 ∷ 0 ∷ []) $ join ! $ move ! (5 ∷ 0 ∷ []) $
-        join ! $ move ! (69 ∷ 0 ∷ []) $ join ! $
+        move ! (12 ∷ 10 ∷ []) $ join ! $ move ! (12 ∷ 0 ∷ []) $ join ! $ move ! (13 ∷ 0 ∷ []) $ join ! $ move ! (13 ∷ 0 ∷ []) $ join ! $ move ! (14 ∷ 0 ∷ []) $ join ! $ move ! (1 ∷ 0 ∷ []) $ join ! $ move ! (73 ∷ 0 ∷ []) $
+        join ! $ move ! (2 ∷ 0 ∷ []) $ join ! $ move ! (70 ∷ 0 ∷ []) $ join ! $ move ! (3 ∷ 0 ∷ []) $ join ! $ move ! (68 ∷ 0 ∷ []) $ join ! $ move ! (4 ∷ 0 ∷ []) $ join ! $ move ! (66 ∷ 0 ∷ []) $ join ! $ move ! (5 ∷ 0 ∷ []) $
+        join ! $ move ! (65 ∷ 0 ∷ []) $ join ! $
         use1 W (raw (C-write-each 𝓤 H A mem run .pre (to-4 room-content room-entries room-text room-records room-new room-bytes room-numbers room-texts z g-z E-z s g-s E-s p g-p E-p ν-bytes δ-bytes ν-numbers δ-numbers ν-texts δ-texts))) (goes-4 room-content room-entries room-text room-records room-new room-bytes room-numbers room-texts z g-z E-z s g-s E-s p g-p E-p ν-bytes δ-bytes ν-numbers δ-numbers ν-texts δ-texts) $
-        calls-at ! fm (C-write-each 𝓤 H A mem run) known-write-each (to-4 room-content room-entries room-text room-records room-new room-bytes room-numbers room-texts z g-z E-z s g-s E-s p g-p E-p ν-bytes δ-bytes ν-numbers δ-numbers ν-texts δ-texts) (and-then ! (load ! (from ! (stop !)) (look ! 59 refl)) (and-then ! (load ! (from ! (stop !)) (look ! 47 refl)) (and-then ! (load ! (from ! (stop !)) (look ! 65 refl)) (and-then ! (load ! (from ! (stop !)) (look ! 63 refl)) (and-then ! (load ! (from ! (stop !)) (look ! 61 refl)) (and-then ! (load ! (from ! (stop !)) (look ! 57 refl)) (and-then ! (load ! (from ! (stop !)) (look ! 29 refl)) (and-then ! (load ! (from ! (stop !)) (look ! 25 refl)) (and-then ! (load ! (from ! (stop !)) (look ! 21 refl)) (no-more !)))))))))) (λ u.
+        calls-at ! fm (C-write-each 𝓤 H A mem run) known-write-each (to-4 room-content room-entries room-text room-records room-new room-bytes room-numbers room-texts z g-z E-z s g-s E-s p g-p E-p ν-bytes δ-bytes ν-numbers δ-numbers ν-texts δ-texts) (and-then ! (load ! (from ! (stop !)) (look ! 55 refl)) (and-then ! (load ! (from ! (stop !)) (look ! 43 refl)) (and-then ! (load ! (from ! (stop !)) (look ! 61 refl)) (and-then ! (load ! (from ! (stop !)) (look ! 59 refl)) (and-then ! (load ! (from ! (stop !)) (look ! 57 refl)) (and-then ! (load ! (from ! (stop !)) (look ! 53 refl)) (and-then ! (load ! (from ! (stop !)) (look ! 29 refl)) (and-then ! (load ! (from ! (stop !)) (look ! 25 refl)) (and-then ! (load ! (from ! (stop !)) (look ! 21 refl)) (no-more !)))))))))) (λ u.
         use1 W (later (some (λ (w : Work). ((‵ (flft κ-records q-records) ⊛ (‵ (flft κ-content q-content) ⊛ (‵ (flft κ-entries q-entries) ⊛ (‵ (flft κ-text q-text) ⊛ (‵ (flft κ-new q-new) ⊛ (‵ (flft (ν-bytes ∷ []) fullShare) ⊛ (‵ (flft (ν-numbers ∷ []) fullShare) ⊛ (‵ (flft (ν-texts ∷ []) fullShare) ⊛ (‵ ftrue))))))))) ⊛ ‵ (row-Work .own w (u ∷ []))) ⊛ raw (ensured 𝓤 H A write-each.ended (write-each.clauses 𝓤 H A mem run) (κ-records, (κ-content, (κ-entries, (κ-text, (κ-new, (ν-bytes ∷ [], (ν-numbers ∷ [], (ν-texts ∷ [], tt)))))))) (x-records, (p, (x-content, (x-entries, (x-text, (x-new, (x-bytes δ-bytes bytes0, (x-numbers δ-numbers numbers0, (x-texts δ-texts texts0, tt))))))))) tt w)))) (id⊢ 𝓤 _) $ await ! tt $ pick ! (λ w.
         split ! $ move ! (1 ∷ []) $
         use1 W (some (λ (zs : Unit {0} × (Unit {0} × (Unit {0} × (Unit {0} × (Unit {0} × (Unit {0} × (List ℕ × (List ℕ × (List ℕ × (Unit {0})))))))))). ‵ (lasts write-each.ended (κ-records, (κ-content, (κ-entries, (κ-text, (κ-new, (ν-bytes ∷ [], (ν-numbers ∷ [], (ν-texts ∷ [], tt)))))))) (x-records, (p, (x-content, (x-entries, (x-text, (x-new, (x-bytes δ-bytes bytes0, (x-numbers δ-numbers numbers0, (x-texts δ-texts texts0, tt))))))))) zs) ⊛ (raw (fact 𝓤 (Turns content entries text new records (world p bytes0 numbers0 texts0) (world w (zs .1 .1 .1 .1 .1 .1 .0) (zs .1 .1 .1 .1 .1 .1 .1 .0) (zs .1 .1 .1 .1 .1 .1 .1 .1 .0))))))) (id⊢ 𝓤 _) $ pick ! (λ zs.
@@ -445,8 +443,8 @@ module _ {M : Type 1} (𝓤 : URA M) (H : Heap 𝓤) (A : Atoms 𝓤) (W : Given
         fsplit ! $ drop ! $ fsplit ! $ drop ! $ fsplit ! $ drop ! $ fsplit ! $ drop ! $ fsplit ! $ drop ! $ fsplit ! $ drop ! $ fsplit ! $ fsplit ! $ move ! (1 ∷ []) $ feqL ! (λ d-bytes. move ! (1 ∷ []) $ fsplit ! $ fsplit ! $
         move ! (1 ∷ []) $ feqL ! (λ d-numbers. move ! (1 ∷ []) $ fsplit ! $ fsplit ! $ move ! (1 ∷ []) $ feqL ! (λ d-texts. move ! (1 ∷ []) $ drop ! $ move ! (3 ∷ []) $ split ! $ split ! $ move ! (1 ∷ []) $ split ! $
         move ! (1 ∷ []) $ split ! $ move ! (1 ∷ []) $ split ! $ move ! (1 ∷ []) $ split ! $ move ! (1 ∷ []) $ split ! $ move ! (1 ∷ []) $ split ! $ move ! (1 ∷ []) $ split ! $ move ! (1 ∷ []) $ drop ! $ move ! (8 ∷ []) $
-        peeks ! row-Work (Is row-Work) (shows 𝓤 H A row-Work) w (u ∷ []) (λ is. drop ! $ land ! (from ! (stop !)) (init ! 55 refl (LL.lawful Work-m.the-type Work-l.the-laws 𝓤 H A W .typed w _ is .0)) $
-        rewrite ! 55 (λ (v : Val). ‵ (fat fullShare Work-l.mir l11 0 v)) (ap only ((LL.tells Work-m.the-type Work-l.the-laws) w (u ∷ []) is)) refl $
+        peeks ! row-Work (Is row-Work) (shows 𝓤 H A row-Work) w (u ∷ []) (λ is. drop ! $ land ! (from ! (stop !)) (init ! 51 refl (LL.lawful Work-m.the-type Work-l.the-laws 𝓤 H A W .typed w _ is .0)) $
+        rewrite ! 51 (λ (v : Val). ‵ (fat fullShare Work-l.mir l11 0 v)) (ap only ((LL.tells Work-m.the-type Work-l.the-laws) w (u ∷ []) is)) refl $
         -- bytes comes back
         move ! (2 ∷ []) $ lft-end ! tt $ move ! (0 ∷ 18 ∷ 10 ∷ []) $
         use3 W (later (‵ (O-bytes (zs .1 .1 .1 .1 .1 .1 .0)) ⊛ ‵ (flft κ-bytes q-bytes))) (back-at u8 κ-bytes (ν-bytes ∷ []) q-bytes γ-bytes b-bytes o-bytes 𝓤 H A W (named 5) (named 5) bytes0 δ-bytes (zs .1 .1 .1 .1 .1 .1 .0) (length bytes0) refl room-bytes d-bytes) $ await ! tt $
@@ -459,89 +457,86 @@ module _ {M : Type 1} (𝓤 : URA M) (H : Heap 𝓤) (A : Atoms 𝓤) (W : Given
         move ! (4 ∷ []) $ lft-end ! tt $ move ! (0 ∷ 16 ∷ 10 ∷ []) $
         use3 W (later (‵ (O-texts (zs .1 .1 .1 .1 .1 .1 .1 .1 .0)) ⊛ ‵ (flft κ-texts q-texts))) (back-at u8 κ-texts (ν-texts ∷ []) q-texts γ-texts b-texts o-texts 𝓤 H A W (named 7) (named 7) texts0 δ-texts (zs .1 .1 .1 .1 .1 .1 .1 .1 .0) (length texts0) refl room-texts d-texts) $ await ! tt $
         split ! $ forget ! 38 refl $ forget ! 36 refl $ forget ! 34 refl $ forget ! 32 refl $ forget ! 30 refl $ forget ! 28 refl $
-        keep ! (16 ∷ 17 ∷ 18 ∷ 19 ∷ 20 ∷ 21 ∷ 22 ∷ 23 ∷ 24 ∷ 25 ∷ 26 ∷ 27 ∷ 28 ∷ 29 ∷ 30 ∷ 31 ∷ 32 ∷ 33 ∷ 34 ∷ 35 ∷ 36 ∷ 37 ∷ 38 ∷ 39 ∷ 40 ∷ 41 ∷ 42 ∷ 43 ∷ 44 ∷ 45 ∷ 46 ∷ 47 ∷ 48 ∷ 49 ∷ 50 ∷ 51 ∷ 52 ∷ 53 ∷ 54 ∷ 55 ∷ 56 ∷ 57 ∷ 58 ∷ 59 ∷ 60 ∷ 61 ∷ 62 ∷ 63 ∷ 64 ∷ 65 ∷ 66 ∷ 67 ∷ 68 ∷ 69 ∷ 70 ∷ 71 ∷ 72 ∷ 73 ∷ 74 ∷ 75 ∷ 9 ∷ 14 ∷ 8 ∷ 13 ∷ 7 ∷ 12 ∷ 10 ∷ 15 ∷ 6 ∷ 11 ∷ 5 ∷ 4 ∷ 3 ∷ 2 ∷ 1 ∷ 0 ∷ []) $
+        keep ! (16 ∷ 17 ∷ 18 ∷ 19 ∷ 20 ∷ 21 ∷ 22 ∷ 23 ∷ 24 ∷ 25 ∷ 26 ∷ 27 ∷ 28 ∷ 29 ∷ 30 ∷ 31 ∷ 32 ∷ 33 ∷ 34 ∷ 35 ∷ 36 ∷ 37 ∷ 38 ∷ 39 ∷ 40 ∷ 41 ∷ 42 ∷ 43 ∷ 44 ∷ 45 ∷ 46 ∷ 47 ∷ 48 ∷ 49 ∷ 50 ∷ 51 ∷ 52 ∷ 53 ∷ 54 ∷ 55 ∷ 56 ∷ 57 ∷ 58 ∷ 59 ∷ 60 ∷ 61 ∷ 62 ∷ 63 ∷ 64 ∷ 65 ∷ 66 ∷ 67 ∷ 68 ∷ 69 ∷ 70 ∷ 71 ∷ 9 ∷ 14 ∷ 8 ∷ 13 ∷ 7 ∷ 12 ∷ 10 ∷ 15 ∷ 6 ∷ 11 ∷ 5 ∷ 4 ∷ 3 ∷ 2 ∷ 1 ∷ 0 ∷ []) $
         by ! (part-5 z g-z E-z s g-s E-s p g-p E-p w (zs .1 .1 .1 .1 .1 .1 .0) (zs .1 .1 .1 .1 .1 .1 .1 .0) (zs .1 .1 .1 .1 .1 .1 .1 .1 .0) (subst (Is row-Work w) ((LL.tells Work-m.the-type Work-l.the-laws) w (u ∷ []) is) is) d-bytes d-numbers d-texts E-w)))))))))))))))
 
     -- from the call of `plan` on
     abbrev At-3 : (z : Scan) (g-z : Is row-Scan z (mach-Scan z ∷ [])) (E-z : z ≡ scan false 0 0) (s : Scan) (g-s : Is row-Scan s (mach-Scan s ∷ [])) (E-s : s ≡ checkAll (length content) (length new) records z) → List (Item 𝓤)
     At-3 z g-z E-z s g-s E-s =
-        ‵ (froom (sliceTy (tyRef erased mut (tyInt w8))) l29 0) ∷ ‵ (fdies (sliceTy (tyRef erased mut (tyInt w8))) l29) ∷ ‵ (froom (tyRef erased mut (tyInt w8)) l28 0) ∷ ‵ (fdies (tyRef erased mut (tyInt w8)) l28) ∷ ‵ (froom (sliceTy (tyRef erased mut (tyInt w32))) l27 0) ∷ ‵ (fdies (sliceTy (tyRef erased mut (tyInt w32))) l27) ∷ ‵ (froom (tyRef erased mut (tyInt w32)) l26 0) ∷ ‵ (fdies (tyRef erased mut (tyInt w32)) l26)
-        ∷ ‵ (froom (sliceTy (tyRef erased mut (tyInt w8))) l25 0) ∷ ‵ (fdies (sliceTy (tyRef erased mut (tyInt w8))) l25) ∷ ‵ (froom (tyRef erased mut (tyInt w8)) l24 0) ∷ ‵ (fdies (tyRef erased mut (tyInt w8)) l24) ∷ ‵ (froom (sliceTy (tyRef erased mut (tyInt w8))) l23 0) ∷ ‵ (fdies (sliceTy (tyRef erased mut (tyInt w8))) l23) ∷ ‵ (froom (tyRef erased mut (tyInt w8)) l22 0) ∷ ‵ (fdies (tyRef erased mut (tyInt w8)) l22)
-        ∷ ‵ (froom (sliceTy (tyRef erased mut (tyInt w32))) l21 0) ∷ ‵ (fdies (sliceTy (tyRef erased mut (tyInt w32))) l21) ∷ ‵ (froom (tyRef erased mut (tyInt w32)) l20 0) ∷ ‵ (fdies (tyRef erased mut (tyInt w32)) l20) ∷ ‵ (froom (sliceTy (tyRef erased mut (tyInt w8))) l19 0) ∷ ‵ (fdies (sliceTy (tyRef erased mut (tyInt w8))) l19) ∷ ‵ (froom (tyRef erased mut (tyInt w8)) l18 0) ∷ ‵ (fdies (tyRef erased mut (tyInt w8)) l18)
-        ∷ ‵ (froom word l17 0) ∷ ‵ (fdies word l17) ∷ ‵ (froom word l16 0) ∷ ‵ (fdies word l16) ∷ ‵ (froom word l15 0) ∷ ‵ (fdies word l15) ∷ ‵ (froom word l14 0) ∷ ‵ (fdies word l14)
-        ∷ ‵ (froom word l13 0) ∷ ‵ (fdies word l13) ∷ ‵ (fat fullShare Scan-l.mir l12 0 (mach-Scan z)) ∷ ‵ (fdies Scan-l.mir l12) ∷ ‵ (froom Work-l.mir l11 0) ∷ ‵ (fdies Work-l.mir l11) ∷ ‵ (froom Work-l.mir l10 0) ∷ ‵ (fdies Work-l.mir l10)
-        ∷ ‵ (fat fullShare Scan-l.mir l9 0 (mach-Scan s)) ∷ ‵ (fdies Scan-l.mir l9) ∷ ‵ (fat fullShare (sliceTy (tyRef (named 7) mut (tyInt w8))) l8 0 v-texts) ∷ ‵ (fdies (sliceTy (tyRef (named 7) mut (tyInt w8))) l8) ∷ ‵ (fat fullShare (sliceTy (tyRef (named 6) mut (tyInt w32))) l7 0 v-numbers) ∷ ‵ (fdies (sliceTy (tyRef (named 6) mut (tyInt w32))) l7) ∷ ‵ (fat fullShare (sliceTy (tyRef (named 5) mut (tyInt w8))) l6 0 v-bytes) ∷ ‵ (fdies (sliceTy (tyRef (named 5) mut (tyInt w8))) l6)
-        ∷ ‵ (fat fullShare (sliceTy (tyRef (named 4) imm (tyInt w8))) l5 0 v-new) ∷ ‵ (fdies (sliceTy (tyRef (named 4) imm (tyInt w8))) l5) ∷ ‵ (fat fullShare (sliceTy (tyRef (named 3) imm (pointee (row-Replacement .written)))) l4 0 v-records) ∷ ‵ (fdies (sliceTy (tyRef (named 3) imm (pointee (row-Replacement .written)))) l4) ∷ ‵ (fat fullShare (sliceTy (tyRef (named 2) imm (tyInt w8))) l3 0 v-text) ∷ ‵ (fdies (sliceTy (tyRef (named 2) imm (tyInt w8))) l3) ∷ ‵ (fat fullShare (sliceTy (tyRef (named 1) imm (tyInt w32))) l2 0 v-entries) ∷ ‵ (fdies (sliceTy (tyRef (named 1) imm (tyInt w32))) l2)
-        ∷ ‵ (fat fullShare (sliceTy (tyRef (named 0) imm (tyInt w8))) l1 0 v-content) ∷ ‵ (fdies (sliceTy (tyRef (named 0) imm (tyInt w8))) l1) ∷ ‵ (froom Answer-l.mir l0 0) ∷ ‵ (fdies Answer-l.mir l0)
+        ‵ (froom (sliceTy (tyRef erased mut (tyInt w8))) l27 0) ∷ ‵ (fdies (sliceTy (tyRef erased mut (tyInt w8))) l27) ∷ ‵ (froom (tyRef erased mut (tyInt w8)) l26 0) ∷ ‵ (fdies (tyRef erased mut (tyInt w8)) l26) ∷ ‵ (froom (sliceTy (tyRef erased mut (tyInt w32))) l25 0) ∷ ‵ (fdies (sliceTy (tyRef erased mut (tyInt w32))) l25) ∷ ‵ (froom (tyRef erased mut (tyInt w32)) l24 0) ∷ ‵ (fdies (tyRef erased mut (tyInt w32)) l24)
+        ∷ ‵ (froom (sliceTy (tyRef erased mut (tyInt w8))) l23 0) ∷ ‵ (fdies (sliceTy (tyRef erased mut (tyInt w8))) l23) ∷ ‵ (froom (tyRef erased mut (tyInt w8)) l22 0) ∷ ‵ (fdies (tyRef erased mut (tyInt w8)) l22) ∷ ‵ (froom (sliceTy (tyRef erased mut (tyInt w8))) l21 0) ∷ ‵ (fdies (sliceTy (tyRef erased mut (tyInt w8))) l21) ∷ ‵ (froom (tyRef erased mut (tyInt w8)) l20 0) ∷ ‵ (fdies (tyRef erased mut (tyInt w8)) l20)
+        ∷ ‵ (froom (sliceTy (tyRef erased mut (tyInt w32))) l19 0) ∷ ‵ (fdies (sliceTy (tyRef erased mut (tyInt w32))) l19) ∷ ‵ (froom (tyRef erased mut (tyInt w32)) l18 0) ∷ ‵ (fdies (tyRef erased mut (tyInt w32)) l18) ∷ ‵ (froom (sliceTy (tyRef erased mut (tyInt w8))) l17 0) ∷ ‵ (fdies (sliceTy (tyRef erased mut (tyInt w8))) l17) ∷ ‵ (froom (tyRef erased mut (tyInt w8)) l16 0) ∷ ‵ (fdies (tyRef erased mut (tyInt w8)) l16)
+        ∷ ‵ (froom word l15 0) ∷ ‵ (fdies word l15) ∷ ‵ (froom word l14 0) ∷ ‵ (fdies word l14) ∷ ‵ (froom word l13 0) ∷ ‵ (fdies word l13) ∷ ‵ (fat fullShare Scan-l.mir l12 0 (mach-Scan z)) ∷ ‵ (fdies Scan-l.mir l12)
+        ∷ ‵ (froom Work-l.mir l11 0) ∷ ‵ (fdies Work-l.mir l11) ∷ ‵ (froom Work-l.mir l10 0) ∷ ‵ (fdies Work-l.mir l10) ∷ ‵ (fat fullShare Scan-l.mir l9 0 (mach-Scan s)) ∷ ‵ (fdies Scan-l.mir l9) ∷ ‵ (fat fullShare (sliceTy (tyRef (named 7) mut (tyInt w8))) l8 0 v-texts) ∷ ‵ (fdies (sliceTy (tyRef (named 7) mut (tyInt w8))) l8)
+        ∷ ‵ (fat fullShare (sliceTy (tyRef (named 6) mut (tyInt w32))) l7 0 v-numbers) ∷ ‵ (fdies (sliceTy (tyRef (named 6) mut (tyInt w32))) l7) ∷ ‵ (fat fullShare (sliceTy (tyRef (named 5) mut (tyInt w8))) l6 0 v-bytes) ∷ ‵ (fdies (sliceTy (tyRef (named 5) mut (tyInt w8))) l6) ∷ ‵ (fat fullShare (sliceTy (tyRef (named 4) imm (tyInt w8))) l5 0 v-new) ∷ ‵ (fdies (sliceTy (tyRef (named 4) imm (tyInt w8))) l5) ∷ ‵ (fat fullShare (sliceTy (tyRef (named 3) imm (pointee (row-Replacement .written)))) l4 0 v-records) ∷ ‵ (fdies (sliceTy (tyRef (named 3) imm (pointee (row-Replacement .written)))) l4)
+        ∷ ‵ (fat fullShare (sliceTy (tyRef (named 2) imm (tyInt w8))) l3 0 v-text) ∷ ‵ (fdies (sliceTy (tyRef (named 2) imm (tyInt w8))) l3) ∷ ‵ (fat fullShare (sliceTy (tyRef (named 1) imm (tyInt w32))) l2 0 v-entries) ∷ ‵ (fdies (sliceTy (tyRef (named 1) imm (tyInt w32))) l2) ∷ ‵ (fat fullShare (sliceTy (tyRef (named 0) imm (tyInt w8))) l1 0 v-content) ∷ ‵ (fdies (sliceTy (tyRef (named 0) imm (tyInt w8))) l1) ∷ ‵ (froom Answer-l.mir l0 0) ∷ ‵ (fdies Answer-l.mir l0)
         ∷ Tail bytes0 numbers0 texts0
 
     part-3 : (z : Scan) (g-z : Is row-Scan z (mach-Scan z ∷ [])) (E-z : z ≡ scan false 0 0) (s : Scan) (g-s : Is row-Scan s (mach-Scan s ∷ [])) (E-s : s ≡ checkAll (length content) (length new) records z) → ent 𝓤 (⋆ 𝓤 H A (At-3 z g-z E-z s g-s E-s)) (Wp 𝓤 H (𝓣 .C) (𝓣 .Λ) En body.t-5 (atReturn 𝓤 H En Post))
     part-3 z g-z E-z s g-s E-s =
         qed W (At-3 z g-z E-z s g-s E-s) ∵ exec ! (𝓣 .C) (𝓣 .Λ) En body.t-5 (atRet En Post) $
-        assigns ! (of-opd ! (load ! (from ! (fld ! refl (stop !))) (look-in ! 46 (sub ! 1 refl (whole !))))) (from ! (stop !)) (init ! 28 refl (tt, record { fits = room-bytes .0 })) $
-        assigns ! (of-opd ! (load ! (from ! (fld ! refl (stop !))) (look-in ! 44 (sub ! 1 refl (whole !))))) (from ! (stop !)) (init ! 26 refl (tt, record { fits = room-numbers .0 })) $
-        assigns ! (of-opd ! (load ! (from ! (fld ! refl (stop !))) (look-in ! 42 (sub ! 1 refl (whole !))))) (from ! (stop !)) (init ! 24 refl (tt, record { fits = room-texts .0 })) $ move ! (61 ∷ []) $
-        use1 W (‵ O-content ⊛ ‵ O-content) (shr-slice-copy 𝓤 H A W (named 0) κ-content u8 .twice x-content (v-content ∷ [])) $ split ! $ move ! (64 ∷ []) $
-        use1 W (‵ O-entries ⊛ ‵ O-entries) (shr-slice-copy 𝓤 H A W (named 1) κ-entries u32 .twice x-entries (v-entries ∷ [])) $ split ! $ move ! (67 ∷ []) $
+        assigns ! (of-opd ! (load ! (from ! (fld ! refl (stop !))) (look-in ! 42 (sub ! 1 refl (whole !))))) (from ! (stop !)) (init ! 28 refl (tt, record { fits = room-bytes .0 })) $
+        assigns ! (of-opd ! (load ! (from ! (fld ! refl (stop !))) (look-in ! 40 (sub ! 1 refl (whole !))))) (from ! (stop !)) (init ! 26 refl (tt, record { fits = room-numbers .0 })) $
+        assigns ! (of-opd ! (load ! (from ! (fld ! refl (stop !))) (look-in ! 38 (sub ! 1 refl (whole !))))) (from ! (stop !)) (init ! 24 refl (tt, record { fits = room-texts .0 })) $ move ! (57 ∷ []) $
+        use1 W (‵ O-content ⊛ ‵ O-content) (shr-slice-copy 𝓤 H A W (named 0) κ-content u8 .twice x-content (v-content ∷ [])) $ split ! $ move ! (60 ∷ []) $
+        use1 W (‵ O-entries ⊛ ‵ O-entries) (shr-slice-copy 𝓤 H A W (named 1) κ-entries u32 .twice x-entries (v-entries ∷ [])) $ split ! $ move ! (63 ∷ []) $
         use1 W (‵ O-text ⊛ ‵ O-text) (shr-slice-copy 𝓤 H A W (named 2) κ-text u8 .twice x-text (v-text ∷ [])) $ split ! $
         -- the call
-        move ! (68 ∷ 0 ∷ []) $ join ! $ move ! (2 ∷ 0 ∷ []) $ join ! $ move ! (66 ∷ 0 ∷ []) $ join ! $ move ! (3 ∷ 0 ∷ []) $ join ! $ move ! (64 ∷ 0 ∷ []) $ join ! $
+        move ! (64 ∷ 0 ∷ []) $ join ! $ move ! (2 ∷ 0 ∷ []) $ join ! $ move ! (62 ∷ 0 ∷ []) $ join ! $ move ! (3 ∷ 0 ∷ []) $ join ! $ move ! (60 ∷ 0 ∷ []) $ join ! $
         use1 W (raw (C-plan 𝓤 H A mem run .pre (to-3 room-content room-entries room-text room-records room-new room-bytes room-numbers room-texts z g-z E-z s g-s E-s))) (goes-3 room-content room-entries room-text room-records room-new room-bytes room-numbers room-texts z g-z E-z s g-s E-s) $
-        calls-at ! fm (C-plan 𝓤 H A mem run) known-plan (to-3 room-content room-entries room-text room-records room-new room-bytes room-numbers room-texts z g-z E-z s g-s E-s) (and-then ! (load ! (from ! (stop !)) (look ! 44 refl)) (and-then ! (load ! (from ! (stop !)) (look ! 60 refl)) (and-then ! (load ! (from ! (stop !)) (look ! 58 refl)) (and-then ! (load ! (from ! (stop !)) (look ! 56 refl)) (and-then ! (load ! (from ! (stop !)) (look ! 32 refl)) (and-then ! (load ! (from ! (stop !)) (look ! 30 refl)) (and-then ! (load ! (from ! (stop !)) (look ! 28 refl)) (no-more !)))))))) (λ u.
+        calls-at ! fm (C-plan 𝓤 H A mem run) known-plan (to-3 room-content room-entries room-text room-records room-new room-bytes room-numbers room-texts z g-z E-z s g-s E-s) (and-then ! (load ! (from ! (stop !)) (look ! 40 refl)) (and-then ! (load ! (from ! (stop !)) (look ! 56 refl)) (and-then ! (load ! (from ! (stop !)) (look ! 54 refl)) (and-then ! (load ! (from ! (stop !)) (look ! 52 refl)) (and-then ! (load ! (from ! (stop !)) (look ! 32 refl)) (and-then ! (load ! (from ! (stop !)) (look ! 30 refl)) (and-then ! (load ! (from ! (stop !)) (look ! 28 refl)) (no-more !)))))))) (λ u.
         use1 W (later (some (λ (p : Work). ((‵ (flft κ-content q-content) ⊛ (‵ (flft κ-entries q-entries) ⊛ (‵ (flft κ-text q-text) ⊛ (‵ ftrue)))) ⊛ ‵ (row-Work .own p (u ∷ []))) ⊛ raw (ensured 𝓤 H A plan.ended (plan.clauses 𝓤 H A mem run) (κ-content, (κ-entries, (κ-text, tt))) (s, (x-content, (x-entries, (x-text, (length bytes0, (length numbers0, (length texts0, tt))))))) tt p)))) (id⊢ 𝓤 _) $ await ! tt $ pick ! (λ p.
         split ! $ move ! (1 ∷ []) $
         use1 W (some (λ (zs : Unit {0} × (Unit {0} × (Unit {0} × (Unit {0} × (Unit {0} × (Unit {0} × (Unit {0} × (Unit {0})))))))). ‵ (lasts plan.ended (κ-content, (κ-entries, (κ-text, tt))) (s, (x-content, (x-entries, (x-text, (length bytes0, (length numbers0, (length texts0, tt))))))) zs) ⊛ (raw (fact 𝓤 ((settledFault (p .verdict) ≡ planFault content entries text s (roomOf (length bytes0) (length numbers0) (length texts0) 0)) × (p .cursor ≡ atStart)))))) (id⊢ 𝓤 _) $ pick ! (λ zs.
         split ! $ move ! (1 ∷ []) $ heard ! ((settledFault (p .verdict) ≡ planFault content entries text s (roomOf (length bytes0) (length numbers0) (length texts0) 0)) × (p .cursor ≡ atStart)) (λ E-p. fsplit ! $ drop ! $
         fsplit ! $ drop ! $ fsplit ! $ drop ! $ fsplit ! $ drop ! $ fsplit ! $ drop ! $ fsplit ! $ drop ! $ fsplit ! $ drop ! $ drop ! $ split ! $ split ! $ move ! (1 ∷ []) $ split ! $ move ! (1 ∷ []) $ split ! $ move ! (1 ∷ []) $
-        drop ! $ move ! (3 ∷ []) $ peeks ! row-Work (Is row-Work) (shows 𝓤 H A row-Work) p (u ∷ []) (λ is. drop ! $ land ! (from ! (stop !)) (init ! 44 refl (LL.lawful Work-m.the-type Work-l.the-laws 𝓤 H A W .typed p _ is .0)) $
-        rewrite ! 44 (λ (v : Val). ‵ (fat fullShare Work-l.mir l10 0 v)) (ap only ((LL.tells Work-m.the-type Work-l.the-laws) p (u ∷ []) is)) refl $ forget ! 34 refl $ forget ! 32 refl $ forget ! 30 refl $
-        keep ! (6 ∷ 7 ∷ 8 ∷ 9 ∷ 10 ∷ 11 ∷ 12 ∷ 13 ∷ 14 ∷ 15 ∷ 16 ∷ 17 ∷ 18 ∷ 19 ∷ 20 ∷ 21 ∷ 22 ∷ 23 ∷ 24 ∷ 25 ∷ 26 ∷ 27 ∷ 28 ∷ 29 ∷ 30 ∷ 31 ∷ 32 ∷ 33 ∷ 34 ∷ 35 ∷ 36 ∷ 37 ∷ 38 ∷ 39 ∷ 40 ∷ 41 ∷ 42 ∷ 43 ∷ 44 ∷ 45 ∷ 46 ∷ 47 ∷ 48 ∷ 49 ∷ 50 ∷ 51 ∷ 52 ∷ 53 ∷ 54 ∷ 55 ∷ 56 ∷ 57 ∷ 58 ∷ 59 ∷ 60 ∷ 61 ∷ 62 ∷ 63 ∷ 64 ∷ 65 ∷ 2 ∷ 5 ∷ 1 ∷ 4 ∷ 0 ∷ 3 ∷ 66 ∷ 67 ∷ 68 ∷ 69 ∷ 70 ∷ 71 ∷ 72 ∷ 73 ∷ 74 ∷ 75 ∷ []) $
+        drop ! $ move ! (3 ∷ []) $ peeks ! row-Work (Is row-Work) (shows 𝓤 H A row-Work) p (u ∷ []) (λ is. drop ! $ land ! (from ! (stop !)) (init ! 40 refl (LL.lawful Work-m.the-type Work-l.the-laws 𝓤 H A W .typed p _ is .0)) $
+        rewrite ! 40 (λ (v : Val). ‵ (fat fullShare Work-l.mir l10 0 v)) (ap only ((LL.tells Work-m.the-type Work-l.the-laws) p (u ∷ []) is)) refl $ forget ! 34 refl $ forget ! 32 refl $ forget ! 30 refl $
+        keep ! (6 ∷ 7 ∷ 8 ∷ 9 ∷ 10 ∷ 11 ∷ 12 ∷ 13 ∷ 14 ∷ 15 ∷ 16 ∷ 17 ∷ 18 ∷ 19 ∷ 20 ∷ 21 ∷ 22 ∷ 23 ∷ 24 ∷ 25 ∷ 26 ∷ 27 ∷ 28 ∷ 29 ∷ 30 ∷ 31 ∷ 32 ∷ 33 ∷ 34 ∷ 35 ∷ 36 ∷ 37 ∷ 38 ∷ 39 ∷ 40 ∷ 41 ∷ 42 ∷ 43 ∷ 44 ∷ 45 ∷ 46 ∷ 47 ∷ 48 ∷ 49 ∷ 50 ∷ 51 ∷ 52 ∷ 53 ∷ 54 ∷ 55 ∷ 56 ∷ 57 ∷ 58 ∷ 59 ∷ 60 ∷ 61 ∷ 2 ∷ 5 ∷ 1 ∷ 4 ∷ 0 ∷ 3 ∷ 62 ∷ 63 ∷ 64 ∷ 65 ∷ 66 ∷ 67 ∷ 68 ∷ 69 ∷ 70 ∷ 71 ∷ []) $
         by ! (part-4 z g-z E-z s g-s E-s p (subst (Is row-Work p) ((LL.tells Work-m.the-type Work-l.the-laws) p (u ∷ []) is) is) E-p))))))
 
     -- from the call of `check_each` on
     abbrev At-2 : (z : Scan) (g-z : Is row-Scan z (mach-Scan z ∷ [])) (E-z : z ≡ scan false 0 0) → List (Item 𝓤)
     At-2 z g-z E-z =
-        ‵ (froom (sliceTy (tyRef erased mut (tyInt w8))) l29 0) ∷ ‵ (fdies (sliceTy (tyRef erased mut (tyInt w8))) l29) ∷ ‵ (froom (tyRef erased mut (tyInt w8)) l28 0) ∷ ‵ (fdies (tyRef erased mut (tyInt w8)) l28) ∷ ‵ (froom (sliceTy (tyRef erased mut (tyInt w32))) l27 0) ∷ ‵ (fdies (sliceTy (tyRef erased mut (tyInt w32))) l27) ∷ ‵ (froom (tyRef erased mut (tyInt w32)) l26 0) ∷ ‵ (fdies (tyRef erased mut (tyInt w32)) l26)
-        ∷ ‵ (froom (sliceTy (tyRef erased mut (tyInt w8))) l25 0) ∷ ‵ (fdies (sliceTy (tyRef erased mut (tyInt w8))) l25) ∷ ‵ (froom (tyRef erased mut (tyInt w8)) l24 0) ∷ ‵ (fdies (tyRef erased mut (tyInt w8)) l24) ∷ ‵ (froom (sliceTy (tyRef erased mut (tyInt w8))) l23 0) ∷ ‵ (fdies (sliceTy (tyRef erased mut (tyInt w8))) l23) ∷ ‵ (froom (tyRef erased mut (tyInt w8)) l22 0) ∷ ‵ (fdies (tyRef erased mut (tyInt w8)) l22)
-        ∷ ‵ (froom (sliceTy (tyRef erased mut (tyInt w32))) l21 0) ∷ ‵ (fdies (sliceTy (tyRef erased mut (tyInt w32))) l21) ∷ ‵ (froom (tyRef erased mut (tyInt w32)) l20 0) ∷ ‵ (fdies (tyRef erased mut (tyInt w32)) l20) ∷ ‵ (froom (sliceTy (tyRef erased mut (tyInt w8))) l19 0) ∷ ‵ (fdies (sliceTy (tyRef erased mut (tyInt w8))) l19) ∷ ‵ (froom (tyRef erased mut (tyInt w8)) l18 0) ∷ ‵ (fdies (tyRef erased mut (tyInt w8)) l18)
-        ∷ ‵ (froom word l17 0) ∷ ‵ (fdies word l17) ∷ ‵ (froom word l16 0) ∷ ‵ (fdies word l16) ∷ ‵ (froom word l15 0) ∷ ‵ (fdies word l15) ∷ ‵ (froom word l14 0) ∷ ‵ (fdies word l14)
-        ∷ ‵ (froom word l13 0) ∷ ‵ (fdies word l13) ∷ ‵ (fat fullShare Scan-l.mir l12 0 (mach-Scan z)) ∷ ‵ (fdies Scan-l.mir l12) ∷ ‵ (froom Work-l.mir l11 0) ∷ ‵ (fdies Work-l.mir l11) ∷ ‵ (froom Work-l.mir l10 0) ∷ ‵ (fdies Work-l.mir l10)
-        ∷ ‵ (froom Scan-l.mir l9 0) ∷ ‵ (fdies Scan-l.mir l9) ∷ ‵ (fat fullShare (sliceTy (tyRef (named 7) mut (tyInt w8))) l8 0 v-texts) ∷ ‵ (fdies (sliceTy (tyRef (named 7) mut (tyInt w8))) l8) ∷ ‵ (fat fullShare (sliceTy (tyRef (named 6) mut (tyInt w32))) l7 0 v-numbers) ∷ ‵ (fdies (sliceTy (tyRef (named 6) mut (tyInt w32))) l7) ∷ ‵ (fat fullShare (sliceTy (tyRef (named 5) mut (tyInt w8))) l6 0 v-bytes) ∷ ‵ (fdies (sliceTy (tyRef (named 5) mut (tyInt w8))) l6)
-        ∷ ‵ (fat fullShare (sliceTy (tyRef (named 4) imm (tyInt w8))) l5 0 v-new) ∷ ‵ (fdies (sliceTy (tyRef (named 4) imm (tyInt w8))) l5) ∷ ‵ (fat fullShare (sliceTy (tyRef (named 3) imm (pointee (row-Replacement .written)))) l4 0 v-records) ∷ ‵ (fdies (sliceTy (tyRef (named 3) imm (pointee (row-Replacement .written)))) l4) ∷ ‵ (fat fullShare (sliceTy (tyRef (named 2) imm (tyInt w8))) l3 0 v-text) ∷ ‵ (fdies (sliceTy (tyRef (named 2) imm (tyInt w8))) l3) ∷ ‵ (fat fullShare (sliceTy (tyRef (named 1) imm (tyInt w32))) l2 0 v-entries) ∷ ‵ (fdies (sliceTy (tyRef (named 1) imm (tyInt w32))) l2)
-        ∷ ‵ (fat fullShare (sliceTy (tyRef (named 0) imm (tyInt w8))) l1 0 v-content) ∷ ‵ (fdies (sliceTy (tyRef (named 0) imm (tyInt w8))) l1) ∷ ‵ (froom Answer-l.mir l0 0) ∷ ‵ (fdies Answer-l.mir l0)
+        ‵ (froom (sliceTy (tyRef erased mut (tyInt w8))) l27 0) ∷ ‵ (fdies (sliceTy (tyRef erased mut (tyInt w8))) l27) ∷ ‵ (froom (tyRef erased mut (tyInt w8)) l26 0) ∷ ‵ (fdies (tyRef erased mut (tyInt w8)) l26) ∷ ‵ (froom (sliceTy (tyRef erased mut (tyInt w32))) l25 0) ∷ ‵ (fdies (sliceTy (tyRef erased mut (tyInt w32))) l25) ∷ ‵ (froom (tyRef erased mut (tyInt w32)) l24 0) ∷ ‵ (fdies (tyRef erased mut (tyInt w32)) l24)
+        ∷ ‵ (froom (sliceTy (tyRef erased mut (tyInt w8))) l23 0) ∷ ‵ (fdies (sliceTy (tyRef erased mut (tyInt w8))) l23) ∷ ‵ (froom (tyRef erased mut (tyInt w8)) l22 0) ∷ ‵ (fdies (tyRef erased mut (tyInt w8)) l22) ∷ ‵ (froom (sliceTy (tyRef erased mut (tyInt w8))) l21 0) ∷ ‵ (fdies (sliceTy (tyRef erased mut (tyInt w8))) l21) ∷ ‵ (froom (tyRef erased mut (tyInt w8)) l20 0) ∷ ‵ (fdies (tyRef erased mut (tyInt w8)) l20)
+        ∷ ‵ (froom (sliceTy (tyRef erased mut (tyInt w32))) l19 0) ∷ ‵ (fdies (sliceTy (tyRef erased mut (tyInt w32))) l19) ∷ ‵ (froom (tyRef erased mut (tyInt w32)) l18 0) ∷ ‵ (fdies (tyRef erased mut (tyInt w32)) l18) ∷ ‵ (froom (sliceTy (tyRef erased mut (tyInt w8))) l17 0) ∷ ‵ (fdies (sliceTy (tyRef erased mut (tyInt w8))) l17) ∷ ‵ (froom (tyRef erased mut (tyInt w8)) l16 0) ∷ ‵ (fdies (tyRef erased mut (tyInt w8)) l16)
+        ∷ ‵ (froom word l15 0) ∷ ‵ (fdies word l15) ∷ ‵ (froom word l14 0) ∷ ‵ (fdies word l14) ∷ ‵ (froom word l13 0) ∷ ‵ (fdies word l13) ∷ ‵ (fat fullShare Scan-l.mir l12 0 (mach-Scan z)) ∷ ‵ (fdies Scan-l.mir l12)
+        ∷ ‵ (froom Work-l.mir l11 0) ∷ ‵ (fdies Work-l.mir l11) ∷ ‵ (froom Work-l.mir l10 0) ∷ ‵ (fdies Work-l.mir l10) ∷ ‵ (froom Scan-l.mir l9 0) ∷ ‵ (fdies Scan-l.mir l9) ∷ ‵ (fat fullShare (sliceTy (tyRef (named 7) mut (tyInt w8))) l8 0 v-texts) ∷ ‵ (fdies (sliceTy (tyRef (named 7) mut (tyInt w8))) l8)
+        ∷ ‵ (fat fullShare (sliceTy (tyRef (named 6) mut (tyInt w32))) l7 0 v-numbers) ∷ ‵ (fdies (sliceTy (tyRef (named 6) mut (tyInt w32))) l7) ∷ ‵ (fat fullShare (sliceTy (tyRef (named 5) mut (tyInt w8))) l6 0 v-bytes) ∷ ‵ (fdies (sliceTy (tyRef (named 5) mut (tyInt w8))) l6) ∷ ‵ (fat fullShare (sliceTy (tyRef (named 4) imm (tyInt w8))) l5 0 v-new) ∷ ‵ (fdies (sliceTy (tyRef (named 4) imm (tyInt w8))) l5) ∷ ‵ (fat fullShare (sliceTy (tyRef (named 3) imm (pointee (row-Replacement .written)))) l4 0 v-records) ∷ ‵ (fdies (sliceTy (tyRef (named 3) imm (pointee (row-Replacement .written)))) l4)
+        ∷ ‵ (fat fullShare (sliceTy (tyRef (named 2) imm (tyInt w8))) l3 0 v-text) ∷ ‵ (fdies (sliceTy (tyRef (named 2) imm (tyInt w8))) l3) ∷ ‵ (fat fullShare (sliceTy (tyRef (named 1) imm (tyInt w32))) l2 0 v-entries) ∷ ‵ (fdies (sliceTy (tyRef (named 1) imm (tyInt w32))) l2) ∷ ‵ (fat fullShare (sliceTy (tyRef (named 0) imm (tyInt w8))) l1 0 v-content) ∷ ‵ (fdies (sliceTy (tyRef (named 0) imm (tyInt w8))) l1) ∷ ‵ (froom Answer-l.mir l0 0) ∷ ‵ (fdies Answer-l.mir l0)
         ∷ Tail bytes0 numbers0 texts0
 
     part-2 : (z : Scan) (g-z : Is row-Scan z (mach-Scan z ∷ [])) (E-z : z ≡ scan false 0 0) → ent 𝓤 (⋆ 𝓤 H A (At-2 z g-z E-z)) (Wp 𝓤 H (𝓣 .C) (𝓣 .Λ) En body.t-2 (atReturn 𝓤 H En Post))
     part-2 z g-z E-z =
         qed W (At-2 z g-z E-z) ∵ exec ! (𝓣 .C) (𝓣 .Λ) En body.t-2 (atRet En Post) $
-        assigns ! (of-opd ! (load ! (from ! (fld ! refl (stop !))) (look-in ! 56 (sub ! 1 refl (whole !))))) (from ! (stop !)) (init ! 32 refl (tt, record { fits = room-content .0 })) $
-        assigns ! (of-opd ! (load ! (from ! (fld ! refl (stop !))) (look-in ! 48 (sub ! 1 refl (whole !))))) (from ! (stop !)) (init ! 30 refl (tt, record { fits = room-new .0 })) $ move ! (67 ∷ []) $
+        assigns ! (of-opd ! (load ! (from ! (fld ! refl (stop !))) (look-in ! 52 (sub ! 1 refl (whole !))))) (from ! (stop !)) (init ! 28 refl (tt, record { fits = room-content .0 })) $
+        assigns ! (of-opd ! (load ! (from ! (fld ! refl (stop !))) (look-in ! 44 (sub ! 1 refl (whole !))))) (from ! (stop !)) (init ! 26 refl (tt, record { fits = room-new .0 })) $ move ! (63 ∷ []) $
         use1 W (‵ O-records ⊛ ‵ O-records) (shr-slice-copy 𝓤 H A W (named 3) κ-records row-Replacement .twice x-records (v-records ∷ [])) $ split ! $
         -- the call
-        move ! (68 ∷ 0 ∷ []) $ join ! $
+        move ! (64 ∷ 0 ∷ []) $ join ! $
         use1 W (raw (C-check-each 𝓤 H A mem run .pre (to-2 room-content room-entries room-text room-records room-new room-bytes room-numbers room-texts z g-z E-z))) (goes-2 room-content room-entries room-text room-records room-new room-bytes room-numbers room-texts z g-z E-z) $
-        calls-at ! fm (C-check-each 𝓤 H A mem run) known-check-each (to-2 room-content room-entries room-text room-records room-new room-bytes room-numbers room-texts z g-z E-z) (and-then ! (load ! (from ! (stop !)) (look ! 52 refl)) (and-then ! (load ! (from ! (stop !)) (look ! 36 refl)) (and-then ! (load ! (from ! (stop !)) (look ! 34 refl)) (and-then ! (load ! (from ! (stop !)) (look ! 32 refl)) (no-more !))))) (λ u.
+        calls-at ! fm (C-check-each 𝓤 H A mem run) known-check-each (to-2 room-content room-entries room-text room-records room-new room-bytes room-numbers room-texts z g-z E-z) (and-then ! (load ! (from ! (stop !)) (look ! 48 refl)) (and-then ! (load ! (from ! (stop !)) (look ! 32 refl)) (and-then ! (load ! (from ! (stop !)) (look ! 30 refl)) (and-then ! (load ! (from ! (stop !)) (look ! 28 refl)) (no-more !))))) (λ u.
         use1 W (later (some (λ (s : Scan). ((‵ (flft κ-records q-records) ⊛ (‵ ftrue)) ⊛ ‵ (row-Scan .own s (u ∷ []))) ⊛ raw (ensured 𝓤 H A check-each.ended (check-each.clauses 𝓤 H A mem run) (κ-records, tt) (x-records, (z, (length content, (length new, tt)))) tt s)))) (id⊢ 𝓤 _) $ await ! tt $ pick ! (λ s.
         split ! $ move ! (1 ∷ []) $
         use1 W (some (λ (zs : Unit {0} × (Unit {0} × (Unit {0} × (Unit {0} × (Unit {0}))))). ‵ (lasts check-each.ended (κ-records, tt) (x-records, (z, (length content, (length new, tt)))) zs) ⊛ (raw (fact 𝓤 (s ≡ checkAll (length content) (length new) records z))))) (id⊢ 𝓤 _) $ pick ! (λ zs.
         split ! $ move ! (1 ∷ []) $ heard ! (s ≡ checkAll (length content) (length new) records z) (λ E-s. fsplit ! $ drop ! $ fsplit ! $ drop ! $ fsplit ! $ drop ! $ fsplit ! $ drop ! $ drop ! $ split ! $ split ! $
         move ! (1 ∷ []) $ drop ! $ move ! (1 ∷ []) $ peeks ! row-Scan (Is row-Scan) (shows 𝓤 H A row-Scan) s (u ∷ []) (λ is. drop ! $
-        land ! (from ! (stop !)) (init ! 42 refl (LL.lawful Scan-m.the-type Scan-l.the-laws 𝓤 H A W .typed s _ is .0)) $
-        rewrite ! 42 (λ (v : Val). ‵ (fat fullShare Scan-l.mir l9 0 v)) (ap only ((LL.tells Scan-m.the-type Scan-l.the-laws) s (u ∷ []) is)) refl $ forget ! 34 refl $ forget ! 32 refl $
-        keep ! (2 ∷ 3 ∷ 4 ∷ 5 ∷ 6 ∷ 7 ∷ 8 ∷ 9 ∷ 10 ∷ 11 ∷ 12 ∷ 13 ∷ 14 ∷ 15 ∷ 16 ∷ 17 ∷ 18 ∷ 19 ∷ 20 ∷ 21 ∷ 22 ∷ 23 ∷ 24 ∷ 25 ∷ 26 ∷ 27 ∷ 28 ∷ 29 ∷ 30 ∷ 31 ∷ 32 ∷ 33 ∷ 34 ∷ 35 ∷ 36 ∷ 37 ∷ 38 ∷ 39 ∷ 40 ∷ 41 ∷ 42 ∷ 43 ∷ 44 ∷ 45 ∷ 46 ∷ 47 ∷ 48 ∷ 49 ∷ 50 ∷ 51 ∷ 52 ∷ 53 ∷ 54 ∷ 55 ∷ 56 ∷ 57 ∷ 58 ∷ 59 ∷ 60 ∷ 61 ∷ 62 ∷ 63 ∷ 64 ∷ 65 ∷ 66 ∷ 67 ∷ 0 ∷ 1 ∷ 68 ∷ 69 ∷ 70 ∷ 71 ∷ 72 ∷ 73 ∷ 74 ∷ 75 ∷ []) $
+        land ! (from ! (stop !)) (init ! 38 refl (LL.lawful Scan-m.the-type Scan-l.the-laws 𝓤 H A W .typed s _ is .0)) $
+        rewrite ! 38 (λ (v : Val). ‵ (fat fullShare Scan-l.mir l9 0 v)) (ap only ((LL.tells Scan-m.the-type Scan-l.the-laws) s (u ∷ []) is)) refl $ forget ! 30 refl $ forget ! 28 refl $
+        keep ! (2 ∷ 3 ∷ 4 ∷ 5 ∷ 6 ∷ 7 ∷ 8 ∷ 9 ∷ 10 ∷ 11 ∷ 12 ∷ 13 ∷ 14 ∷ 15 ∷ 16 ∷ 17 ∷ 18 ∷ 19 ∷ 20 ∷ 21 ∷ 22 ∷ 23 ∷ 24 ∷ 25 ∷ 26 ∷ 27 ∷ 28 ∷ 29 ∷ 30 ∷ 31 ∷ 32 ∷ 33 ∷ 34 ∷ 35 ∷ 36 ∷ 37 ∷ 38 ∷ 39 ∷ 40 ∷ 41 ∷ 42 ∷ 43 ∷ 44 ∷ 45 ∷ 46 ∷ 47 ∷ 48 ∷ 49 ∷ 50 ∷ 51 ∷ 52 ∷ 53 ∷ 54 ∷ 55 ∷ 56 ∷ 57 ∷ 58 ∷ 59 ∷ 60 ∷ 61 ∷ 62 ∷ 63 ∷ 0 ∷ 1 ∷ 64 ∷ 65 ∷ 66 ∷ 67 ∷ 68 ∷ 69 ∷ 70 ∷ 71 ∷ []) $
         by ! (part-3 z g-z E-z s (subst (Is row-Scan s) ((LL.tells Scan-m.the-type Scan-l.the-laws) s (u ∷ []) is) is) E-s))))))
 
     -- from the call of `first` on
     abbrev At-1 : List (Item 𝓤)
     At-1 =
-        ‵ (froom (sliceTy (tyRef erased mut (tyInt w8))) l29 0) ∷ ‵ (fdies (sliceTy (tyRef erased mut (tyInt w8))) l29) ∷ ‵ (froom (tyRef erased mut (tyInt w8)) l28 0) ∷ ‵ (fdies (tyRef erased mut (tyInt w8)) l28) ∷ ‵ (froom (sliceTy (tyRef erased mut (tyInt w32))) l27 0) ∷ ‵ (fdies (sliceTy (tyRef erased mut (tyInt w32))) l27) ∷ ‵ (froom (tyRef erased mut (tyInt w32)) l26 0) ∷ ‵ (fdies (tyRef erased mut (tyInt w32)) l26)
-        ∷ ‵ (froom (sliceTy (tyRef erased mut (tyInt w8))) l25 0) ∷ ‵ (fdies (sliceTy (tyRef erased mut (tyInt w8))) l25) ∷ ‵ (froom (tyRef erased mut (tyInt w8)) l24 0) ∷ ‵ (fdies (tyRef erased mut (tyInt w8)) l24) ∷ ‵ (froom (sliceTy (tyRef erased mut (tyInt w8))) l23 0) ∷ ‵ (fdies (sliceTy (tyRef erased mut (tyInt w8))) l23) ∷ ‵ (froom (tyRef erased mut (tyInt w8)) l22 0) ∷ ‵ (fdies (tyRef erased mut (tyInt w8)) l22)
-        ∷ ‵ (froom (sliceTy (tyRef erased mut (tyInt w32))) l21 0) ∷ ‵ (fdies (sliceTy (tyRef erased mut (tyInt w32))) l21) ∷ ‵ (froom (tyRef erased mut (tyInt w32)) l20 0) ∷ ‵ (fdies (tyRef erased mut (tyInt w32)) l20) ∷ ‵ (froom (sliceTy (tyRef erased mut (tyInt w8))) l19 0) ∷ ‵ (fdies (sliceTy (tyRef erased mut (tyInt w8))) l19) ∷ ‵ (froom (tyRef erased mut (tyInt w8)) l18 0) ∷ ‵ (fdies (tyRef erased mut (tyInt w8)) l18)
-        ∷ ‵ (froom word l17 0) ∷ ‵ (fdies word l17) ∷ ‵ (froom word l16 0) ∷ ‵ (fdies word l16) ∷ ‵ (froom word l15 0) ∷ ‵ (fdies word l15) ∷ ‵ (froom word l14 0) ∷ ‵ (fdies word l14)
-        ∷ ‵ (froom word l13 0) ∷ ‵ (fdies word l13) ∷ ‵ (froom Scan-l.mir l12 0) ∷ ‵ (fdies Scan-l.mir l12) ∷ ‵ (froom Work-l.mir l11 0) ∷ ‵ (fdies Work-l.mir l11) ∷ ‵ (froom Work-l.mir l10 0) ∷ ‵ (fdies Work-l.mir l10)
-        ∷ ‵ (froom Scan-l.mir l9 0) ∷ ‵ (fdies Scan-l.mir l9) ∷ ‵ (fat fullShare (sliceTy (tyRef (named 7) mut (tyInt w8))) l8 0 v-texts) ∷ ‵ (fdies (sliceTy (tyRef (named 7) mut (tyInt w8))) l8) ∷ ‵ (fat fullShare (sliceTy (tyRef (named 6) mut (tyInt w32))) l7 0 v-numbers) ∷ ‵ (fdies (sliceTy (tyRef (named 6) mut (tyInt w32))) l7) ∷ ‵ (fat fullShare (sliceTy (tyRef (named 5) mut (tyInt w8))) l6 0 v-bytes) ∷ ‵ (fdies (sliceTy (tyRef (named 5) mut (tyInt w8))) l6)
-        ∷ ‵ (fat fullShare (sliceTy (tyRef (named 4) imm (tyInt w8))) l5 0 v-new) ∷ ‵ (fdies (sliceTy (tyRef (named 4) imm (tyInt w8))) l5) ∷ ‵ (fat fullShare (sliceTy (tyRef (named 3) imm (pointee (row-Replacement .written)))) l4 0 v-records) ∷ ‵ (fdies (sliceTy (tyRef (named 3) imm (pointee (row-Replacement .written)))) l4) ∷ ‵ (fat fullShare (sliceTy (tyRef (named 2) imm (tyInt w8))) l3 0 v-text) ∷ ‵ (fdies (sliceTy (tyRef (named 2) imm (tyInt w8))) l3) ∷ ‵ (fat fullShare (sliceTy (tyRef (named 1) imm (tyInt w32))) l2 0 v-entries) ∷ ‵ (fdies (sliceTy (tyRef (named 1) imm (tyInt w32))) l2)
-        ∷ ‵ (fat fullShare (sliceTy (tyRef (named 0) imm (tyInt w8))) l1 0 v-content) ∷ ‵ (fdies (sliceTy (tyRef (named 0) imm (tyInt w8))) l1) ∷ ‵ (froom Answer-l.mir l0 0) ∷ ‵ (fdies Answer-l.mir l0)
+        ‵ (froom (sliceTy (tyRef erased mut (tyInt w8))) l27 0) ∷ ‵ (fdies (sliceTy (tyRef erased mut (tyInt w8))) l27) ∷ ‵ (froom (tyRef erased mut (tyInt w8)) l26 0) ∷ ‵ (fdies (tyRef erased mut (tyInt w8)) l26) ∷ ‵ (froom (sliceTy (tyRef erased mut (tyInt w32))) l25 0) ∷ ‵ (fdies (sliceTy (tyRef erased mut (tyInt w32))) l25) ∷ ‵ (froom (tyRef erased mut (tyInt w32)) l24 0) ∷ ‵ (fdies (tyRef erased mut (tyInt w32)) l24)
+        ∷ ‵ (froom (sliceTy (tyRef erased mut (tyInt w8))) l23 0) ∷ ‵ (fdies (sliceTy (tyRef erased mut (tyInt w8))) l23) ∷ ‵ (froom (tyRef erased mut (tyInt w8)) l22 0) ∷ ‵ (fdies (tyRef erased mut (tyInt w8)) l22) ∷ ‵ (froom (sliceTy (tyRef erased mut (tyInt w8))) l21 0) ∷ ‵ (fdies (sliceTy (tyRef erased mut (tyInt w8))) l21) ∷ ‵ (froom (tyRef erased mut (tyInt w8)) l20 0) ∷ ‵ (fdies (tyRef erased mut (tyInt w8)) l20)
+        ∷ ‵ (froom (sliceTy (tyRef erased mut (tyInt w32))) l19 0) ∷ ‵ (fdies (sliceTy (tyRef erased mut (tyInt w32))) l19) ∷ ‵ (froom (tyRef erased mut (tyInt w32)) l18 0) ∷ ‵ (fdies (tyRef erased mut (tyInt w32)) l18) ∷ ‵ (froom (sliceTy (tyRef erased mut (tyInt w8))) l17 0) ∷ ‵ (fdies (sliceTy (tyRef erased mut (tyInt w8))) l17) ∷ ‵ (froom (tyRef erased mut (tyInt w8)) l16 0) ∷ ‵ (fdies (tyRef erased mut (tyInt w8)) l16)
+        ∷ ‵ (froom word l15 0) ∷ ‵ (fdies word l15) ∷ ‵ (froom word l14 0) ∷ ‵ (fdies word l14) ∷ ‵ (froom word l13 0) ∷ ‵ (fdies word l13) ∷ ‵ (froom Scan-l.mir l12 0) ∷ ‵ (fdies Scan-l.mir l12)
+        ∷ ‵ (froom Work-l.mir l11 0) ∷ ‵ (fdies Work-l.mir l11) ∷ ‵ (froom Work-l.mir l10 0) ∷ ‵ (fdies Work-l.mir l10) ∷ ‵ (froom Scan-l.mir l9 0) ∷ ‵ (fdies Scan-l.mir l9) ∷ ‵ (fat fullShare (sliceTy (tyRef (named 7) mut (tyInt w8))) l8 0 v-texts) ∷ ‵ (fdies (sliceTy (tyRef (named 7) mut (tyInt w8))) l8)
+        ∷ ‵ (fat fullShare (sliceTy (tyRef (named 6) mut (tyInt w32))) l7 0 v-numbers) ∷ ‵ (fdies (sliceTy (tyRef (named 6) mut (tyInt w32))) l7) ∷ ‵ (fat fullShare (sliceTy (tyRef (named 5) mut (tyInt w8))) l6 0 v-bytes) ∷ ‵ (fdies (sliceTy (tyRef (named 5) mut (tyInt w8))) l6) ∷ ‵ (fat fullShare (sliceTy (tyRef (named 4) imm (tyInt w8))) l5 0 v-new) ∷ ‵ (fdies (sliceTy (tyRef (named 4) imm (tyInt w8))) l5) ∷ ‵ (fat fullShare (sliceTy (tyRef (named 3) imm (pointee (row-Replacement .written)))) l4 0 v-records) ∷ ‵ (fdies (sliceTy (tyRef (named 3) imm (pointee (row-Replacement .written)))) l4)
+        ∷ ‵ (fat fullShare (sliceTy (tyRef (named 2) imm (tyInt w8))) l3 0 v-text) ∷ ‵ (fdies (sliceTy (tyRef (named 2) imm (tyInt w8))) l3) ∷ ‵ (fat fullShare (sliceTy (tyRef (named 1) imm (tyInt w32))) l2 0 v-entries) ∷ ‵ (fdies (sliceTy (tyRef (named 1) imm (tyInt w32))) l2) ∷ ‵ (fat fullShare (sliceTy (tyRef (named 0) imm (tyInt w8))) l1 0 v-content) ∷ ‵ (fdies (sliceTy (tyRef (named 0) imm (tyInt w8))) l1) ∷ ‵ (froom Answer-l.mir l0 0) ∷ ‵ (fdies Answer-l.mir l0)
         ∷ Tail bytes0 numbers0 texts0
 
     part-1 : ent 𝓤 (⋆ 𝓤 H A (At-1)) (Wp 𝓤 H (𝓣 .C) (𝓣 .Λ) En body.t-1 (atReturn 𝓤 H En Post))
@@ -552,23 +547,23 @@ module _ {M : Type 1} (𝓤 : URA M) (H : Heap 𝓤) (A : Atoms 𝓤) (W : Given
         calls-at ! fm (C-first 𝓤 H A mem run) known-first (to-1 room-content room-entries room-text room-records room-new room-bytes room-numbers room-texts) (no-more !) (λ u.
         use1 W (later (some (λ (z : Scan). ((‵ ftrue) ⊛ ‵ (row-Scan .own z (u ∷ []))) ⊛ raw (ensured 𝓤 H A first.ended (first.clauses 𝓤 H A mem run) tt tt tt z)))) (id⊢ 𝓤 _) $ await ! tt $ pick ! (λ z. split ! $ move ! (1 ∷ []) $
         use1 W (some (λ (zs : Unit {0}). ‵ (lasts first.ended tt tt zs) ⊛ (raw (fact 𝓤 (z ≡ scan false 0 0))))) (id⊢ 𝓤 _) $ pick ! (λ zs. split ! $ move ! (1 ∷ []) $ heard ! (z ≡ scan false 0 0) (λ E-z. drop ! $ split ! $ drop ! $
-        peeks ! row-Scan (Is row-Scan) (shows 𝓤 H A row-Scan) z (u ∷ []) (λ is. drop ! $ land ! (from ! (stop !)) (init ! 34 refl (LL.lawful Scan-m.the-type Scan-l.the-laws 𝓤 H A W .typed z _ is .0)) $
-        rewrite ! 34 (λ (v : Val). ‵ (fat fullShare Scan-l.mir l12 0 v)) (ap only ((LL.tells Scan-m.the-type Scan-l.the-laws) z (u ∷ []) is)) refl $
-        keep ! (0 ∷ 1 ∷ 2 ∷ 3 ∷ 4 ∷ 5 ∷ 6 ∷ 7 ∷ 8 ∷ 9 ∷ 10 ∷ 11 ∷ 12 ∷ 13 ∷ 14 ∷ 15 ∷ 16 ∷ 17 ∷ 18 ∷ 19 ∷ 20 ∷ 21 ∷ 22 ∷ 23 ∷ 24 ∷ 25 ∷ 26 ∷ 27 ∷ 28 ∷ 29 ∷ 30 ∷ 31 ∷ 32 ∷ 33 ∷ 34 ∷ 35 ∷ 36 ∷ 37 ∷ 38 ∷ 39 ∷ 40 ∷ 41 ∷ 42 ∷ 43 ∷ 44 ∷ 45 ∷ 46 ∷ 47 ∷ 48 ∷ 49 ∷ 50 ∷ 51 ∷ 52 ∷ 53 ∷ 54 ∷ 55 ∷ 56 ∷ 57 ∷ 58 ∷ 59 ∷ 60 ∷ 61 ∷ 62 ∷ 63 ∷ 64 ∷ 65 ∷ 66 ∷ 67 ∷ 68 ∷ 69 ∷ 70 ∷ 71 ∷ 72 ∷ 73 ∷ 74 ∷ 75 ∷ []) $
+        peeks ! row-Scan (Is row-Scan) (shows 𝓤 H A row-Scan) z (u ∷ []) (λ is. drop ! $ land ! (from ! (stop !)) (init ! 30 refl (LL.lawful Scan-m.the-type Scan-l.the-laws 𝓤 H A W .typed z _ is .0)) $
+        rewrite ! 30 (λ (v : Val). ‵ (fat fullShare Scan-l.mir l12 0 v)) (ap only ((LL.tells Scan-m.the-type Scan-l.the-laws) z (u ∷ []) is)) refl $
+        keep ! (0 ∷ 1 ∷ 2 ∷ 3 ∷ 4 ∷ 5 ∷ 6 ∷ 7 ∷ 8 ∷ 9 ∷ 10 ∷ 11 ∷ 12 ∷ 13 ∷ 14 ∷ 15 ∷ 16 ∷ 17 ∷ 18 ∷ 19 ∷ 20 ∷ 21 ∷ 22 ∷ 23 ∷ 24 ∷ 25 ∷ 26 ∷ 27 ∷ 28 ∷ 29 ∷ 30 ∷ 31 ∷ 32 ∷ 33 ∷ 34 ∷ 35 ∷ 36 ∷ 37 ∷ 38 ∷ 39 ∷ 40 ∷ 41 ∷ 42 ∷ 43 ∷ 44 ∷ 45 ∷ 46 ∷ 47 ∷ 48 ∷ 49 ∷ 50 ∷ 51 ∷ 52 ∷ 53 ∷ 54 ∷ 55 ∷ 56 ∷ 57 ∷ 58 ∷ 59 ∷ 60 ∷ 61 ∷ 62 ∷ 63 ∷ 64 ∷ 65 ∷ 66 ∷ 67 ∷ 68 ∷ 69 ∷ 70 ∷ 71 ∷ []) $
         by ! (part-2 z (subst (Is row-Scan z) ((LL.tells Scan-m.the-type Scan-l.the-laws) z (u ∷ []) is) is) E-z))))))
 
   walk : (𝓣 : Tables 𝓤 H) (fm : FmC 𝓤 H (W .laws) (𝓣 .C)) (known-check-each : Triple 𝓤 (𝓣 .C #replaced·check-each) (C-check-each 𝓤 H A mem run)) (known-finish : Triple 𝓤 (𝓣 .C #replaced·finish) (C-finish 𝓤 H A mem run)) (known-first : Triple 𝓤 (𝓣 .C #replaced·first) (C-first 𝓤 H A mem run)) (known-plan : Triple 𝓤 (𝓣 .C #replaced·plan) (C-plan 𝓤 H A mem run)) (known-write-each : Triple 𝓤 (𝓣 .C #replaced·write-each) (C-write-each 𝓤 H A mem run)) (room-content : Room u8 (length content)) (room-entries : Room u32 (length entries)) (room-text : Room u8 (length text)) (room-records : Room row-Replacement (length records)) (room-new : Room u8 (length new)) (room-bytes : Room u8 (length bytes0)) (room-numbers : Room u32 (length numbers0)) (room-texts : Room u8 (length texts0))
       → ent 𝓤 (onEntry 𝓤 H A fn.signature (κ-content, (κ-entries, (κ-text, (κ-records, (κ-new, (κ-bytes, (κ-numbers, (κ-texts, tt)))))))) (q-content, (q-entries, (q-text, (q-records, (q-new, (q-bytes, (q-numbers, (q-texts, tt)))))))) args at) (WpFn 𝓤 H (𝓣 .C) (𝓣 .Λ) fnX (v-content ∷ v-entries ∷ v-text ∷ v-records ∷ v-new ∷ v-bytes ∷ v-numbers ∷ v-texts ∷ []) Post)
   walk 𝓣 fm known-check-each known-finish known-first known-plan known-write-each room-content room-entries room-text room-records room-new room-bytes room-numbers room-texts =
       qed W ((‵ (flft κ-content q-content) ⊛ (‵ (flft κ-entries q-entries) ⊛ (‵ (flft κ-text q-text) ⊛ (‵ (flft κ-records q-records) ⊛ (‵ (flft κ-new q-new) ⊛ (‵ (flft κ-bytes q-bytes) ⊛ (‵ (flft κ-numbers q-numbers) ⊛ (‵ (flft κ-texts q-texts) ⊛ (‵ ftrue))))))))) ∷ ‵ (owns (ShrSlice (named 0) κ-content u8 ∷ ShrSlice (named 1) κ-entries u32 ∷ ShrSlice (named 2) κ-text u8 ∷ ShrSlice (named 3) κ-records row-Replacement ∷ ShrSlice (named 4) κ-new u8 ∷ MutSlice (named 5) κ-bytes u8 ∷ MutSlice (named 6) κ-numbers u32 ∷ MutSlice (named 7) κ-texts u8 ∷ []) args at) ∷ []) ∵ enter ! (𝓣 .C) (𝓣 .Λ) fnX (v-content ∷ v-entries ∷ v-text ∷ v-records ∷ v-new ∷ v-bytes ∷ v-numbers ∷ v-texts ∷ []) _ $
-      alloc1 ! (λ l0. alloc1 ! (λ l1. alloc1 ! (λ l2. alloc1 ! (λ l3. alloc1 ! (λ l4. alloc1 ! (λ l5. alloc1 ! (λ l6. alloc1 ! (λ l7. alloc1 ! (λ l8. alloc1 ! (λ l9. alloc1 ! (λ l10. alloc1 ! (λ l11. alloc1 ! (λ l12. alloc1 ! (λ l13. alloc1 ! (λ l14. alloc1 ! (λ l15. alloc1 ! (λ l16. alloc1 ! (λ l17. alloc1 ! (λ l18. alloc1 ! (λ l19. alloc1 ! (λ l20. alloc1 ! (λ l21. alloc1 ! (λ l22. alloc1 ! (λ l23. alloc1 ! (λ l24. alloc1 ! (λ l25. alloc1 ! (λ l26. alloc1 ! (λ l27. alloc1 ! (λ l28. alloc1 ! (λ l29. alloc0 ! $ params1 ! $
-      pass1 ! (init ! 56 refl (tt, (tt, (record { fits = room-content .0 }, tt)))) $ pass1 ! (init ! 54 refl (tt, (tt, (record { fits = room-entries .0 }, tt)))) $
-      pass1 ! (init ! 52 refl (tt, (tt, (record { fits = room-text .0 }, tt)))) $ pass1 ! (init ! 50 refl (tt, (tt, (record { fits = room-records .0 }, tt)))) $
-      pass1 ! (init ! 48 refl (tt, (tt, (record { fits = room-new .0 }, tt)))) $ pass1 ! (init ! 46 refl (tt, (tt, (record { fits = room-bytes .0 }, tt)))) $
-      pass1 ! (init ! 44 refl (tt, (tt, (record { fits = room-numbers .0 }, tt)))) $ pass1 ! (init ! 42 refl (tt, (tt, (record { fits = room-texts .0 }, tt)))) $ pass0 ! $ move ! (61 ∷ []) $ fsplit ! $ move ! (1 ∷ []) $ fsplit ! $
-      move ! (1 ∷ []) $ fsplit ! $ move ! (1 ∷ []) $ fsplit ! $ move ! (1 ∷ []) $ fsplit ! $ move ! (1 ∷ []) $ fsplit ! $ move ! (1 ∷ []) $ fsplit ! $ move ! (1 ∷ []) $ fsplit ! $ move ! (1 ∷ []) $ move ! (69 ∷ []) $ split ! $
+      alloc1 ! (λ l0. alloc1 ! (λ l1. alloc1 ! (λ l2. alloc1 ! (λ l3. alloc1 ! (λ l4. alloc1 ! (λ l5. alloc1 ! (λ l6. alloc1 ! (λ l7. alloc1 ! (λ l8. alloc1 ! (λ l9. alloc1 ! (λ l10. alloc1 ! (λ l11. alloc1 ! (λ l12. alloc1 ! (λ l13. alloc1 ! (λ l14. alloc1 ! (λ l15. alloc1 ! (λ l16. alloc1 ! (λ l17. alloc1 ! (λ l18. alloc1 ! (λ l19. alloc1 ! (λ l20. alloc1 ! (λ l21. alloc1 ! (λ l22. alloc1 ! (λ l23. alloc1 ! (λ l24. alloc1 ! (λ l25. alloc1 ! (λ l26. alloc1 ! (λ l27. alloc0 ! $ params1 ! $
+      pass1 ! (init ! 52 refl (tt, (tt, (record { fits = room-content .0 }, tt)))) $ pass1 ! (init ! 50 refl (tt, (tt, (record { fits = room-entries .0 }, tt)))) $
+      pass1 ! (init ! 48 refl (tt, (tt, (record { fits = room-text .0 }, tt)))) $ pass1 ! (init ! 46 refl (tt, (tt, (record { fits = room-records .0 }, tt)))) $
+      pass1 ! (init ! 44 refl (tt, (tt, (record { fits = room-new .0 }, tt)))) $ pass1 ! (init ! 42 refl (tt, (tt, (record { fits = room-bytes .0 }, tt)))) $
+      pass1 ! (init ! 40 refl (tt, (tt, (record { fits = room-numbers .0 }, tt)))) $ pass1 ! (init ! 38 refl (tt, (tt, (record { fits = room-texts .0 }, tt)))) $ pass0 ! $ move ! (57 ∷ []) $ fsplit ! $ move ! (1 ∷ []) $ fsplit ! $
+      move ! (1 ∷ []) $ fsplit ! $ move ! (1 ∷ []) $ fsplit ! $ move ! (1 ∷ []) $ fsplit ! $ move ! (1 ∷ []) $ fsplit ! $ move ! (1 ∷ []) $ fsplit ! $ move ! (1 ∷ []) $ fsplit ! $ move ! (1 ∷ []) $ move ! (65 ∷ []) $ split ! $
       move ! (1 ∷ []) $ split ! $ move ! (1 ∷ []) $ split ! $ move ! (1 ∷ []) $ split ! $ move ! (1 ∷ []) $ split ! $ move ! (1 ∷ []) $ split ! $ move ! (1 ∷ []) $ split ! $ move ! (1 ∷ []) $ split ! $ move ! (1 ∷ []) $
-      keep ! (18 ∷ 19 ∷ 20 ∷ 21 ∷ 22 ∷ 23 ∷ 24 ∷ 25 ∷ 26 ∷ 27 ∷ 28 ∷ 29 ∷ 30 ∷ 31 ∷ 32 ∷ 33 ∷ 34 ∷ 35 ∷ 36 ∷ 37 ∷ 38 ∷ 39 ∷ 40 ∷ 41 ∷ 42 ∷ 43 ∷ 44 ∷ 45 ∷ 46 ∷ 47 ∷ 48 ∷ 49 ∷ 50 ∷ 51 ∷ 52 ∷ 53 ∷ 54 ∷ 55 ∷ 56 ∷ 57 ∷ 58 ∷ 59 ∷ 60 ∷ 61 ∷ 62 ∷ 63 ∷ 64 ∷ 65 ∷ 66 ∷ 67 ∷ 68 ∷ 69 ∷ 70 ∷ 71 ∷ 72 ∷ 73 ∷ 74 ∷ 75 ∷ 76 ∷ 77 ∷ 8 ∷ 17 ∷ 7 ∷ 16 ∷ 6 ∷ 15 ∷ 5 ∷ 14 ∷ 4 ∷ 13 ∷ 3 ∷ 12 ∷ 2 ∷ 11 ∷ 1 ∷ 10 ∷ []) $ by ! (part-1 𝓣 fm known-check-each known-finish known-first known-plan known-write-each room-content room-entries room-text room-records room-new room-bytes room-numbers room-texts l0 l1 l2 l3 l4 l5 l6 l7 l8 l9 l10 l11 l12 l13 l14 l15 l16 l17 l18 l19 l20 l21 l22 l23 l24 l25 l26 l27 l28 l29)))))))))))))))))))))))))))))))
+      keep ! (18 ∷ 19 ∷ 20 ∷ 21 ∷ 22 ∷ 23 ∷ 24 ∷ 25 ∷ 26 ∷ 27 ∷ 28 ∷ 29 ∷ 30 ∷ 31 ∷ 32 ∷ 33 ∷ 34 ∷ 35 ∷ 36 ∷ 37 ∷ 38 ∷ 39 ∷ 40 ∷ 41 ∷ 42 ∷ 43 ∷ 44 ∷ 45 ∷ 46 ∷ 47 ∷ 48 ∷ 49 ∷ 50 ∷ 51 ∷ 52 ∷ 53 ∷ 54 ∷ 55 ∷ 56 ∷ 57 ∷ 58 ∷ 59 ∷ 60 ∷ 61 ∷ 62 ∷ 63 ∷ 64 ∷ 65 ∷ 66 ∷ 67 ∷ 68 ∷ 69 ∷ 70 ∷ 71 ∷ 72 ∷ 73 ∷ 8 ∷ 17 ∷ 7 ∷ 16 ∷ 6 ∷ 15 ∷ 5 ∷ 14 ∷ 4 ∷ 13 ∷ 3 ∷ 12 ∷ 2 ∷ 11 ∷ 1 ∷ 10 ∷ []) $ by ! (part-1 𝓣 fm known-check-each known-finish known-first known-plan known-write-each room-content room-entries room-text room-records room-new room-bytes room-numbers room-texts l0 l1 l2 l3 l4 l5 l6 l7 l8 l9 l10 l11 l12 l13 l14 l15 l16 l17 l18 l19 l20 l21 l22 l23 l24 l25 l26 l27)))))))))))))))))))))))))))))
 
 module _ {M : Type 1} (𝓤 : URA M) (H : Heap 𝓤) (A : Atoms 𝓤) (W : Given 𝓤 H A) (mem : Memory → SProp 𝓤) (run : Routine → Fun 𝓤) where
   fn-walks : (𝓣 : Tables 𝓤 H) → FmC 𝓤 H (W .laws) (𝓣 .C) → Triple 𝓤 (𝓣 .C #replaced·check-each) (C-check-each 𝓤 H A mem run) → Triple 𝓤 (𝓣 .C #replaced·finish) (C-finish 𝓤 H A mem run) → Triple 𝓤 (𝓣 .C #replaced·first) (C-first 𝓤 H A mem run) → Triple 𝓤 (𝓣 .C #replaced·plan) (C-plan 𝓤 H A mem run) → Triple 𝓤 (𝓣 .C #replaced·write-each) (C-write-each 𝓤 H A mem run) → Walks 𝓤 H A fn.ended stayed (WpFn 𝓤 H (𝓣 .C) (𝓣 .Λ) fnX) (fn.clauses 𝓤 H A mem run)
