@@ -134,17 +134,7 @@ pub fn write_turn(
         Settled::Room => {}
     }
     let at = w.cursor;
-    let c = write_step(
-        at,
-        x,
-        content,
-        entries,
-        text,
-        new,
-        bytes,
-        numbers,
-        texts,
-    );
+    let c = write_step(at, x, content, entries, text, new, bytes, numbers, texts);
     Work {
         verdict: Settled::Room,
         cursor: c,
@@ -169,7 +159,17 @@ pub fn write_each(
     let mut s = state;
     let mut i = 0;
     while i < records.len() {
-        s = write_turn(s, records[i], content, entries, text, new, bytes, numbers, texts);
+        s = write_turn(
+            s,
+            records[i],
+            content,
+            entries,
+            text,
+            new,
+            bytes,
+            numbers,
+            texts,
+        );
         i += 1;
     }
     s
@@ -239,6 +239,16 @@ pub fn write_replaced(
         numbers.len(),
         texts.len(),
     );
-    let w = write_each(records, p, content, entries, text, new, bytes, numbers, texts);
+    let w = write_each(
+        records,
+        p,
+        content,
+        entries,
+        text,
+        new,
+        bytes,
+        numbers,
+        texts,
+    );
     finish(w, content, entries, text, bytes, numbers, texts)
 }

@@ -1,5 +1,5 @@
 -- `replaced::check_each` meets its contract: a walk of its MIR, by hand, with a loop. Each turn looks into the slice of records, reads the one at i whole, lends each `&mut` slice again for a lifetime of the call, and calls `check_step`.
--- Written by tools/walkgen.py: the positions are counted there. All that it knows of `check_step` is that it meets its contract. Assumes nothing.
+-- Written by tools/walk/walkgen.py: the positions are counted there. All that it knows of `check_step` is that it meets its contract. Assumes nothing.
 use mathlib.Core.Path.{_≡_, refl, sym, ap, _∙_, subst}
 use mathlib.Core.Bool.{Bool, true, false}
 use Prim.Native.Nat.{ℕ, zero, suc, _<_, _≤_, _^_, _*_, _+_}
@@ -152,7 +152,7 @@ module _ {M : Type 1} (𝓤 : URA M) (H : Heap 𝓤) (A : Atoms 𝓤) (W : Given
   abbrev Handed : Scan → List (Item 𝓤)
   Handed w = []
 
-  goes : (w : Scan) (e : Replacement) → GoodS w → Is R e (machR e ∷ [])  → ent 𝓤 (⋆ 𝓤 H A (Handed w)) (StepC 𝓤 H A mem run .pre (to w e))
+  goes : (w : Scan) (e : Replacement) → GoodS w → Is R e (machR e ∷ []) → ent 𝓤 (⋆ 𝓤 H A (Handed w)) (StepC 𝓤 H A mem run .pre (to w e))
   goes w e gs ge =
       qed W (Handed w) ∵
       nothing ! $ owned ! usize (Is usize) (uint-makes 𝓤 H A W w64) new (vint w64 new ∷ []) (refl, f-new) $ fjoin ! $ owned ! usize (Is usize) (uint-makes 𝓤 H A W w64) old (vint w64 old ∷ []) (refl, f-old) $ fjoin ! $
@@ -288,7 +288,7 @@ module _ {M : Type 1} (𝓤 : URA M) (H : Heap 𝓤) (A : Atoms 𝓤) (W : Given
         exE 𝓤 (λ (w : Scan). guard 𝓤 (Facts t i w) (⋆ 𝓤 H A (At i w))) (λ w. guardE 𝓤 (Facts t i w) (⋆ 𝓤 H A (At i w)) (λ f. turn-at t i w f)))
 
     loops : ent 𝓤 (⋆ 𝓤 H A (At 0 w₀)) (Wp 𝓤 H C Λ En (loop body.turn-1) Left)
-    loops = via 𝓤 (Inv n) (holds-at n 0 w₀ (record { left = zero-add n; gives = refl; good = g₀; })) (loop-rule 𝓤 H (W .laws) 𝓣 _<_ (Nat·lt-wfRel .wf) En body.turn-1 Left Inv turns n)
+    loops = via 𝓤 (Inv n) (holds-at n 0 w₀ (record { left = zero-add n; gives = refl; good = g₀ })) (loop-rule 𝓤 H (W .laws) 𝓣 _<_ (Nat·lt-wfRel .wf) En body.turn-1 Left Inv turns n)
 
     -- where the body begins: the parameters are in their locals
     abbrev Begin : List (Item 𝓤)

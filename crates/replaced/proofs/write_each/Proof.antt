@@ -1,5 +1,5 @@
 -- `replaced::write_each` meets its contract: a walk of its MIR, by hand, with a loop. Each turn looks into the slice of records, reads the one at i whole, lends each `&mut` slice again for a lifetime of the call, and calls `write_turn`.
--- Written by tools/walkgen.py: the positions are counted there. All that it knows of `write_turn` is that it meets its contract. Assumes nothing.
+-- Written by tools/walk/walkgen.py: the positions are counted there. All that it knows of `write_turn` is that it meets its contract. Assumes nothing.
 use mathlib.Core.Path.{_≡_, refl, sym, ap, _∙_, subst}
 use mathlib.Core.Bool.{Bool, true, false}
 use Prim.Native.Nat.{ℕ, zero, suc, _<_, _≤_, _^_, _*_, _+_}
@@ -227,7 +227,7 @@ module _ {M : Type 1} (𝓤 : URA M) (H : Heap 𝓤) (A : Atoms 𝓤) (W : Given
   abbrev Handed : World → ℕ → GName → ℕ → GName → ℕ → GName → List (Item 𝓤)
   Handed w ν5 δ5 ν6 δ6 ν7 δ7 = ‵ (flft κ1 q1) ∷ ‵ O1 ∷ ‵ (flft κ2 q2) ∷ ‵ O2 ∷ ‵ (flft κ3 q3) ∷ ‵ O3 ∷ ‵ (flft κ4 q4) ∷ ‵ O4 ∷ ‵ (flft (ν5 ∷ []) fullShare) ∷ ‵ (N5 ν5 δ5 (w .bytes)) ∷ ‵ (flft (ν6 ∷ []) fullShare) ∷ ‵ (N6 ν6 δ6 (w .numbers)) ∷ ‵ (flft (ν7 ∷ []) fullShare) ∷ ‵ (N7 ν7 δ7 (w .texts)) ∷ []
 
-  goes : (w : World) (e : Replacement) (ν5 : ℕ) (δ5 : GName) (ν6 : ℕ) (δ6 : GName) (ν7 : ℕ) (δ7 : GName) → GoodS (w .work) → Is R e (machR e ∷ [])  → MayTurn (x1 .now) (x2 .now) (x3 .now) (x4 .now) e w → ent 𝓤 (⋆ 𝓤 H A (Handed w ν5 δ5 ν6 δ6 ν7 δ7)) (StepC 𝓤 H A mem run .pre (to w e ν5 δ5 ν6 δ6 ν7 δ7))
+  goes : (w : World) (e : Replacement) (ν5 : ℕ) (δ5 : GName) (ν6 : ℕ) (δ6 : GName) (ν7 : ℕ) (δ7 : GName) → GoodS (w .work) → Is R e (machR e ∷ []) → MayTurn (x1 .now) (x2 .now) (x3 .now) (x4 .now) e w → ent 𝓤 (⋆ 𝓤 H A (Handed w ν5 δ5 ν6 δ6 ν7 δ7)) (StepC 𝓤 H A mem run .pre (to w e ν5 δ5 ν6 δ6 ν7 δ7))
   goes w e ν5 δ5 ν6 δ6 ν7 δ7 gs ge fit =
       qed W (Handed w ν5 δ5 ν6 δ6 ν7 δ7) ∵
       says ! fit $ nothing ! $ move ! (13 ∷ 0 ∷ []) $ join ! $ move ! (11 ∷ 0 ∷ []) $ join ! $ move ! (9 ∷ 0 ∷ []) $ join ! $ move ! (7 ∷ 0 ∷ []) $ join ! $ move ! (5 ∷ 0 ∷ []) $ join ! $ move ! (3 ∷ 0 ∷ []) $ join ! $
@@ -415,7 +415,7 @@ module _ {M : Type 1} (𝓤 : URA M) (H : Heap 𝓤) (A : Atoms 𝓤) (W : Given
         exE 𝓤 (λ (w : World). guard 𝓤 (Facts t i w) (⋆ 𝓤 H A (At i w))) (λ w. guardE 𝓤 (Facts t i w) (⋆ 𝓤 H A (At i w)) (λ f. turn-at t i w f)))
 
     loops : MayTurns (x1 .now) (x2 .now) (x3 .now) (x4 .now) ys w₀ → ent 𝓤 (⋆ 𝓤 H A (At 0 w₀)) (Wp 𝓤 H C Λ En (loop body.turn-1) Left)
-    loops fit = via 𝓤 (Inv n) (holds-at n 0 w₀ (record { left = zero-add n; gives = going-first (x1 .now) (x2 .now) (x3 .now) (x4 .now) ys w₀ fit; good = g₀; len5 = refl; len6 = refl; len7 = refl; })) (loop-rule 𝓤 H (W .laws) 𝓣 _<_ (Nat·lt-wfRel .wf) En body.turn-1 Left Inv turns n)
+    loops fit = via 𝓤 (Inv n) (holds-at n 0 w₀ (record { left = zero-add n; gives = going-first (x1 .now) (x2 .now) (x3 .now) (x4 .now) ys w₀ fit; good = g₀; len5 = refl; len6 = refl; len7 = refl })) (loop-rule 𝓤 H (W .laws) 𝓣 _<_ (Nat·lt-wfRel .wf) En body.turn-1 Left Inv turns n)
 
     -- where the body begins: the parameters are in their locals
     abbrev Begin : List (Item 𝓤)

@@ -1,5 +1,5 @@
 -- `replaced::write_replaced` meets its contract: a walk of its MIR, by hand: a run of calls. Each `&mut` slice that a call is passed is lent again for a lifetime of that call.
--- Written by tools/linegen.py: the positions are counted there. All that it knows of the functions that it calls is that each meets its contract. Assumes nothing.
+-- Written by tools/walk/linegen.py: the positions are counted there. All that it knows of the functions that it calls is that each meets its contract. Assumes nothing.
 use mathlib.Core.Path.{_≡_, refl, sym, ap, _∙_, subst}
 use Prim.Native.Nat.{ℕ, zero, suc, _<_, _≤_, _^_, _*_, _+_}
 use mathlib.Core.List.{List, [], _∷_}
