@@ -53,35 +53,35 @@ eight-or-none true n e = (λ _. sym e, λ h. absurd (false≢true (sym h)))
 eight-or-none false n e = (λ h. absurd (false≢true h), λ _. sym e)
 
 module _ (ds ns ts new od oe ot : List ℕ) (xs : List Replacement) where
-  abbrev content : Recording
+  abbrev pub content : Recording
   content = recording ds ns ts
 
-  abbrev result : List Item
+  abbrev pub result : List Item
   result = edit (replaceOps new 0 xs) (items content)
 
-  abbrev told : Outcome
+  abbrev pub told : Outcome
   told = outcome (callOn (replace xs new) od oe ot) content
 
   -- what the call promises
-  abbrev Kept : Answer → List ℕ → List ℕ → List ℕ → Type 0
+  abbrev pub Kept : Answer → List ℕ → List ℕ → List ℕ → Type 0
   Kept a od′ oe′ ot′ =
       (answerOf a ≡ returned told) × ((od′ ≡ lentAfter told (lentOf od oe ot) .dataBytes) × ((oe′ ≡ lentAfter told (lentOf od oe ot) .entryNumbers) × (ot′ ≡ lentAfter told (lentOf od oe ot) .text)))
 
   each : (a : Answer) (od′ oe′ ot′ : List ℕ) → (answerOf a ≡ returned told) × (lentOf od′ oe′ ot′ ≡ lentAfter told (lentOf od oe ot)) → Kept a od′ oe′ ot′
   each a od′ oe′ ot′ p = (p .0, (ap (λ (b : Lent). b .dataBytes) (p .1), (ap (λ (b : Lent). b .entryNumbers) (p .1), ap (λ (b : Lent). b .text) (p .1))))
 
-  stopped : (f : Refusal) → told ≡ refused (numberOf f) → Kept (Refused f) od oe ot
+  pub stopped : (f : Refusal) → told ≡ refused (numberOf f) → Kept (Refused f) od oe ot
   stopped f e = each (Refused f) od oe ot (refused-call (callOn (replace xs new) od oe ot) content f (lentOf od oe ot) e)
 
   items-are : resultItems (replace xs new) content ≡ result
   unfolding resultItems
   items-are = refl
 
-  no-second : secondFault (replace xs new) ≡ 0
+  pub no-second : secondFault (replace xs new) ≡ 0
   unfolding secondFault
   no-second = refl
 
-  records-are : replacementFault (replace xs new) content ≡ recordsFault 0 (length ds) (length new) xs
+  pub records-are : replacementFault (replace xs new) content ≡ recordsFault 0 (length ds) (length new) xs
   unfolding replacementFault
   records-are = refl
 

@@ -1,4 +1,5 @@
-// Replacing stretches of a recording's data (document 01, module 5): `write_replaced`.
+// Replacing stretches of a recording's data (document 01, module 5): the steps of the scan and of the writing, and `write_replaced_flat`, whose records are flat numbers, four each, as C lends them.
+// `write_replaced` over a list of structs stands in crate `replaced`: one definition, two front doors.
 // All records are scanned first, for refusal 8 and for the size of the result, and written only then. Both scans hand each record, with a state by value, to a step.
 // What the call answers and leaves is the `outcome` of the job `replace` in `layout/specs/Layout.antt`; the records behind the numbers are `recordsOf` of `specs/Records.antt`.
 use chars::LEADS;
@@ -24,7 +25,7 @@ ghost use Rattle.recording.specs.Outcome.{answerOf, returned, lentAfter};
 ghost use Rattle.writer.specs.Write.{out, add, blank, Fits, Sound};
 ghost use Rattle.layout.specs.Layout.{badRecord, recordsFault, replaceOps, replace, outcome};
 ghost use Rattle.layout.specs.Lent.{lentOf, callOn};
-ghost use Rattle.replace.specs.Records.{recordsOf, capped, scan, checkStep, checkAll};
+ghost use Rattle.replace.specs.Records.{replacement, recordsOf, capped, scan, checkStep, checkAll};
 ghost use Rattle.replace.specs.Turn.{Turn, Turned};
 
 // What the records so far say: whether one of them is bad, the end of the last one, and the size of the result up to there, capped above the limit.
@@ -47,23 +48,23 @@ pub fn record_at(records: &[u32], k: usize) -> Replacement
     }
 }
 
-// Refusal 8 of one record after another that ends at `at`, for n data bytes and a replacement text of t bytes.
-pub fn bad_record(at: u32, x: Replacement, n: usize, t: usize) -> bool
-    ensures { λ r. ⌜ r ≡ badRecord at n t x ⌝ }
+// Refusal 8 of one record's four numbers after a record that ends at `at`, for n data bytes and a replacement text of t bytes.
+pub fn bad_record(at: u32, start: u32, end: u32, from: u32, to: u32, n: usize, t: usize) -> bool
+    ensures { λ r. ⌜ r ≡ badRecord at n t (replacement start end from to) ⌝ }
 {
-    if x.end < x.start {
+    if end < start {
         return true;
     }
-    if n < x.end as usize {
+    if n < end as usize {
         return true;
     }
-    if x.start < at {
+    if start < at {
         return true;
     }
-    if x.to < x.from {
+    if to < from {
         return true;
     }
-    t < x.to as usize
+    t < to as usize
 }
 
 // A size and some bytes more, capped above the limit of data: sizes of any number of records can be summed.
@@ -79,9 +80,9 @@ pub fn capped_add(size: usize, more: usize) -> usize
     size + more
 }
 
-// One record more of the scan.
-pub fn check_step(s: Scan, x: Replacement, n: usize, t: usize) -> Scan
-    ensures { λ r. ⌜ r ≡ checkStep n t x s ⌝ }
+// One record more of the scan, decided from its four numbers.
+pub fn check_numbers(s: Scan, start: u32, end: u32, from: u32, to: u32, n: usize, t: usize) -> Scan
+    ensures { λ r. ⌜ r ≡ checkStep n t (replacement start end from to) s ⌝ }
 {
     if s.bad {
         return Scan {
@@ -90,19 +91,26 @@ pub fn check_step(s: Scan, x: Replacement, n: usize, t: usize) -> Scan
             size: 0,
         };
     }
-    if bad_record(s.at, x, n, t) {
+    if bad_record(s.at, start, end, from, to, n, t) {
         return Scan {
             bad: true,
             at: 0,
             size: 0,
         };
     }
-    let kept = capped_add(s.size, (x.start - s.at) as usize);
+    let kept = capped_add(s.size, (start - s.at) as usize);
     Scan {
         bad: false,
-        at: x.end,
-        size: capped_add(kept, (x.to - x.from) as usize),
+        at: end,
+        size: capped_add(kept, (to - from) as usize),
     }
+}
+
+// One record more of the scan: document 01 has the scan hand numbers on, and this is where a record's are handed to the function that decides.
+pub fn check_step(s: Scan, x: Replacement, n: usize, t: usize) -> Scan
+    ensures { λ r. ⌜ r ≡ checkStep n t x s ⌝ }
+{
+    check_numbers(s, x.start, x.end, x.from, x.to, n, t)
 }
 
 // The scan over all records.
@@ -211,7 +219,7 @@ pub fn write_records(
 }
 
 // Writes the content with each record's stretch gone and its part of the replacement text `new` in its stead. A record is four numbers; a rest of fewer is none.
-pub fn write_replaced(
+pub fn write_replaced_flat(
     content: &[u8],
     entries: &[u32],
     text: &[u8],

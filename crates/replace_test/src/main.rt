@@ -1,8 +1,8 @@
-// Runs `write_replaced` and prints a line for each case: the refusal, or the three lengths; then what the buffers hold, dots where they were not written.
+// Runs `write_replaced_flat` and prints a line for each case: the refusal, or the three lengths; then what the buffers hold, dots where they were not written.
 // What is proved of a program is that it is safe; what it should print stands in the file `stdout`.
 use recording::Answer;
 use recording::Refusal;
-use replace::write_replaced;
+use replace::write_replaced_flat;
 ghost use Prim.Native.Nat.{_≤_};
 ghost use lib.ListN.{length};
 
@@ -71,7 +71,7 @@ fn case_by(
     numbers: &mut [u32],
     texts: &mut [u8],
 ) {
-    let a = write_replaced(content, entries, text, records, new, bytes, numbers, texts);
+    let a = write_replaced_flat(content, entries, text, records, new, bytes, numbers, texts);
     io::write_all(1, name);
     io::write_all(1, b":");
     answer(a);
@@ -370,7 +370,7 @@ fn thousands_in(records: &[u32], bytes: &mut [u8]) {
     let mut numbers = [0; 1];
     let mut texts = [0; 1];
     let none = [0; 1];
-    let a = write_replaced(
+    let a = write_replaced_flat(
         b"abc",
         &none[0..0],
         b"",

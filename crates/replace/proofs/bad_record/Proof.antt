@@ -11,34 +11,26 @@ returns : tie.Need-returns
 returns c =
     rw (lt-ltb _ _ (c .if1 .taken))
 
--- src/lib.rt:38:12
-cast-if2 : tie.Need-cast-if2
-cast-if2 c = search needs
-
 -- src/lib.rt:39:9
 returns-2 : tie.Need-returns-2
 returns-2 c =
-    rw (le-ltb _ _ (c .before .before .if1 .left), lt-ltb _ _ (c .if2 .taken))
+    rw (le-ltb _ _ (c .before .if1 .left), lt-ltb _ _ (c .if2 .taken))
 
 -- src/lib.rt:42:9
 returns-3 : tie.Need-returns-3
 returns-3 c =
-    rw (le-ltb _ _ (c .before .before .before .before .if1 .left), le-ltb _ _ (c .before .before .if2 .left), lt-ltb _ _ (c .if3 .taken))
+    rw (le-ltb _ _ (c .before .before .if1 .left), le-ltb _ _ (c .before .if2 .left), lt-ltb _ _ (c .if3 .taken))
 
 -- src/lib.rt:45:9
 returns-4 : tie.Need-returns-4
 returns-4 c =
-    rw (le-ltb _ _ (c .before .before .before .before .before .before .if1 .left), le-ltb _ _ (c .before .before .before .before .if2 .left), le-ltb _ _ (c .before .before .if3 .left), lt-ltb _ _ (c .if4 .taken))
-
--- src/lib.rt:47:9
-cast-result : tie.Need-cast-result
-cast-result c = search needs
+    rw (le-ltb _ _ (c .before .before .before .if1 .left), le-ltb _ _ (c .before .before .if2 .left), le-ltb _ _ (c .before .if3 .left), lt-ltb _ _ (c .if4 .taken))
 
 -- src/lib.rt:32:1
 returns-5 : tie.Need-returns-5
 returns-5 c =
-    rw (le-ltb _ _ (c .before .before .before .before .before .before .before .if1 .left), le-ltb _ _ (c .before .before .before .before .before .if2 .left), le-ltb _ _ (c .before .before .before .if3 .left), le-ltb _ _ (c .before .if4 .left))
+    rw (le-ltb _ _ (c .before .before .before .if1 .left), le-ltb _ _ (c .before .before .if2 .left), le-ltb _ _ (c .before .if3 .left), le-ltb _ _ (c .if4 .left))
 
 pub bad-record-spec : {M : Type 1} → statement M
 bad-record-spec =
-    tie.close (tie.spec returns cast-if2 returns-2 returns-3 returns-4 cast-result returns-5)
+    tie.close (tie.spec returns returns-2 returns-3 returns-4 returns-5)

@@ -1,12 +1,12 @@
--- `write_replaced` answers and leaves what the outcome has: at each return, the law of `CallLaws` for the place where it stops.
+-- `write_replaced_flat` answers and leaves what the outcome has: at each return, the law of `CallLaws` for the place where it stops.
 use borrow.Author.Needs.{needs}
 use Rattle.chars.specs.Leads.{leadTable}
 use Rattle.replace.specs.Records.{recordsOf}
 use Rattle.replace.proofs.CallLaws.{content-refused, is-sound, records-refused, no-fault, within, sizes-refused, room, finished}
-use Rattle.replace.proofs.write_replaced.Statement.{statement}
-use Rattle.replace.proofs.write_replaced.Tie as tie
-use Rattle.replace.proofs.write_replaced.Reads as reads
-use Rattle.replace.proofs.write_replaced.Lts as lts
+use Rattle.replace.proofs.write_replaced_flat.Statement.{statement}
+use Rattle.replace.proofs.write_replaced_flat.Tie as tie
+use Rattle.replace.proofs.write_replaced_flat.Reads as reads
+use Rattle.replace.proofs.write_replaced_flat.Lts as lts
 use Rattle.recording.proofs.check.Reads as check-reads
 use Rattle.replace.proofs.capped_add.Reads as capped-add-reads
 use Rattle.replace.proofs.check_records.Reads as check-records-reads
@@ -125,8 +125,8 @@ returns-4 c =
     let w = c .before .before .before .before .before .before .write-records in
     finished (a .content .now) (a .entries .now) (a .text .now) (a .new .now) (a .bytes .now) (a .numbers .now) (a .texts .now) (recordsOf (a .records .now)) (k .result) (k .ensures .0) (g .0 .0) (g .1) (k .ensures .1 .0) (s .result) (s .ensures) (c .before .before .before .before .before .before .before .before .before .before .before .before .before .before .before .if1 .left) (d .result) (d .ensures) (v .result) (v .ensures) (h .1) _ _ _ (w .result) (w .ensures)
 
-pub write-replaced-spec : {M : Type 1} → statement M
-write-replaced-spec =
+pub write-replaced-flat-spec : {M : Type 1} → statement M
+write-replaced-flat-spec =
     tie.close
     (tie.spec
     check-requires

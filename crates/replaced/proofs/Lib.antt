@@ -1,0 +1,5 @@
+pub mod Again
+pub mod FoldLaws
+pub mod PlanLaws
+pub mod WorkLaws
+pub mod CallLaws
