@@ -56,7 +56,7 @@ Told c r b (Refused f) = after c r ≡ r
 Told c r b (Done d e t n) = Written (after c r) (lentAfter (outcome c r) b) d e t
 
 pub told : (c : Call) (r : Recording) (b : Lent) (a : Answer) → answerOf a ≡ returned (outcome c r) → Told c r b a
-unfolding answerOf returned after outcome
+unfolding answerOf returned after outcome lentAfter
 told c r b (Refused f) h = go (outcome c r) h
   where
     go : (x : Outcome) → answerOf (Refused f) ≡ returned x → contentAfter x r ≡ r
@@ -65,7 +65,6 @@ told c r b (Refused f) h = go (outcome c r) h
 told c r b (Done d e t n) h = go (outcome c r) refl h
   where
     go : (x : Outcome) → outcome c r ≡ x → answerOf (Done d e t n) ≡ returned x → Written (contentAfter x r) (lentAfter x b) d e t
-    unfolding lentAfter
     go (refused m) q g = absurd (some-number (faultsOf (c .job) r) (c .room) (resultOf (c .job) r) m q (sym (ap (λ (y : Returned). y .refusal) g)))
     go (done x) q g =
         let ed : d ≡ length (x .recording .dataBytes) = ap (λ (y : Returned). y .dataBytes) g in
@@ -87,16 +86,16 @@ roomCall j d e t l = record { job = j; room = record { dataBytes = d; entryNumbe
 -- ── the two sets: d, e, t is the first one, d′, e′, t′ the other one, as they were; the call wrote x, y, z
 module _ (j : Job) (s : Held) (d e t d′ e′ t′ l : List ℕ) (k : Sets s d e t d′ e′ t′) (x y z m : List ℕ) where
   -- the content stands in the first set
-  pub to-other : (a : Answer) → s .first ≡ true → answerOf a ≡ returned (outcome (callLined j d′ e′ t′ l) (frontOf s d e t))
+  pub to-other : (a : Answer) (held : Held) → held ≡ moved s a → s .first ≡ true → answerOf a ≡ returned (outcome (callLined j d′ e′ t′ l) (frontOf s d e t))
       → lentLined x y z m ≡ lentAfter (outcome (callLined j d′ e′ t′ l) (frontOf s d e t)) (lentLined d′ e′ t′ l) → length x ≡ length d′ → length y ≡ length e′ → length z ≡ length t′
-      → Sets (moved s a) d e t x y z × (current (moved s a) d e t x y z ≡ after (callLined j d e t l) (current s d e t d′ e′ t′))
-  to-other a f h g lx ly lz = go a (told (callLined j d′ e′ t′ l) (frontOf s d e t) (lentLined d′ e′ t′ l) a h)
+      → Sets held d e t x y z × (current held d e t x y z ≡ after (callLined j d e t l) (current s d e t d′ e′ t′))
+  unfolding moved
+  to-other a held q f h g lx ly lz = subst (λ (v : Held). Sets v d e t x y z × (current v d e t x y z ≡ after (callLined j d e t l) (current s d e t d′ e′ t′))) (sym q) (go a (told (callLined j d′ e′ t′ l) (frontOf s d e t) (lentLined d′ e′ t′ l) a h))
     where
       room : callLined j d′ e′ t′ l ≡ callLined j d e t l
       room = λ i. roomCall j (k .like-bytes i) (k .like-numbers i) (k .like-texts i) (length l)
 
       go : (a : Answer) → Told (callLined j d′ e′ t′ l) (frontOf s d e t) (lentLined d′ e′ t′ l) a → Sets (moved s a) d e t x y z × (current (moved s a) d e t x y z ≡ after (callLined j d e t l) (current s d e t d′ e′ t′))
-      unfolding moved
       go (Refused n) w = (
         record { bytes = omega (arith, k .bytes, k .like-bytes, lx); numbers = omega (arith, k .numbers, k .like-numbers, ly); texts = omega (arith, k .texts, k .like-texts, lz); like-bytes = lx ∙ k .like-bytes; like-numbers = ly ∙ k .like-numbers; like-texts = lz ∙ k .like-texts },
         rw f (sym w ∙ ap (λ (c : Call). after c (frontOf s d e t)) room),
@@ -109,16 +108,16 @@ module _ (j : Job) (s : Held) (d e t d′ e′ t′ l : List ℕ) (k : Sets s d 
           )
 
   -- the content stands in the other set
-  pub to-first : (a : Answer) → s .first ≡ false → answerOf a ≡ returned (outcome (callLined j d e t l) (frontOf s d′ e′ t′))
+  pub to-first : (a : Answer) (held : Held) → held ≡ moved s a → s .first ≡ false → answerOf a ≡ returned (outcome (callLined j d e t l) (frontOf s d′ e′ t′))
       → lentLined x y z m ≡ lentAfter (outcome (callLined j d e t l) (frontOf s d′ e′ t′)) (lentLined d e t l) → length x ≡ length d → length y ≡ length e → length z ≡ length t
-      → Sets (moved s a) x y z d′ e′ t′ × (current (moved s a) x y z d′ e′ t′ ≡ after (callLined j d e t l) (current s d e t d′ e′ t′))
-  to-first a f h g lx ly lz = go a (told (callLined j d e t l) (frontOf s d′ e′ t′) (lentLined d e t l) a h)
+      → Sets held x y z d′ e′ t′ × (current held x y z d′ e′ t′ ≡ after (callLined j d e t l) (current s d e t d′ e′ t′))
+  unfolding moved
+  to-first a held q f h g lx ly lz = subst (λ (v : Held). Sets v x y z d′ e′ t′ × (current v x y z d′ e′ t′ ≡ after (callLined j d e t l) (current s d e t d′ e′ t′))) (sym q) (go a (told (callLined j d e t l) (frontOf s d′ e′ t′) (lentLined d e t l) a h))
     where
       room : callLined j d e t l ≡ callLined j d e t l
       room = refl
 
       go : (a : Answer) → Told (callLined j d e t l) (frontOf s d′ e′ t′) (lentLined d e t l) a → Sets (moved s a) x y z d′ e′ t′ × (current (moved s a) x y z d′ e′ t′ ≡ after (callLined j d e t l) (current s d e t d′ e′ t′))
-      unfolding moved
       go (Refused n) w = (
         record { bytes = omega (arith, k .bytes, k .like-bytes, lx); numbers = omega (arith, k .numbers, k .like-numbers, ly); texts = omega (arith, k .texts, k .like-texts, lz); like-bytes = k .like-bytes ∙ sym lx; like-numbers = k .like-numbers ∙ sym ly; like-texts = k .like-texts ∙ sym lz },
         rw f (sym w ∙ ap (λ (c : Call). after c (frontOf s d′ e′ t′)) room),
