@@ -81,7 +81,7 @@ loop-again c =
     let r : Recording = current (a .s) (a .bytes .now) (a .numbers .now) (a .texts .now) (a .other-bytes .now) (a .other-numbers .now) (a .other-texts .now) in
     let o : Room = roomOf (a .bytes .now) (a .numbers .now) (a .texts .now) (a .lines .now) in
     let k = c .before .before .before .before .before .before .before .before .before .before .before .before .before .before .turn in
-    next q xs (a .new .now) (a .calls .now) r o (l .held) (l .i) _ _ _ _ _ _ _ (l .inv) (c .before .before .before .before .before .before .before .before .before .before .before .before .before .before .before .before .before .before .before .before .before .before .before .before .loop-test .taken) (k .result) _ _ _ _ _ _ _ (k .ensures .0) (k .ensures .1) (k .kept .0) (k .kept .1 .0) (k .kept .1 .1 .0) (k .kept .1 .1 .1 .1 .1 .1)
+    next q xs (a .new .now) (a .calls .now) r o (l .held) (l .i) _ _ _ _ _ _ _ (l .inv) (c .before .before .before .before .before .before .before .before .before .before .before .before .before .before .before .before .before .before .before .before .before .before .before .before .loop-test .taken) (k .result) _ _ _ _ _ _ _ (k .ensures .0) (k .ensures .1) (k .kept .1 .1 .1 .1 .1 .1 .1 .1 .0) (k .kept .1 .1 .1 .1 .1 .1 .1 .1 .1 .0) (k .kept .1 .1 .1 .1 .1 .1 .1 .1 .1 .1 .0) (k .kept .1 .1 .1 .1 .1 .1 .1 .1 .1 .1 .1 .1 .1 .1 .0)
 
 -- src/lib.rt:254:1
 same-length : tie.Need-same-length Inv-loop μ-loop

@@ -80,7 +80,7 @@ returns c =
     let a = c .before .before .before .before .before .before .before .before .before .before .before .before .before .before .before .before .before .before .before .before .before .before .before .before .before .before .before .before .before .before .args in
     let j : Job = jobOf (a .kind) (a .number) (recording (a .second .now) (a .second-entries .now) (a .second-text .now)) (recordsOf (a .records .now)) (a .new .now) in
     let k = c .before .before .before .before .before .before .before .before .before .apply in
-    to-other j (a .s) (a .bytes .now) (a .numbers .now) (a .texts .now) (a .other-bytes .now) (a .other-numbers .now) (a .other-texts .now) (a .lines .now) (c .before .before .before .before .before .before .before .before .before .before .before .before .before .before .before .before .before .before .before .before .before .before .before .before .before .before .before .before .before .before .pre) _ _ _ _ (k .result) (c .moved .result) (c .moved .ensures) (c .before .before .before .before .before .before .before .before .before .before .before .before .before .before .before .before .before .if1 .taken) (k .ensures .0) (k .ensures .1) (k .kept .0) (k .kept .1 .0) (k .kept .1 .1 .0)
+    to-other j (a .s) (a .bytes .now) (a .numbers .now) (a .texts .now) (a .other-bytes .now) (a .other-numbers .now) (a .other-texts .now) (a .lines .now) (c .before .before .before .before .before .before .before .before .before .before .before .before .before .before .before .before .before .before .before .before .before .before .before .before .before .before .before .before .before .before .pre) _ _ _ _ (k .result) (c .moved .result) (c .moved .ensures) (c .before .before .before .before .before .before .before .before .before .before .before .before .before .before .before .before .before .if1 .taken) (k .ensures .0) (k .ensures .1) (k .kept .1 .1 .1 .1 .1 .1 .1 .1 .1 .1 .0) (k .kept .1 .1 .1 .1 .1 .1 .1 .1 .1 .1 .1 .0) (k .kept .1 .1 .1 .1 .1 .1 .1 .1 .1 .1 .1 .1 .0)
 
 -- src/lib.rt:237:9
 slice-reshare-prefix-apply-4 : tie.Need-slice-reshare-prefix-apply-4
@@ -148,7 +148,7 @@ returns-2 c =
     let a = c .before .before .before .before .before .before .before .before .before .before .before .before .before .before .before .before .before .before .before .before .before .before .before .before .before .before .before .before .before .before .args in
     let j : Job = jobOf (a .kind) (a .number) (recording (a .second .now) (a .second-entries .now) (a .second-text .now)) (recordsOf (a .records .now)) (a .new .now) in
     let k = c .before .before .before .before .before .before .before .before .before .apply2 in
-    to-first j (a .s) (a .bytes .now) (a .numbers .now) (a .texts .now) (a .other-bytes .now) (a .other-numbers .now) (a .other-texts .now) (a .lines .now) (c .before .before .before .before .before .before .before .before .before .before .before .before .before .before .before .before .before .before .before .before .before .before .before .before .before .before .before .before .before .before .pre) _ _ _ _ (k .result) (c .moved2 .result) (c .moved2 .ensures) (c .before .before .before .before .before .before .before .before .before .before .before .before .before .before .before .before .before .if1 .left) (k .ensures .0) (k .ensures .1) (k .kept .0) (k .kept .1 .0) (k .kept .1 .1 .0)
+    to-first j (a .s) (a .bytes .now) (a .numbers .now) (a .texts .now) (a .other-bytes .now) (a .other-numbers .now) (a .other-texts .now) (a .lines .now) (c .before .before .before .before .before .before .before .before .before .before .before .before .before .before .before .before .before .before .before .before .before .before .before .before .before .before .before .before .before .before .pre) _ _ _ _ (k .result) (c .moved2 .result) (c .moved2 .ensures) (c .before .before .before .before .before .before .before .before .before .before .before .before .before .before .before .before .before .if1 .left) (k .ensures .0) (k .ensures .1) (k .kept .1 .1 .1 .1 .1 .1 .1 .1 .1 .1 .0) (k .kept .1 .1 .1 .1 .1 .1 .1 .1 .1 .1 .1 .0) (k .kept .1 .1 .1 .1 .1 .1 .1 .1 .1 .1 .1 .1 .0)
 
 pub turn-spec : {M : Type 1} → statement M
 turn-spec =
