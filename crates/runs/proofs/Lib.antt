@@ -1,0 +1,4 @@
+pub mod ApplyLaws
+pub mod TurnLaws
+pub mod RunLaws
+pub mod Commutes
