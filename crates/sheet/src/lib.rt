@@ -117,19 +117,19 @@ pub fn break_of(s: &[u8]) -> bool
     s[0] == 0x31
 }
 
-fn is_hex(b: u8) -> bool
-    ensures { λ r. ⌜ r ≡ isHex b ⌝ }
+fn is_hex(digit: u8) -> bool
+    ensures { λ r. ⌜ r ≡ isHex digit ⌝ }
 {
-    if b < 0x30 {
+    if digit < 0x30 {
         return false;
     }
-    if b <= 0x39 {
+    if digit <= 0x39 {
         return true;
     }
-    if b < 0x61 {
+    if digit < 0x61 {
         return false;
     }
-    b <= 0x66
+    digit <= 0x66
 }
 
 // The value of a hexadecimal digit.

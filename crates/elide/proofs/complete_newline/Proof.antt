@@ -17,16 +17,13 @@ use Rattle.elide.proofs.fault.Reads as fault-reads
 use Rattle.elide.proofs.missing.Reads as missing-reads
 use Rattle.elide.proofs.write_parts.Reads as write-parts-reads
 
--- src/lib.rt:214:29
 slice-aggregate-fault : tie.Need-slice-aggregate-fault
 slice-aggregate-fault c = search needs
 
--- src/lib.rt:214:9
 fault-requires : tie.Need-fault-requires
 unfolding leadTable
 fault-requires c κs = search needs
 
--- src/lib.rt:216:9
 returns : tie.Need-returns
 unfolding answerOf returned lentAfter
 returns c =
@@ -35,7 +32,6 @@ returns c =
     let e : completeNewlineOutcome (length (x .out .now)) (x .text .now) ≡ refused 1 = newline-faulty (length (x .out .now)) (x .text .now) 1 (sym (c .if1 .taken) ∙ f .ensures .0) (λ z. omega (arith, z)) in
     (simp e, simp e)
 
--- src/lib.rt:219:9
 returns-2 : tie.Need-returns-2
 unfolding answerOf returned lentAfter
 returns-2 c =
@@ -44,15 +40,12 @@ returns-2 c =
     let e : completeNewlineOutcome (length (x .out .now)) (x .text .now) ≡ refused 7 = newline-faulty (length (x .out .now)) (x .text .now) 7 (sym (c .if2 .taken) ∙ f .ensures .0) (λ z. omega (arith, z)) in
     (simp e, simp e)
 
--- src/lib.rt:221:9
 missing-requires : tie.Need-missing-requires
 missing-requires c κs = search needs
 
--- src/lib.rt:222:43
 slice-aggregate-write-parts : tie.Need-slice-aggregate-write-parts
 slice-aggregate-write-parts c = search needs
 
--- src/lib.rt:222:5
 write-parts-requires : tie.Need-write-parts-requires
 write-parts-requires c κs =
     let x = c .before .before .before .before .before .before .before .before .before .before .args in
@@ -61,11 +54,9 @@ write-parts-requires c κs =
     let small = f .ensures .1 (no-fault (x .text .now) [] (f .result) (f .ensures .0) (c .before .before .before .before .if1 .left) (c .before .before .before .if2 .left)) in
     (omega arith, omega arith, small .0, omega arith, m .ensures .1, omega (arith, m .ensures .1))
 
--- src/lib.rt:209:1
 same-length : tie.Need-same-length
 same-length c = search needs
 
--- src/lib.rt:209:1
 returns-3 : tie.Need-returns-3
 returns-3 c =
     let x = c .before .before .before .before .before .before .before .before .before .before .before .before .before .args in

@@ -18,12 +18,10 @@ use Rattle.elide.proofs.fault.Reads as fault-reads
 use Rattle.elide.proofs.pieces_start.Reads as pieces-start-reads
 use Rattle.elide.proofs.write_parts.Reads as write-parts-reads
 
--- src/lib.rt:182:9
 fault-requires : tie.Need-fault-requires
 unfolding leadTable
 fault-requires c κs = search needs
 
--- src/lib.rt:184:9
 returns : tie.Need-returns
 unfolding answerOf returned lentAfter
 returns c =
@@ -32,7 +30,6 @@ returns c =
     let e : elideStartOutcome (length (x .out .now)) (x .text .now) (x .ellipsis .now) (x .max-width) ≡ refused 1 = start-faulty (length (x .out .now)) (x .max-width) (x .text .now) (x .ellipsis .now) 1 (sym (c .if1 .taken) ∙ f .ensures .0) (λ z. omega (arith, z)) in
     (simp e, simp e)
 
--- src/lib.rt:187:9
 returns-2 : tie.Need-returns-2
 unfolding answerOf returned lentAfter
 returns-2 c =
@@ -41,12 +38,10 @@ returns-2 c =
     let e : elideStartOutcome (length (x .out .now)) (x .text .now) (x .ellipsis .now) (x .max-width) ≡ refused 7 = start-faulty (length (x .out .now)) (x .max-width) (x .text .now) (x .ellipsis .now) 7 (sym (c .if2 .taken) ∙ f .ensures .0) (λ z. omega (arith, z)) in
     (simp e, simp e)
 
--- src/lib.rt:189:9
 pieces-start-requires : tie.Need-pieces-start-requires
 unfolding leadTable
 pieces-start-requires c κs = search needs
 
--- src/lib.rt:190:5
 write-parts-requires : tie.Need-write-parts-requires
 write-parts-requires c κs =
     let x = c .before .before .before .before .before .before .before .before .before .before .args in
@@ -55,11 +50,9 @@ write-parts-requires c κs =
     let small = f .ensures .1 (no-fault (x .text .now) (x .ellipsis .now) (f .result) (f .ensures .0) (c .before .before .before .before .if1 .left) (c .before .before .before .if2 .left)) in
     (p .ensures .1 .2, p .ensures .1 .3, omega (arith, p .ensures .1 .3, small .1), p .ensures .1 .0, p .ensures .1 .1, omega (arith, p .ensures .1 .1, small .0))
 
--- src/lib.rt:177:1
 same-length : tie.Need-same-length
 same-length c = search needs
 
--- src/lib.rt:177:1
 returns-3 : tie.Need-returns-3
 returns-3 c =
     let x = c .before .before .before .before .before .before .before .before .before .before .before .before .before .args in

@@ -10,35 +10,28 @@ use Rattle.elide.proofs.fault.Reads as reads
 use Rattle.elide.proofs.fault.Lts as lts
 use Rattle.chars.proofs.well_formed.Reads as well-formed-reads
 
--- src/lib.rt:122:9
 returns : tie.Need-returns
 unfolding plainFault
 returns c = (simp (lt-ltb _ _ (c .if1 .taken)), λ z. absurd (omega (arith, z)))
 
--- src/lib.rt:125:9
 returns-2 : tie.Need-returns-2
 unfolding plainFault
 returns-2 c = (simp (le-ltb _ _ (c .before .if1 .left), lt-ltb _ _ (c .if2 .taken)), λ z. absurd (omega (arith, z)))
 
--- src/lib.rt:127:9
 well-formed-requires : tie.Need-well-formed-requires
 well-formed-requires c κs = search needs
 
--- src/lib.rt:128:9
 returns-3 : tie.Need-returns-3
 unfolding plainFault
 returns-3 c = (simp (le-ltb _ _ (c .before .before .before .if1 .left), le-ltb _ _ (c .before .before .if2 .left), ← c .before .well-formed .ensures, not-true (c .before .well-formed .result) (c .if3 .taken)), λ z. absurd (omega (arith, z)))
 
--- src/lib.rt:130:9
 well-formed-requires-2 : tie.Need-well-formed-requires-2
 well-formed-requires-2 c κs = search needs
 
--- src/lib.rt:131:9
 returns-4 : tie.Need-returns-4
 unfolding plainFault
 returns-4 c = (simp (le-ltb _ _ (c .before .before .before .before .before .if1 .left), le-ltb _ _ (c .before .before .before .before .if2 .left), ← c .before .before .before .well-formed .ensures, not-false (c .before .before .before .well-formed .result) (c .before .before .if3 .left), ← c .before .well-formed2 .ensures, not-true (c .before .well-formed2 .result) (c .if4 .taken)), λ z. absurd (omega (arith, z)))
 
--- src/lib.rt:116:1
 returns-5 : tie.Need-returns-5
 unfolding plainFault
 returns-5 c = (simp (le-ltb _ _ (c .before .before .before .before .before .if1 .left), le-ltb _ _ (c .before .before .before .before .if2 .left), ← c .before .before .before .well-formed .ensures, not-false (c .before .before .before .well-formed .result) (c .before .before .if3 .left), ← c .before .well-formed2 .ensures, not-false (c .before .well-formed2 .result) (c .if4 .left)), λ z. (c .before .before .before .before .before .if1 .left, c .before .before .before .before .if2 .left))

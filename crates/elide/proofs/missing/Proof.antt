@@ -7,23 +7,18 @@ use Rattle.elide.proofs.missing.Tie as tie
 use Rattle.elide.proofs.missing.Reads as reads
 use Rattle.elide.proofs.missing.Lts as lts
 
--- src/lib.rt:200:9
 returns : tie.Need-returns
 returns c = (newline-none (c .before .args .s .now) (c .if1 .taken), omega arith)
 
--- src/lib.rt:202:10
 sub-if2 : tie.Need-sub-if2
 sub-if2 c = search needs
 
--- src/lib.rt:202:8
 shared-slice-read-if2 : tie.Need-shared-slice-read-if2
 shared-slice-read-if2 c = search needs
 
--- src/lib.rt:203:9
 returns-2 : tie.Need-returns-2
 returns-2 c = (newline-there (c .before .before .before .args .s .now) (c .before .before .if1 .left) (c .if2 .taken), omega arith)
 
--- src/lib.rt:194:1
 returns-3 : tie.Need-returns-3
 returns-3 c = (newline-missing (c .before .before .before .args .s .now) (c .before .before .if1 .left) (c .if2 .left), omega arith)
 

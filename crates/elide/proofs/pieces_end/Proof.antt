@@ -11,11 +11,9 @@ use Rattle.elide.proofs.pieces_end.Lts as lts
 use Rattle.chars.proofs.text_width.Reads as text-width-reads
 use Rattle.chars.proofs.truncate_end_pos.Reads as truncate-end-pos-reads
 
--- src/lib.rt:47:9
 text-width-requires : tie.Need-text-width-requires
 text-width-requires c κs = search needs
 
--- src/lib.rt:49:9
 returns : tie.Need-returns
 returns c =
     let x = c .before .before .before .before .args in
@@ -23,15 +21,12 @@ returns c =
     let l = end-uncut (x .max) (x .text .now) (x .ellipsis .now) (omega (arith, w, c .if1 .taken)) in
     ((l .0, w ∙ l .1), (omega arith, omega arith, omega arith, omega arith))
 
--- src/lib.rt:57:9
 text-width-requires-2 : tie.Need-text-width-requires-2
 text-width-requires-2 c κs = search needs
 
--- src/lib.rt:59:13
 truncate-end-pos-requires : tie.Need-truncate-end-pos-requires
 truncate-end-pos-requires c κs = search needs
 
--- src/lib.rt:60:9
 returns-2 : tie.Need-returns-2
 returns-2 c =
     let x = c .before .before .before .before .before .before .before .args in
@@ -39,15 +34,12 @@ returns-2 c =
     let l = end-alone (x .max) (x .text .now) (x .ellipsis .now) (omega (arith, c .before .before .before .before .text-width .ensures .0, c .before .before .before .if1 .left)) (omega (arith, c .before .before .text-width2 .ensures .0, c .before .if2 .taken)) in
     ((rw (← k .ensures .0 .0) at (l .0), k .ensures .0 .1 ∙ l .1), (omega arith, omega arith, omega arith, k .ensures .1 .0))
 
--- src/lib.rt:68:9
 truncate-end-pos-requires-2 : tie.Need-truncate-end-pos-requires-2
 truncate-end-pos-requires-2 c κs = search needs
 
--- src/lib.rt:74:16
 add-t11 : tie.Need-add-t11
 add-t11 c = search needs
 
--- src/lib.rt:42:1
 returns-3 : tie.Need-returns-3
 returns-3 c =
     let x = c .before .before .before .before .before .before .before .before .args in

@@ -11,11 +11,9 @@ use Rattle.elide.proofs.pieces_start.Lts as lts
 use Rattle.chars.proofs.text_width.Reads as text-width-reads
 use Rattle.elide.proofs.trimmed_pos.Reads as trimmed-pos-reads
 
--- src/lib.rt:84:9
 text-width-requires : tie.Need-text-width-requires
 text-width-requires c κs = search needs
 
--- src/lib.rt:86:9
 returns : tie.Need-returns
 returns c =
     let x = c .before .before .before .before .args in
@@ -23,15 +21,12 @@ returns c =
     let l = start-uncut (x .max) (x .text .now) (x .ellipsis .now) (omega (arith, w, c .if1 .taken)) in
     ((l .0, w ∙ l .1), (omega arith, omega arith, omega arith, omega arith))
 
--- src/lib.rt:94:9
 text-width-requires-2 : tie.Need-text-width-requires-2
 text-width-requires-2 c κs = search needs
 
--- src/lib.rt:96:13
 trimmed-pos-requires : tie.Need-trimmed-pos-requires
 trimmed-pos-requires c κs = search needs
 
--- src/lib.rt:97:9
 returns-2 : tie.Need-returns-2
 returns-2 c =
     let x = c .before .before .before .before .before .before .before .args in
@@ -39,15 +34,12 @@ returns-2 c =
     let l = start-alone (x .max) (x .text .now) (x .ellipsis .now) (k .result .pos) (omega (arith, c .before .before .before .before .text-width .ensures .0, c .before .before .before .if1 .left)) (omega (arith, c .before .before .text-width2 .ensures .0, c .before .if2 .taken)) (k .ensures .0 .0) in
     ((l .0, k .ensures .0 .1 ∙ l .1), (omega arith, omega arith, k .ensures .1 .0, omega arith))
 
--- src/lib.rt:105:9
 trimmed-pos-requires-2 : tie.Need-trimmed-pos-requires-2
 trimmed-pos-requires-2 c κs = search needs
 
--- src/lib.rt:111:16
 add-t12 : tie.Need-add-t12
 add-t12 c = search needs
 
--- src/lib.rt:79:1
 returns-3 : tie.Need-returns-3
 returns-3 c =
     let x = c .before .before .before .before .before .before .before .before .args in

@@ -12,31 +12,24 @@ use Rattle.elide.proofs.trimmed_pos.Lts as lts
 use Rattle.chars.proofs.truncate_start_pos.Reads as truncate-start-pos-reads
 use Rattle.chars.proofs.zero_width_len.Reads as zero-width-len-reads
 
--- src/lib.rt:32:9
 truncate-start-pos-requires : tie.Need-truncate-start-pos-requires
 truncate-start-pos-requires c κs = search needs
 
--- src/lib.rt:34:38
 sub-zero-width-len : tie.Need-sub-zero-width-len
 sub-zero-width-len c = search needs
 
--- src/lib.rt:34:38
 part-zero-width-len-start : tie.Need-part-zero-width-len-start
 part-zero-width-len-start c = search needs
 
--- src/lib.rt:34:38
 part-zero-width-len-end : tie.Need-part-zero-width-len-end
 part-zero-width-len-end c = search needs
 
--- src/lib.rt:34:9
 zero-width-len-requires : tie.Need-zero-width-len-requires
 zero-width-len-requires c κs = search needs
 
--- src/lib.rt:36:14
 add-t9 : tie.Need-add-t9
 add-t9 c = search needs
 
--- src/lib.rt:26:1
 returns : tie.Need-returns
 returns c =
     let k = c .before .before .truncate-start-pos in

@@ -15,19 +15,15 @@ use Rattle.elide.proofs.write_parts.Reads as reads
 use Rattle.elide.proofs.write_parts.Lts as lts
 use Rattle.buffer.proofs.put.Reads as put-reads
 
--- src/lib.rt:141:14
 sub-n : tie.Need-sub-n
 sub-n c = search needs
 
--- src/lib.rt:141:24
 sub-n-2 : tie.Need-sub-n-2
 sub-n-2 c = search needs
 
--- src/lib.rt:141:13
 add-n : tie.Need-add-n
 add-n c = search needs
 
--- src/lib.rt:143:9
 returns : tie.Need-returns
 unfolding answerOf returned lentAfter
 returns c =
@@ -36,7 +32,6 @@ returns c =
     let e = over-limit (length (x .out .now)) (x .width) (part (x .a) (x .b) (x .x .now) ++ part (x .c) (x .d) (x .y .now)) (omega (arith, n, c .if1 .taken)) in
     (simp e, simp e)
 
--- src/lib.rt:146:9
 returns-2 : tie.Need-returns-2
 unfolding answerOf returned lentAfter
 returns-2 c =
@@ -45,19 +40,15 @@ returns-2 c =
     let e = too-short (length (x .out .now)) (x .width) (part (x .a) (x .b) (x .x .now) ++ part (x .c) (x .d) (x .y .now)) (omega (arith, n, c .before .if1 .left)) (omega (arith, n, c .if2 .taken)) in
     (simp e, simp e)
 
--- src/lib.rt:148:9
 put-requires : tie.Need-put-requires
 put-requires c κs = search needs
 
--- src/lib.rt:149:9
 put-requires-2 : tie.Need-put-requires-2
 put-requires-2 c κs = search needs
 
--- src/lib.rt:136:1
 same-length : tie.Need-same-length
 same-length c = search needs
 
--- src/lib.rt:136:1
 returns-3 : tie.Need-returns-3
 unfolding answerOf returned lentAfter
 returns-3 c =

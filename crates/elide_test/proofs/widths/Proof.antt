@@ -14,31 +14,24 @@ Inv-loop text ellipsis max₀ max = max ≤ 8
 abbrev μ-loop : tie.MeasureT-loop
 μ-loop text ellipsis max₀ max = 8 - max
 
--- src/main.rt:73:5
 loop-holds : tie.Need-loop-holds Inv-loop μ-loop
 loop-holds c = search needs
 
--- src/main.rt:74:9
 end-requires : tie.Need-end-requires Inv-loop μ-loop
 end-requires c κs = search needs
 
--- src/main.rt:75:9
 start-requires : tie.Need-start-requires Inv-loop μ-loop
 start-requires c κs = search needs
 
--- src/main.rt:76:9
 add-max : tie.Need-add-max Inv-loop μ-loop
 add-max c = search needs
 
--- src/main.rt:73:5
 loop-less : tie.Need-loop-less Inv-loop μ-loop
 loop-less c = search needs
 
--- src/main.rt:73:5
 loop-again : tie.Need-loop-again Inv-loop μ-loop
 loop-again c = search needs
 
--- src/main.rt:71:1
 returns : tie.Need-returns Inv-loop μ-loop
 returns c = search needs
 

@@ -19,16 +19,13 @@ use Rattle.wrap.proofs.count_lines.Reads as count-lines-reads
 use Rattle.wrap.proofs.numbers_of.Reads as numbers-of-reads
 use Rattle.wrap.proofs.write_lines.Reads as write-lines-reads
 
--- src/lib.rt:79:9
 count-lines-requires : tie.Need-count-lines-requires
 unfolding leadTable
 count-lines-requires c κs = search needs
 
--- src/lib.rt:81:9
 numbers-of-requires : tie.Need-numbers-of-requires
 numbers-of-requires c κs = search needs
 
--- src/lib.rt:82:5
 write-lines-requires : tie.Need-write-lines-requires
 unfolding leadTable linesOf
 write-lines-requires c κs =
@@ -36,11 +33,9 @@ write-lines-requires c κs =
     let f = c .before .before .before .count-lines in
     (refl, (omega arith, omega (arith, numbers-two (wrapLines (x .width) (x .breaks) (x .d .now)), ap (λ (l : Lines). l .count) (f .ensures .0), f .ensures .1 .1)))
 
--- src/lib.rt:83:29
 slice-reshare-prefix-put-lines : tie.Need-slice-reshare-prefix-put-lines
 slice-reshare-prefix-put-lines c = search needs
 
--- src/lib.rt:83:29
 slice-aggregate-put-lines : tie.Need-slice-aggregate-put-lines
 unfolding linesOf
 slice-aggregate-put-lines c =
@@ -53,7 +48,6 @@ slice-aggregate-put-lines c =
     let h = held (n .result) (lineNumbers ls) (x .lines .now) _ e (w .ensures) in
     e ∙ ap length (sym h)
 
--- src/lib.rt:83:5
 put-lines-requires : tie.Need-put-lines-requires
 unfolding linesOf
 put-lines-requires c κs =
@@ -66,15 +60,12 @@ put-lines-requires c κs =
     let h = held (n .result) (lineNumbers ls) (x .lines .now) _ e (w .ensures) in
     (omega (arith, ap length h, e, n .ensures, f .ensures .1 .1), omega (arith, ap length h, e, n .ensures, f .ensures .1 .1))
 
--- src/lib.rt:73:1
 same-length : tie.Need-same-length
 same-length c = search needs
 
--- src/lib.rt:73:1
 same-length-2 : tie.Need-same-length-2
 same-length-2 c = search needs
 
--- src/lib.rt:73:1
 returns : tie.Need-returns
 unfolding linesOf
 returns c =

@@ -21,65 +21,51 @@ use Rattle.sheet.proofs.is_break.Reads as is-break-reads
 use Rattle.sheet.proofs.is_data.Reads as is-data-reads
 use Rattle.sheet.proofs.unhex.Reads as unhex-reads
 
--- src/lib.rt:93:9
 put-bad-requires : tie.Need-put-bad-requires
 put-bad-requires c κs = search needs
 
--- src/lib.rt:93:9
 same-length : tie.Need-same-length
 same-length c = search needs
 
--- src/lib.rt:93:9
 returns : tie.Need-returns
 returns c =
     let x = c .before .before .before .before .before .before .before .before .before .args in
     let p = c .before .before .put-bad in
     (same-row (x .at) (x .out .now) _ _ (p .result) _ (row-open (x .row) (x .text .now) (x .ended) (not-true (x .ended) (c .before .before .before .before .if1 .taken))) (p .ensures .0 .0) (p .ensures .0 .1), omega (arith, p .ensures .1))
 
--- src/lib.rt:95:9
 first-field-requires : tie.Need-first-field-requires
 first-field-requires c κs = search needs
 
--- src/lib.rt:96:9
 decimal-in-requires : tie.Need-decimal-in-requires
 decimal-in-requires c κs = search needs
 
--- src/lib.rt:98:9
 put-bad-requires-2 : tie.Need-put-bad-requires-2
 put-bad-requires-2 c κs = search needs
 
--- src/lib.rt:98:9
 same-length-2 : tie.Need-same-length-2
 same-length-2 c = search needs
 
--- src/lib.rt:98:9
 returns-2 : tie.Need-returns-2
 returns-2 c =
     let x = c .before .before .before .before .before .before .before .before .before .before .before .before .args in
     let p = c .before .before .put-bad2 in
     (same-row (x .at) (x .out .now) _ _ (p .result) _ (row-bad (x .row) (x .text .now) (x .ended) (not-false (x .ended) (c .before .before .before .before .before .before .before .if1 .left)) (bad-width (x .text .now) (width-none (upTo 0x20 (x .text .now)) (sym (rw (c .before .before .before .before .before .before .first-field .ensures) at (c .before .before .before .before .before .decimal-in .ensures .0)) ∙ c .before .before .before .before .if2 .taken)))) (p .ensures .0 .0) (p .ensures .0 .1), omega (arith, p .ensures .1))
 
--- src/lib.rt:100:9
 after-space-requires : tie.Need-after-space-requires
 after-space-requires c κs = search needs
 
--- src/lib.rt:101:9
 first-field-requires-2 : tie.Need-first-field-requires-2
 first-field-requires-2 c κs = search needs
 
--- src/lib.rt:102:9
 is-break-requires : tie.Need-is-break-requires
 is-break-requires c κs = search needs
 
--- src/lib.rt:103:9
 put-bad-requires-3 : tie.Need-put-bad-requires-3
 put-bad-requires-3 c κs = search needs
 
--- src/lib.rt:103:9
 same-length-3 : tie.Need-same-length-3
 same-length-3 c = search needs
 
--- src/lib.rt:103:9
 returns-3 : tie.Need-returns-3
 returns-3 c =
     let x = c .before .before .before .before .before .before .before .before .before .before .before .before .before .before .before .before .args in
@@ -93,23 +79,18 @@ returns-3 c =
     let p = c .before .before .put-bad3 in
     (same-row (x .at) (x .out .now) _ _ (p .result) _ (row-bad (x .row) t (x .ended) ended (bad-break t (w .0) (sym K ∙ not-true (c .before .before .before .before .before .is-break .result) (c .before .before .before .before .if3 .taken)))) (p .ensures .0 .0) (p .ensures .0 .1), omega (arith, p .ensures .1))
 
--- src/lib.rt:105:9
 after-space-requires-2 : tie.Need-after-space-requires-2
 after-space-requires-2 c κs = search needs
 
--- src/lib.rt:106:9
 is-data-requires : tie.Need-is-data-requires
 is-data-requires c κs = search needs
 
--- src/lib.rt:107:9
 put-bad-requires-4 : tie.Need-put-bad-requires-4
 put-bad-requires-4 c κs = search needs
 
--- src/lib.rt:107:9
 same-length-4 : tie.Need-same-length-4
 same-length-4 c = search needs
 
--- src/lib.rt:107:9
 returns-4 : tie.Need-returns-4
 returns-4 c =
     let x = c .before .before .before .before .before .before .before .before .before .before .before .before .before .before .before .before .before .before .before .args in
@@ -126,7 +107,6 @@ returns-4 c =
     let p = c .before .before .put-bad4 in
     (same-row (x .at) (x .out .now) _ _ (p .result) _ (row-bad (x .row) t (x .ended) ended (bad-data t (w .0) k (sym J ∙ not-true (c .before .before .before .before .before .is-data .result) (c .before .before .before .before .if4 .taken)))) (p .ensures .0 .0) (p .ensures .0 .1), omega (arith, p .ensures .1))
 
--- src/lib.rt:109:9
 unhex-requires : tie.Need-unhex-requires
 unhex-requires c κs =
     let x = c .before .before .before .before .before .before .before .before .before .before .before .before .before .before .before .before .args in
@@ -144,7 +124,6 @@ unhex-requires c κs =
     let third = third-shorter t j in
     omega (arith, ap length H, third .0)
 
--- src/lib.rt:110:15
 slice-reshare-prefix-good-rows : tie.Need-slice-reshare-prefix-good-rows
 slice-reshare-prefix-good-rows c =
     let x = c .before .before .before .before .before .before .before .before .before .before .before .before .before .before .before .before .before .before .before .args in
@@ -162,7 +141,6 @@ slice-reshare-prefix-good-rows c =
     let third = third-shorter t j in
     omega (arith, ap length H, third .0, c .before .before .unhex .ensures .0 .1, c .before .before .unhex .kept .1 .0)
 
--- src/lib.rt:110:15
 slice-aggregate-good-rows : tie.Need-slice-aggregate-good-rows
 slice-aggregate-good-rows c =
     let x = c .before .before .before .before .before .before .before .before .before .before .before .before .before .before .before .before .before .before .before .before .args in
@@ -182,15 +160,12 @@ slice-aggregate-good-rows c =
     let h = held (u .result) (dataOf (c .before .before .before .before .before .before .before .after-space2 .result .now)) (x .«data» .now) _ (u .ensures .0 .0) (u .ensures .1) in
     u .ensures .0 .0 ∙ ap length (sym h)
 
--- src/lib.rt:110:27
 cast-good-rows : tie.Need-cast-good-rows
 cast-good-rows c = search needs
 
--- src/lib.rt:110:41
 break-of-requires : tie.Need-break-of-requires
 break-of-requires c κs = search needs
 
--- src/lib.rt:110:5
 good-rows-requires : tie.Need-good-rows-requires
 good-rows-requires c κs =
     let x = c .before .before .before .before .before .before .before .before .before .before .before .before .before .before .before .before .before .before .before .before .before .before .before .args in
@@ -210,19 +185,15 @@ good-rows-requires c κs =
     let h = held (u .result) (dataOf (c .before .before .before .before .before .before .before .before .before .before .after-space2 .result .now)) (x .«data» .now) _ (u .ensures .0 .0) (u .ensures .1) in
     (omega (arith, ap length h, u .ensures .0 .0, u .ensures .0 .1, ap length H, third .0), omega arith, omega (arith, ap length h, u .ensures .0 .0, u .ensures .0 .1, ap length H, third .1))
 
--- src/lib.rt:87:1
 same-length-5 : tie.Need-same-length-5
 same-length-5 c = search needs
 
--- src/lib.rt:87:1
 same-length-6 : tie.Need-same-length-6
 same-length-6 c = search needs
 
--- src/lib.rt:87:1
 same-length-7 : tie.Need-same-length-7
 same-length-7 c = search needs
 
--- src/lib.rt:87:1
 returns-5 : tie.Need-returns-5
 returns-5 c =
     let x = c .before .before .before .before .before .before .before .before .before .before .before .before .before .before .before .before .before .before .before .before .before .before .before .before .before .before .before .before .args in

@@ -15,41 +15,33 @@ use Rattle.rows.proofs.put_field.Lts as lts
 use Rattle.buffer.proofs.put.Reads as put-reads
 use Rattle.io.proofs.decimal.Reads as decimal-reads
 
--- src/lib.rt:27:9
 decimal-requires : tie.Need-decimal-requires
 decimal-requires c κs = search needs
 
--- src/lib.rt:28:34
 array-share-prefix-text : tie.Need-array-share-prefix-text
 array-share-prefix-text c = search needs
 
--- src/lib.rt:28:34
 slice-aggregate-put : tie.Need-slice-aggregate-put
 slice-aggregate-put c = search needs
 
--- src/lib.rt:28:9
 put-requires : tie.Need-put-requires
 put-requires c κs =
     let d = c .before .before .decimal in
     let w = spelled (c .before .before .before .before .before .args .n) (d .result) (d .last .1 .0) (omega (arith, c .before .before .before .before .before .fits .n)) (d .ensures .1 .0 .0) (d .ensures .1 .0 .1) (d .ensures .1 .0 .2) (d .ensures .0 .1) (d .ensures .1 .1) in
     (omega arith, omega (arith, d .ensures .0 .1), omega (arith, w .1))
 
--- src/lib.rt:30:25
 slice-aggregate-put-2 : tie.Need-slice-aggregate-put-2
 slice-aggregate-put-2 c = search needs
 
--- src/lib.rt:30:5
 put-requires-2 : tie.Need-put-requires-2
 put-requires-2 c κs =
     let d = c .before .before .before .before .before .before .before .decimal in
     let w = spelled (c .before .before .before .before .before .before .before .before .before .before .args .n) (d .result) (d .last .1 .0) (omega (arith, c .before .before .before .before .before .before .before .before .before .before .fits .n)) (d .ensures .1 .0 .0) (d .ensures .1 .0 .1) (d .ensures .1 .0 .2) (d .ensures .0 .1) (d .ensures .1 .1) in
     (omega arith, omega arith, omega (arith, w .1, c .before .before .before .before .put .ensures .0, c .before .before .before .before .put .kept .0))
 
--- src/lib.rt:21:1
 same-length : tie.Need-same-length
 same-length c = search needs
 
--- src/lib.rt:21:1
 returns : tie.Need-returns
 returns c =
     let x = c .before .before .before .before .before .before .before .before .before .before .before .before .before .args in

@@ -52,51 +52,39 @@ Inv-loop out₀ at row lines end₀ k₀ line₀ out end k line = So-far out₀ 
 abbrev μ-loop : tie.MeasureT-loop
 μ-loop out₀ at row lines end₀ k₀ line₀ out end k line = length lines - k
 
--- src/lib.rt:64:5
 loop-holds : tie.Need-loop-holds Inv-loop μ-loop
 loop-holds c = record { done = []; holds = put-none _ _; here = omega arith; rest = refl; within = omega arith; count = omega arith; room = omega arith; long = refl }
 
--- src/lib.rt:64:11
 add-loop : tie.Need-add-loop Inv-loop μ-loop
 add-loop c = search needs
 
--- src/lib.rt:65:44
 mul-put-row : tie.Need-mul-put-row Inv-loop μ-loop
 mul-put-row c = search needs
 
--- src/lib.rt:65:44
 shared-slice-read-put-row : tie.Need-shared-slice-read-put-row Inv-loop μ-loop
 shared-slice-read-put-row c = search needs
 
--- src/lib.rt:65:60
 add-put-row : tie.Need-add-put-row Inv-loop μ-loop
 add-put-row c = search needs
 
--- src/lib.rt:65:54
 mul-put-row-2 : tie.Need-mul-put-row-2 Inv-loop μ-loop
 mul-put-row-2 c = search needs
 
--- src/lib.rt:65:54
 shared-slice-read-put-row-2 : tie.Need-shared-slice-read-put-row-2 Inv-loop μ-loop
 shared-slice-read-put-row-2 c = search needs
 
--- src/lib.rt:65:9
 put-row-requires : tie.Need-put-row-requires Inv-loop μ-loop
 put-row-requires c κs = search needs
 
--- src/lib.rt:66:9
 add-line : tie.Need-add-line Inv-loop μ-loop
 add-line c = search needs
 
--- src/lib.rt:67:9
 add-k : tie.Need-add-k Inv-loop μ-loop
 add-k c = search needs
 
--- src/lib.rt:64:5
 loop-less : tie.Need-loop-less Inv-loop μ-loop
 loop-less c = search needs
 
--- src/lib.rt:64:5
 loop-again : tie.Need-loop-again Inv-loop μ-loop
 loop-again c =
     let l = c .before .before .before .before .before .before .before in
@@ -104,11 +92,9 @@ loop-again c =
     let p = c .before .before .put-row in
     step _ _ _ _ _ _ _ _ (l .loop .inv) (omega arith) (c .before .before .before .before .before .before .loop-test .taken) _ _ (p .ensures .0 .0) (p .ensures .0 .1) (p .ensures .1) (p .kept .0)
 
--- src/lib.rt:56:1
 same-length : tie.Need-same-length Inv-loop μ-loop
 same-length c = search needs
 
--- src/lib.rt:56:1
 returns : tie.Need-returns Inv-loop μ-loop
 returns c =
     let l = c .before in

@@ -65,27 +65,21 @@ Inv-loop sheet from data₀ lines₀ out₀ start p₀ row₀ at₀ «data» lin
 abbrev μ-loop : tie.MeasureT-loop
 μ-loop sheet from data₀ lines₀ out₀ start p₀ row₀ at₀ «data» lines out p row at = length sheet + 1 - p
 
--- src/lib.rt:121:5
 loop-holds : tie.Need-loop-holds Inv-loop μ-loop
 loop-holds c = record { done = []; holds = put-none _ _; here = omega arith; rest = refl; within = omega arith; count = omega arith; room = omega arith; data-long = refl; lines-long = refl; long = refl }
 
--- src/lib.rt:122:13
 find-requires : tie.Need-find-requires Inv-loop μ-loop
 find-requires c κs = search needs
 
--- src/lib.rt:124:22
 sub-one-row : tie.Need-sub-one-row Inv-loop μ-loop
 sub-one-row c = search needs
 
--- src/lib.rt:124:22
 part-one-row-start : tie.Need-part-one-row-start Inv-loop μ-loop
 part-one-row-start c = search needs
 
--- src/lib.rt:124:22
 part-one-row-end : tie.Need-part-one-row-end Inv-loop μ-loop
 part-one-row-end c = search needs
 
--- src/lib.rt:124:9
 one-row-requires : tie.Need-one-row-requires Inv-loop μ-loop
 one-row-requires c κs =
     let l = c .before .before .before .before .before .before in
@@ -95,19 +89,15 @@ one-row-requires c κs =
     let n = length-part (l .loop .p) (f .result) (x .sheet .now) (f .ensures .1 .1) in
     (omega (arith, i .data-long), omega (arith, i .lines-long), omega (arith, n, i .room, i .long, f .ensures .1 .0, f .ensures .1 .1))
 
--- src/lib.rt:125:9
 add-row : tie.Need-add-row Inv-loop μ-loop
 add-row c = omega (arith, c .before .before .before .before .before .before .before .before .before .before .before .before .before .loop .inv .count, c .before .before .before .before .before .before .before .before .before .before .before .before .before .loop .inv .within)
 
--- src/lib.rt:126:13
 add-p : tie.Need-add-p Inv-loop μ-loop
 add-p c = search needs
 
--- src/lib.rt:121:5
 loop-less : tie.Need-loop-less Inv-loop μ-loop
 loop-less c = search needs
 
--- src/lib.rt:121:5
 loop-again : tie.Need-loop-again Inv-loop μ-loop
 loop-again c =
     let l = c .before .before .before .before .before .before .before .before .before .before .before .before .before in
@@ -116,19 +106,15 @@ loop-again c =
     let o = c .before .before .before .before .before .before .one-row in
     step _ _ _ _ _ _ _ _ _ _ _ _ (l .loop .inv) (omega arith) (c .before .before .before .before .before .before .before .before .before .before .before .before .loop-test .taken) (f .result) (f .ensures .0) (f .ensures .1 .0) (f .ensures .1 .1) _ _ _ _ (o .ensures .0 .0) (o .ensures .0 .1) (o .ensures .1) (o .kept .1 .1 .1 .0) (o .kept .1 .1 .1 .1 .0) (o .kept .1 .1 .1 .1 .1 .0)
 
--- src/lib.rt:114:1
 same-length : tie.Need-same-length Inv-loop μ-loop
 same-length c = search needs
 
--- src/lib.rt:114:1
 same-length-2 : tie.Need-same-length-2 Inv-loop μ-loop
 same-length-2 c = search needs
 
--- src/lib.rt:114:1
 same-length-3 : tie.Need-same-length-3 Inv-loop μ-loop
 same-length-3 c = search needs
 
--- src/lib.rt:114:1
 returns : tie.Need-returns Inv-loop μ-loop
 returns c =
     let l = c .before in

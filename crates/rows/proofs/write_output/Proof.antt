@@ -21,23 +21,18 @@ use Rattle.rows.proofs.put_bad.Reads as put-bad-reads
 use Rattle.rows.proofs.put_rows.Reads as put-rows-reads
 use Rattle.sheet.proofs.find.Reads as find-reads
 
--- src/lib.rt:149:33
 slice-aggregate-put : tie.Need-slice-aggregate-put
 slice-aggregate-put c = search needs
 
--- src/lib.rt:149:9
 put-requires : tie.Need-put-requires
 put-requires c κs = search needs
 
--- src/lib.rt:151:9
 put-bad-requires : tie.Need-put-bad-requires
 put-bad-requires c κs = search needs
 
--- src/lib.rt:151:9
 same-length : tie.Need-same-length
 same-length c = search needs
 
--- src/lib.rt:151:9
 returns : tie.Need-returns
 unfolding rowsHeading
 returns c =
@@ -47,19 +42,15 @@ returns c =
     let p = c .before .before .put-bad in
     finished s (x .out .now) _ _ (badRow 0) (h .result) (p .result) (too-long s (c .before .before .before .before .if1 .taken)) (h .ensures .0) (h .ensures .1) (p .ensures .0 .0) (p .ensures .0 .1)
 
--- src/lib.rt:153:9
 find-requires : tie.Need-find-requires
 find-requires c κs = search needs
 
--- src/lib.rt:155:9
 put-bad-requires-2 : tie.Need-put-bad-requires-2
 put-bad-requires-2 c κs = search needs
 
--- src/lib.rt:155:9
 same-length-2 : tie.Need-same-length-2
 same-length-2 c = search needs
 
--- src/lib.rt:155:9
 returns-2 : tie.Need-returns-2
 unfolding rowsHeading
 returns-2 c =
@@ -69,35 +60,27 @@ returns-2 c =
     let p = c .before .before .put-bad2 in
     finished s (x .out .now) _ _ (badRow 0) (h .result) (p .result) (no-line s (c .before .before .before .before .before .find .result) (c .before .before .before .before .before .before .if1 .left) (c .before .before .before .before .before .find .ensures .0) (c .before .before .before .before .if2 .taken)) (h .ensures .0) (h .ensures .1) (p .ensures .0 .0) (p .ensures .0 .1)
 
--- src/lib.rt:157:21
 sub-same : tie.Need-sub-same
 sub-same c = search needs
 
--- src/lib.rt:157:21
 part-same-start : tie.Need-part-same-start
 part-same-start c = search needs
 
--- src/lib.rt:157:21
 part-same-end : tie.Need-part-same-end
 part-same-end c = search needs
 
--- src/lib.rt:157:35
 slice-aggregate-same : tie.Need-slice-aggregate-same
 slice-aggregate-same c = search needs
 
--- src/lib.rt:157:9
 same-requires : tie.Need-same-requires
 same-requires c κs = search needs
 
--- src/lib.rt:158:9
 put-bad-requires-3 : tie.Need-put-bad-requires-3
 put-bad-requires-3 c κs = search needs
 
--- src/lib.rt:158:9
 same-length-3 : tie.Need-same-length-3
 same-length-3 c = search needs
 
--- src/lib.rt:158:9
 returns-3 : tie.Need-returns-3
 unfolding rowsHeading sheetHeading
 returns-3 c =
@@ -109,35 +92,27 @@ returns-3 c =
     let more : f .result < length s = omega (arith, f .ensures .1 .1, c .before .before .before .before .before .before .before .before .if2 .left) in
     finished s (x .out .now) _ _ (badRow 0) (h .result) (p .result) (no-heading s (f .result) (c .before .before .before .before .before .before .before .before .before .before .if1 .left) (f .ensures .0) more (λ q. false-true (sym (not-true (c .before .before .before .before .before .same .result) (c .before .before .before .before .if3 .taken)) ∙ c .before .before .before .before .before .same .ensures .1 q))) (h .ensures .0) (h .ensures .1) (p .ensures .0 .0) (p .ensures .0 .1)
 
--- src/lib.rt:160:20
 data-buffer-requires : tie.Need-data-buffer-requires
 data-buffer-requires c κs = search needs
 
--- src/lib.rt:161:21
 line-list-requires : tie.Need-line-list-requires
 line-list-requires c κs = search needs
 
--- src/lib.rt:162:21
 add-put-rows : tie.Need-add-put-rows
 add-put-rows c = search needs
 
--- src/lib.rt:162:28
 slice-aggregate-put-rows : tie.Need-slice-aggregate-put-rows
 slice-aggregate-put-rows c = search needs
 
--- src/lib.rt:162:39
 slice-aggregate-put-rows-2 : tie.Need-slice-aggregate-put-rows-2
 slice-aggregate-put-rows-2 c = search needs
 
--- src/lib.rt:162:5
 put-rows-requires : tie.Need-put-rows-requires
 put-rows-requires c κs = search needs
 
--- src/lib.rt:144:1
 same-length-4 : tie.Need-same-length-4
 same-length-4 c = search needs
 
--- src/lib.rt:144:1
 returns-4 : tie.Need-returns-4
 unfolding rowsHeading sheetHeading
 returns-4 c =

@@ -13,44 +13,34 @@ use Rattle.sheet.proofs.after_space.Reads as reads
 use Rattle.sheet.proofs.after_space.Lts as lts
 use Rattle.sheet.proofs.find.Reads as find-reads
 
--- src/lib.rt:41:9
 find-requires : tie.Need-find-requires
 find-requires c κs = search needs
 
--- src/lib.rt:43:16
 sub-result : tie.Need-sub-result
 sub-result c = search needs
 
--- src/lib.rt:43:16
 part-result-start : tie.Need-part-result-start
 part-result-start c = search needs
 
--- src/lib.rt:43:16
 part-result-end : tie.Need-part-result-end
 part-result-end c = search needs
 
--- src/lib.rt:43:9
 returns : tie.Need-returns
 returns c = let s = c .before .before .before .before .args .s .now in let f = c .before .before .find in
     part-to-end s (f .result) ∙ rest-none s (f .result) (omega (arith, c .before .if1 .taken)) ∙ sym (rest-none s (suc (length (upTo 0x20 s))) (omega (arith, f .ensures .0, c .before .if1 .taken))) ∙ after-drop 0x20 s
 
--- src/lib.rt:45:8
 add-result : tie.Need-add-result
 add-result c = search needs
 
--- src/lib.rt:45:5
 sub-result-2 : tie.Need-sub-result-2
 sub-result-2 c = search needs
 
--- src/lib.rt:45:5
 part-result-start-2 : tie.Need-part-result-start-2
 part-result-start-2 c = search needs
 
--- src/lib.rt:45:5
 part-result-end-2 : tie.Need-part-result-end-2
 part-result-end-2 c = search needs
 
--- src/lib.rt:38:1
 returns-2 : tie.Need-returns-2
 returns-2 c = let s = c .before .before .before .before .args .s .now in let f = c .before .before .find in
     let e : f .result + 1 ≡ suc (length (upTo 0x20 s)) = omega (arith, f .ensures .0) in

@@ -9,15 +9,12 @@ use Rattle.sheet.proofs.break_of.Tie as tie
 use Rattle.sheet.proofs.break_of.Reads as reads
 use Rattle.sheet.proofs.break_of.Lts as lts
 
--- src/lib.rt:115:9
 returns : tie.Need-returns
 returns c = sym (break-none (c .before .args .s .now) (c .if1 .taken))
 
--- src/lib.rt:117:5
 shared-slice-read-result : tie.Need-shared-slice-read-result
 shared-slice-read-result c = search needs
 
--- src/lib.rt:111:1
 returns-2 : tie.Need-returns-2
 unfolding breakOf
 returns-2 c = refl

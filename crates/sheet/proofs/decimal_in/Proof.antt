@@ -11,20 +11,16 @@ use Rattle.sheet.proofs.decimal_in.Lts as lts
 use Rattle.sheet.proofs.digits.Reads as digits-reads
 use Rattle.sheet.proofs.no_leading_zero.Reads as no-leading-zero-reads
 
--- src/lib.rt:90:9
 no-leading-zero-requires : tie.Need-no-leading-zero-requires
 no-leading-zero-requires c κs = search needs
 
--- src/lib.rt:91:9
 returns : tie.Need-returns
 unfolding decimalOr isDecimal
 returns c = (simp (← c .before .no-leading-zero .ensures, not-true (c .before .no-leading-zero .result) (c .if1 .taken)), omega arith)
 
--- src/lib.rt:93:5
 digits-requires : tie.Need-digits-requires
 digits-requires c κs = search needs
 
--- src/lib.rt:86:1
 returns-2 : tie.Need-returns-2
 unfolding decimalOr isDecimal
 returns-2 c = (simp (← c .before .before .no-leading-zero .ensures, not-false (c .before .before .no-leading-zero .result) (c .before .if1 .left)) (c .digits .ensures .0), c .digits .ensures .1)

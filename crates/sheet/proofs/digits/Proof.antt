@@ -27,41 +27,33 @@ Inv-loop s i₀ n₀ i n = So-far s i n
 abbrev μ-loop : tie.MeasureT-loop
 μ-loop s i₀ n₀ i n = length s - i
 
--- src/lib.rt:68:5
 loop-holds : tie.Need-loop-holds Inv-loop μ-loop
 loop-holds c = record { within = omega arith; small = omega arith; value = refl; good = refl }
 
--- src/lib.rt:69:17
 shared-slice-read-b : tie.Need-shared-slice-read-b Inv-loop μ-loop
 shared-slice-read-b c = search needs
 
--- src/lib.rt:71:13
 returns : tie.Need-returns Inv-loop μ-loop
 returns c =
     let l = c .before .before .before in
     let s = l .before .args .s .now in
     (not-digits s (sym (l .loop .inv .good) ∙ digit-bad s (l .loop .i) (c .before .before .loop-test .taken) (below 0x30 0x39 (getD s (l .loop .i) 0) (c .if1 .taken))), omega arith)
 
--- src/lib.rt:74:13
 returns-2 : tie.Need-returns-2 Inv-loop μ-loop
 returns-2 c =
     let l = c .before .before .before .before in
     let s = l .before .args .s .now in
     (not-digits s (sym (l .loop .inv .good) ∙ digit-bad s (l .loop .i) (c .before .before .before .loop-test .taken) (above 0x30 0x39 (getD s (l .loop .i) 0) (c .if2 .taken))), omega arith)
 
--- src/lib.rt:76:13
 mul-n : tie.Need-mul-n Inv-loop μ-loop
 mul-n c = search needs
 
--- src/lib.rt:76:22
 cast-n : tie.Need-cast-n Inv-loop μ-loop
 cast-n c = search needs
 
--- src/lib.rt:76:13
 add-n : tie.Need-add-n Inv-loop μ-loop
 add-n c = search needs
 
--- src/lib.rt:78:13
 returns-3 : tie.Need-returns-3 Inv-loop μ-loop
 returns-3 c =
     let l = c .before .before .before .before .before in
@@ -69,15 +61,12 @@ returns-3 c =
     let more = c .before .before .before .before .loop-test .taken in
     (not-small s (ap (λ (v : ℕ). leb v 4294967295) (sym (l .loop .inv .value) ∙ value-next s (l .loop .i) more (l .loop .n)) ∙ value-big _ (drop (l .loop .i + 1) s) (c .if3 .taken)), omega arith)
 
--- src/lib.rt:80:9
 add-i : tie.Need-add-i Inv-loop μ-loop
 add-i c = search needs
 
--- src/lib.rt:68:5
 loop-less : tie.Need-loop-less Inv-loop μ-loop
 loop-less c = search needs
 
--- src/lib.rt:68:5
 loop-again : tie.Need-loop-again Inv-loop μ-loop
 loop-again c =
     let l = c .before .before .before .before .before in
@@ -86,7 +75,6 @@ loop-again c =
     let digit = in-span 0x30 0x39 (getD s (l .loop .i) 0) (c .before .before .if1 .left) (c .before .if2 .left) in
     record { within = omega (arith, more); small = c .if3 .left; value = sym (value-next s (l .loop .i) more (l .loop .n)) ∙ l .loop .inv .value; good = sym (digit-good s (l .loop .i) more digit) ∙ l .loop .inv .good }
 
--- src/lib.rt:62:1
 returns-4 : tie.Need-returns-4 Inv-loop μ-loop
 returns-4 c =
     let l = c .before in

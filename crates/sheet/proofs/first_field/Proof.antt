@@ -12,23 +12,18 @@ use Rattle.sheet.proofs.first_field.Reads as reads
 use Rattle.sheet.proofs.first_field.Lts as lts
 use Rattle.sheet.proofs.find.Reads as find-reads
 
--- src/lib.rt:33:9
 find-requires : tie.Need-find-requires
 find-requires c κs = search needs
 
--- src/lib.rt:34:5
 sub-result : tie.Need-sub-result
 sub-result c = search needs
 
--- src/lib.rt:34:5
 part-result-start : tie.Need-part-result-start
 part-result-start c = search needs
 
--- src/lib.rt:34:5
 part-result-end : tie.Need-part-result-end
 part-result-end c = search needs
 
--- src/lib.rt:30:1
 returns : tie.Need-returns
 returns c = let s = c .before .before .before .args .s .now in let f = c .before .find in let e : f .result - 0 ≡ length (upTo 0x20 s) = omega (arith, f .ensures .0) in rw e (up-to-take 0x20 s)
 

@@ -11,19 +11,15 @@ use Rattle.sheet.proofs.is_break.Tie as tie
 use Rattle.sheet.proofs.is_break.Reads as reads
 use Rattle.sheet.proofs.is_break.Lts as lts
 
--- src/lib.rt:101:9
 returns : tie.Need-returns
 returns c = sym (break-long (c .before .args .s .now) (c .if1 .taken))
 
--- src/lib.rt:103:13
 shared-slice-read-b : tie.Need-shared-slice-read-b
 shared-slice-read-b c = search needs
 
--- src/lib.rt:105:9
 returns-2 : tie.Need-returns-2
 returns-2 c = let s = c .before .before .before .args .s .now in sym (break-one s (c .before .before .if1 .left) ∙ below 0x30 0x31 (getD s 0 0) (c .if2 .taken))
 
--- src/lib.rt:97:1
 returns-3 : tie.Need-returns-3
 returns-3 c = let s = c .before .before .before .args .s .now in sym (break-one s (c .before .before .if1 .left) ∙ simp (le-leb 0x30 (getD s 0 0) (c .if2 .left)))
 

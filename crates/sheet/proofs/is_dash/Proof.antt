@@ -8,15 +8,12 @@ use Rattle.sheet.proofs.is_dash.Tie as tie
 use Rattle.sheet.proofs.is_dash.Reads as reads
 use Rattle.sheet.proofs.is_dash.Lts as lts
 
--- src/lib.rt:162:9
 returns : tie.Need-returns
 returns c = sym (dash-long (c .before .args .s .now) (c .if1 .taken))
 
--- src/lib.rt:164:5
 shared-slice-read-result : tie.Need-shared-slice-read-result
 shared-slice-read-result c = search needs
 
--- src/lib.rt:158:1
 returns-2 : tie.Need-returns-2
 returns-2 c = let s = c .before .before .args .s .now in sym (dash-one s (c .before .if1 .left))
 

@@ -9,20 +9,16 @@ use Rattle.sheet.proofs.is_data.Lts as lts
 use Rattle.sheet.proofs.is_dash.Reads as is-dash-reads
 use Rattle.sheet.proofs.is_pairs.Reads as is-pairs-reads
 
--- src/lib.rt:196:8
 is-dash-requires : tie.Need-is-dash-requires
 is-dash-requires c κs = search needs
 
--- src/lib.rt:197:9
 returns : tie.Need-returns
 unfolding isData
 returns c = simp (← c .before .is-dash .ensures, c .if1 .taken)
 
--- src/lib.rt:199:5
 is-pairs-requires : tie.Need-is-pairs-requires
 is-pairs-requires c κs = search needs
 
--- src/lib.rt:193:1
 returns-2 : tie.Need-returns-2
 unfolding isData
 returns-2 c = simp (← c .before .before .is-dash .ensures, c .before .if1 .left) (c .is-pairs .ensures)

@@ -11,23 +11,18 @@ use Rattle.sheet.proofs.is_pairs.Reads as reads
 use Rattle.sheet.proofs.is_pairs.Lts as lts
 use Rattle.sheet.proofs.all_hex.Reads as all-hex-reads
 
--- src/lib.rt:181:9
 returns : tie.Need-returns
 returns c = simp (nil-none (c .before .before .args .s .now) (c .if1 .taken))
 
--- src/lib.rt:184:9
 returns-2 : tie.Need-returns-2
 returns-2 c = let s = c .before .before .before .args .s .now in simp (nil-some s (c .before .if1 .left), ne-eqb (length s % 2) 0 (c .if2 .taken))
 
--- src/lib.rt:187:9
 returns-3 : tie.Need-returns-3
 returns-3 c = let s = c .before .before .before .before .args .s .now in simp (nil-some s (c .before .before .if1 .left), eq-eqb (length s % 2) 0 (c .before .if2 .left), lt-leb (length s) 8000 (c .if3 .taken))
 
--- src/lib.rt:189:5
 all-hex-requires : tie.Need-all-hex-requires
 all-hex-requires c κs = search needs
 
--- src/lib.rt:177:1
 returns-4 : tie.Need-returns-4
 returns-4 c = let s = c .before .before .before .before .before .args .s .now in simp (nil-some s (c .before .before .before .if1 .left), eq-eqb (length s % 2) 0 (c .before .before .if2 .left), le-leb (length s) 8000 (c .before .if3 .left)) (c .all-hex .ensures)
 

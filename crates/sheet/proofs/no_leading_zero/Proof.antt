@@ -8,19 +8,15 @@ use Rattle.sheet.proofs.no_leading_zero.Tie as tie
 use Rattle.sheet.proofs.no_leading_zero.Reads as reads
 use Rattle.sheet.proofs.no_leading_zero.Lts as lts
 
--- src/lib.rt:53:9
 returns : tie.Need-returns
 returns c = sym (zero-none (c .before .args .s .now) (c .if1 .taken))
 
--- src/lib.rt:56:9
 returns-2 : tie.Need-returns-2
 returns-2 c = sym (zero-one (c .before .before .args .s .now) (c .if2 .taken))
 
--- src/lib.rt:58:5
 shared-slice-read-result : tie.Need-shared-slice-read-result
 shared-slice-read-result c = search needs
 
--- src/lib.rt:49:1
 returns-3 : tie.Need-returns-3
 returns-3 c = sym (zero-more (c .before .before .before .args .s .now) (c .before .before .if1 .left) (c .before .if2 .left))
 

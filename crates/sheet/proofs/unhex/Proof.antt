@@ -28,59 +28,45 @@ Inv-loop s out₀ n k₀ out k = So-far s out₀ n out k
 abbrev μ-loop : tie.MeasureT-loop
 μ-loop s out₀ n k₀ out k = n - k
 
--- src/lib.rt:210:5
 loop-holds : tie.Need-loop-holds Inv-loop μ-loop
 loop-holds c = record { count = refl; within = omega arith; room = search needs; long = refl; holds = refl }
 
--- src/lib.rt:211:27
 mul-nibble : tie.Need-mul-nibble Inv-loop μ-loop
 mul-nibble c = search needs
 
--- src/lib.rt:211:25
 shared-slice-read-nibble : tie.Need-shared-slice-read-nibble Inv-loop μ-loop
 shared-slice-read-nibble c = search needs
 
--- src/lib.rt:211:18
 nibble-requires : tie.Need-nibble-requires Inv-loop μ-loop
 nibble-requires c κs = search needs
 
--- src/lib.rt:211:18
 mul-out : tie.Need-mul-out Inv-loop μ-loop
 mul-out c = search needs
 
--- src/lib.rt:211:51
 mul-nibble-2 : tie.Need-mul-nibble-2 Inv-loop μ-loop
 mul-nibble-2 c = search needs
 
--- src/lib.rt:211:51
 add-nibble : tie.Need-add-nibble Inv-loop μ-loop
 add-nibble c = search needs
 
--- src/lib.rt:211:49
 shared-slice-read-nibble-2 : tie.Need-shared-slice-read-nibble-2 Inv-loop μ-loop
 shared-slice-read-nibble-2 c = search needs
 
--- src/lib.rt:211:42
 nibble-requires-2 : tie.Need-nibble-requires-2 Inv-loop μ-loop
 nibble-requires-2 c κs = search needs
 
--- src/lib.rt:211:18
 add-out : tie.Need-add-out Inv-loop μ-loop
 add-out c = search needs
 
--- src/lib.rt:211:9
 slice-write-out : tie.Need-slice-write-out Inv-loop μ-loop
 slice-write-out c = search needs
 
--- src/lib.rt:212:9
 add-k : tie.Need-add-k Inv-loop μ-loop
 add-k c = search needs
 
--- src/lib.rt:210:5
 loop-less : tie.Need-loop-less Inv-loop μ-loop
 loop-less c = search needs
 
--- src/lib.rt:210:5
 loop-again : tie.Need-loop-again Inv-loop μ-loop
 loop-again c =
     let l = c .before .before .before .before .before in
@@ -100,11 +86,9 @@ loop-again c =
       holds = ap (λ (o : List ℕ). set o k (c .before .before .nibble .result * 16 + c .nibble2 .result)) (i .holds) ∙ ap (set (take k (fromPairs s) ++ drop k (x .out .now)) k) v ∙ stored;
     }
 
--- src/lib.rt:203:1
 same-length : tie.Need-same-length Inv-loop μ-loop
 same-length c = search needs
 
--- src/lib.rt:203:1
 returns : tie.Need-returns Inv-loop μ-loop
 unfolding dataOf over
 returns c =
