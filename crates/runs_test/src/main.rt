@@ -3,9 +3,7 @@
 use buffer::put;
 use runs::Held;
 use runs::run_calls;
-ghost use Prim.Native.Nat.{_≤_};
-ghost use mathlib.Core.Path.{_≡_};
-ghost use lib.ListN.{length};
+ghost use mathlib.Core.Bool.{true};
 ghost use Rattle.runs.specs.Runs.{Sets};
 
 fn number(n: u64) {
@@ -143,6 +141,7 @@ fn lists(
         other_texts,
     );
     let none = [0; 1];
+    let unlabelled = [0; 1];
     let cuts = [0, 9, 1, 8];
     let labelled = [0, 0, 0, 1, 2, 1, 0, 0];
     let cut = each(
@@ -166,7 +165,7 @@ fn lists(
         cut,
         &pads,
         b"=",
-        &none[0..0],
+        &unlabelled[0..0],
         b"",
         &none[0..0],
         b"",
@@ -201,7 +200,7 @@ fn lists(
         folded,
         &kinds[0..2],
         b"",
-        &none[0..0],
+        &unlabelled[0..0],
         b"",
         &records,
         b"oak",
@@ -217,7 +216,7 @@ fn lists(
         bad,
         &kinds,
         b"",
-        &none[0..0],
+        &unlabelled[0..0],
         b"",
         &records[0..8],
         b"oak",
