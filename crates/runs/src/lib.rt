@@ -158,16 +158,7 @@ pub fn apply(
             lines,
         );
     }
-    write_replaced(
-        content,
-        entries,
-        text,
-        records,
-        new,
-        bytes,
-        numbers,
-        texts,
-    )
+    write_replaced(content, entries, text, records, new, bytes, numbers, texts)
 }
 
 // Where the content stands after an answer: in the other set if the call is done.
