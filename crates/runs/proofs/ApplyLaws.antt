@@ -69,7 +69,7 @@ pub unlined : (k j : Job) (r : Recording) (od oe ot ol od′ oe′ ot′ : List 
 unlined k j r od oe ot ol od′ oe′ ot′ a q h ea ed ee et =
     let o : outcome (callOn j od oe ot) r ≡ outcome (callLined j od oe ot ol) r = same-outcome j r h od oe ot ol in
     let whole : lentLined od′ oe′ ot′ ol ≡ lentAfter (outcome (callOn j od oe ot) r) (lentLined od oe ot ol) =
-      lent-whole (outcome (callOn j od oe ot) r) od oe ot ol od′ oe′ ot′ (none-left j r h (room (length od) (length oe) (length ot) 0)) ed ee et in
+    lent-whole (outcome (callOn j od oe ot) r) od oe ot ol od′ oe′ ot′ (none-left j r h (room (length od) (length oe) (length ot) 0)) ed ee et in
     subst (λ (x : Job). Ran x r od oe ot ol (lentLined od′ oe′ ot′ ol) a) (sym q) (ea ∙ ap returned o, whole ∙ ap (λ (x : Outcome). lentAfter x (lentLined od oe ot ol)) o)
 
 pub lined : (k j : Job) (r : Recording) (od oe ot ol : List ℕ) (b : Lent) (a : Answer) → k ≡ j → Ran j r od oe ot ol b a → Ran k r od oe ot ol b a

@@ -26,5 +26,5 @@ commutes calls r q e h p =
       accepted = D .accepted;
       same = D .same ∙ ap (λ (x : Recording). strip x .dataBytes) (sym e);
       twice = λ pre mid w b o o′ g z m.
-        ap coloured (e ∙ ap (λ (cs : List Call). run cs r) g ∙ run-last pre mid (wrapCall w b o) (wrapCall w b o′) r) ∙ D .twice pre mid [] w b o o′ g z m;
+          ap coloured (e ∙ ap (λ (cs : List Call). run cs r) g ∙ run-last pre mid (wrapCall w b o) (wrapCall w b o′) r) ∙ D .twice pre mid [] w b o o′ g z m;
     }

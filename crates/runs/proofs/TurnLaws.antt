@@ -101,8 +101,7 @@ module _ (j : Job) (s : Held) (d e t d′ e′ t′ l : List ℕ) (k : Sets s d 
         rw f (sym w ∙ ap (λ (c : Call). after c (frontOf s d e t)) room),
       )
       go (Done dd de dt n) v =
-          let w : Written (after (callLined j d′ e′ t′ l) (frontOf s d e t)) (lentLined x y z m) dd de dt = subst (λ (b : Lent). Written (after (callLined j d′ e′ t′ l) (frontOf s d e t)) b dd de dt) (sym g) v in
-          (
+          let w : Written (after (callLined j d′ e′ t′ l) (frontOf s d e t)) (lentLined x y z m) dd de dt = subst (λ (b : Lent). Written (after (callLined j d′ e′ t′ l) (frontOf s d e t)) b dd de dt) (sym g) v in (
             record { bytes = omega (arith, w .bytes, k .like-bytes, lx); numbers = omega (arith, w .numbers, k .like-numbers, ly); texts = omega (arith, w .texts, k .like-texts, lz); like-bytes = lx ∙ k .like-bytes; like-numbers = ly ∙ k .like-numbers; like-texts = lz ∙ k .like-texts },
             rw f (w .result ∙ ap (λ (c : Call). after c (frontOf s d e t)) room),
           )
@@ -123,8 +122,7 @@ module _ (j : Job) (s : Held) (d e t d′ e′ t′ l : List ℕ) (k : Sets s d 
         rw f (sym w ∙ ap (λ (c : Call). after c (frontOf s d′ e′ t′)) room),
       )
       go (Done dd de dt n) v =
-          let w : Written (after (callLined j d e t l) (frontOf s d′ e′ t′)) (lentLined x y z m) dd de dt = subst (λ (b : Lent). Written (after (callLined j d e t l) (frontOf s d′ e′ t′)) b dd de dt) (sym g) v in
-          (
+          let w : Written (after (callLined j d e t l) (frontOf s d′ e′ t′)) (lentLined x y z m) dd de dt = subst (λ (b : Lent). Written (after (callLined j d e t l) (frontOf s d′ e′ t′)) b dd de dt) (sym g) v in (
             record { bytes = omega (arith, w .bytes, k .like-bytes, lx); numbers = omega (arith, w .numbers, k .like-numbers, ly); texts = omega (arith, w .texts, k .like-texts, lz); like-bytes = k .like-bytes ∙ sym lx; like-numbers = k .like-numbers ∙ sym ly; like-texts = k .like-texts ∙ sym lz },
             rw f (w .result ∙ ap (λ (c : Call). after c (frontOf s d′ e′ t′)) room),
           )

@@ -158,6 +158,7 @@ pub fn apply(
             lines,
         );
     }
+<<<<<<< HEAD
     write_replaced_flat(
         content,
         entries,
@@ -168,6 +169,9 @@ pub fn apply(
         numbers,
         texts,
     )
+=======
+    write_replaced(content, entries, text, records, new, bytes, numbers, texts)
+>>>>>>> runs-code
 }
 
 // Where the content stands after an answer: in the other set if the call is done.

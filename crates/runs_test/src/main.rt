@@ -43,11 +43,7 @@ fn show(
 {
     if s.first {
         io::write_all(1, b" first");
-        show_recording(
-            &bytes[..s.bytes],
-            &numbers[..s.numbers],
-            &texts[..s.texts],
-        );
+        show_recording(&bytes[..s.bytes], &numbers[..s.numbers], &texts[..s.texts]);
         return;
     }
     io::write_all(1, b" other");
@@ -112,9 +108,10 @@ fn each(
     held
 }
 
-// Lists with different second recordings, one after another, on "oak 12 ft b" with "oak" labelled and a raw sequence before "12".
-// Refused are the greatest width (9), a width beyond the buffer (21), more lines than the list holds (24) and a record that ends beyond the data (8).
-fn lists(
+// "oak 12 ft b" with "oak" labelled and a raw sequence before "12"; the same second recording and records for all calls.
+// Refused are, in this order: a record beyond the data (8), a result over the limit (9) and beyond the buffer (21), and more lines than the list holds (24).
+// The wrap that is made twice changes nothing the second time; the records are good at the end.
+fn boards(
     bytes: &mut [u8],
     numbers: &mut [u32],
     texts: &mut [u8],
@@ -131,94 +128,45 @@ fn lists(
         numbers: 12,
         texts: 4,
     };
-    show(
-        start,
-        bytes,
-        numbers,
-        texts,
-        other_bytes,
-        other_numbers,
-        other_texts,
-    );
-    let none = [0; 1];
-    let unlabelled = [0; 1];
-    let cuts = [0, 9, 1, 8];
+    let calls = [
+        0,
+        9,
+        8,
+        0,
+        1,
+        8,
+        2,
+        10,
+        3,
+        4294967295,
+        3,
+        14,
+        4,
+        60,
+        4,
+        17,
+        6,
+        8,
+        7,
+        1,
+        7,
+        7,
+        7,
+        7,
+        5,
+        0,
+        8,
+        0,
+    ];
     let labelled = [0, 0, 0, 1, 2, 1, 0, 0];
-    let cut = each(
-        start,
-        &cuts,
-        b"..",
-        &labelled,
-        b"e",
-        &none[0..0],
-        b"",
-        bytes,
-        numbers,
-        texts,
-        other_bytes,
-        other_numbers,
-        other_texts,
-        lines,
-    );
-    let pads = [2, 10, 3, 4294967295, 3, 11, 4, 49, 4, 14];
-    let padded = each(
-        cut,
-        &pads,
-        b"=",
-        &unlabelled[0..0],
-        b"",
-        &none[0..0],
-        b"",
-        bytes,
-        numbers,
-        texts,
-        other_bytes,
-        other_numbers,
-        other_texts,
-        lines,
-    );
-    let wraps = [6, 8, 7, 1, 7, 4, 7, 4, 5, 0];
-    let folded = each(
-        padded,
-        &wraps,
-        b"> ",
-        &labelled,
-        b"p",
-        &none[0..0],
-        b"",
-        bytes,
-        numbers,
-        texts,
-        other_bytes,
-        other_numbers,
-        other_texts,
-        lines,
-    );
-    let records = [0, 2, 0, 3, 4, 5, 0, 0, 40, 40, 0, 0];
-    let kinds = [8, 0, 6, 3];
-    let bad = each(
-        folded,
-        &kinds[0..2],
-        b"",
-        &unlabelled[0..0],
-        b"",
-        &records,
-        b"oak",
-        bytes,
-        numbers,
-        texts,
-        other_bytes,
-        other_numbers,
-        other_texts,
-        lines,
-    );
+    let records = [0, 2, 0, 3, 20, 20, 0, 0];
     each(
-        bad,
-        &kinds,
-        b"",
-        &unlabelled[0..0],
-        b"",
-        &records[0..8],
+        start,
+        &calls,
+        b"=>",
+        &labelled,
+        b"a",
+        &records,
         b"oak",
         bytes,
         numbers,
@@ -231,18 +179,23 @@ fn lists(
 }
 
 fn main() {
-    let mut bytes = [0; 48];
-    let mut numbers = [
-        0, 0, 0, 3, 3, 1, 0, 0, 4, 2, 3, 1, 0, 0, 0, 0, 0, 0, 0, 0, 0, 0, 0, 0, 0, 0, 0, 0, 0, 0, 0, 0, 0, 0, 0, 0, 0, 0, 0, 0, 0, 0, 0, 0, 0, 0, 0, 0, 0, 0, 0, 0, 0, 0, 0, 0,
-    ];
+    let mut bytes = [0; 64];
+    let mut numbers = [0; 96];
     let mut texts = [0; 24];
-    let mut other_bytes = [0; 48];
-    let mut other_numbers = [0; 56];
+    let mut other_bytes = [0; 64];
+    let mut other_numbers = [0; 96];
     let mut other_texts = [0; 24];
     let mut lines = [0; 16];
     put(&mut bytes, 0, b"oak 12 ft b", 0, 11);
     put(&mut texts, 0, b"redR", 0, 4);
-    lists(
+    numbers[3] = 3;
+    numbers[4] = 3;
+    numbers[5] = 1;
+    numbers[8] = 4;
+    numbers[9] = 2;
+    numbers[10] = 3;
+    numbers[11] = 1;
+    boards(
         &mut bytes,
         &mut numbers,
         &mut texts,
