@@ -1,4 +1,4 @@
--- Module 1 of document 01, the recorder: "append data (no bytes is allowed), push, pop, append raw, `replay`".
+-- The recorder (document 01, module 1): adding data, a label, a pop or a raw sequence to a recording, and replaying one.
 use Prim.Native.Nat.{ℕ}
 use mathlib.Core.Bool.{_||_, not}
 use mathlib.Core.List.{List, [], _∷_, _++_}
@@ -20,14 +20,14 @@ roomIn b = record { dataBytes = length (b .dataBytes); entryNumbers = length (b 
 abbrev pub leaves : Recording → Result
 leaves q = record { recording = q; lines = []; number = 0 }
 
--- ── replay: "each entry's text copied, in entry order, one after another from 0"
+-- ── replay: the recording written anew, its entries' texts side by side from 0
 unfoldable pub replayFaults : Recording → Faults
 replayFaults r = record { lengths = 0; content = recordingFault r; second = 0; added = 0; plain = 0; records = 0 }
 
 unfoldable pub replayed : Recording → Lent → Outcome
 replayed r b = settle (replayFaults r) (roomIn b) (leaves (encode (items r)))
 
--- ── "The first four add at the ends, label or raw text at the text's end, and move nothing."
+-- ── the adding calls: something more at the ends, and all that was there stays where it is
 -- data at the data's end
 unfoldable pub withData : Bytes → Recording → Recording
 withData x r = recording (r .dataBytes ++ x) (r .entryNumbers) (r .text)
@@ -64,13 +64,13 @@ addFaults n b d e t = record { lengths = lengthsFault b d e t; content = recordi
 unfoldable pub written : Bytes → Lent → ℕ → ℕ → ℕ → Outcome
 written x b d e t = settle (addFaults 0 b d e t) (roomIn b) (leaves (withData x (usedOf b d e t)))
 
--- 6: "a pushed label (6)"
+-- 6: the label that is pushed
 unfoldable pub pushed : Bytes → Lent → ℕ → ℕ → ℕ → Outcome
 pushed l b d e t = settle (addFaults (refuseIf (not (wellFormed l)) 6) b d e t) (roomIn b) (leaves (withLabel l (usedOf b d e t)))
 
 unfoldable pub popped : Lent → ℕ → ℕ → ℕ → Outcome
 popped b d e t = settle (addFaults 0 b d e t) (roomIn b) (leaves (withPop (usedOf b d e t)))
 
--- 3: "or appended raw (3)": a raw sequence is never empty
+-- 3: a raw sequence without bytes
 unfoldable pub rawAdded : Bytes → Lent → ℕ → ℕ → ℕ → Outcome
 rawAdded x b d e t = settle (addFaults (refuseIf (eqb (length x) 0) 3) b d e t) (roomIn b) (leaves (withRaw x (usedOf b d e t)))

@@ -90,7 +90,12 @@ fn exact() {
     let mut most = at_limit();
     replayed(b"replay, at the limit", &most);
     wrapped(b"wrap, at the limit", &most);
-    added(b"write, no room before the limit is passed", &mut most, 1048576, b"x");
+    added(
+        b"write, no room before the limit is passed",
+        &mut most,
+        1048576,
+        b"x",
+    );
 }
 
 fn main() {

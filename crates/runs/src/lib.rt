@@ -158,20 +158,7 @@ pub fn apply(
             lines,
         );
     }
-<<<<<<< HEAD
-    write_replaced_flat(
-        content,
-        entries,
-        text,
-        records,
-        new,
-        bytes,
-        numbers,
-        texts,
-    )
-=======
-    write_replaced(content, entries, text, records, new, bytes, numbers, texts)
->>>>>>> runs-code
+    write_replaced_flat(content, entries, text, records, new, bytes, numbers, texts)
 }
 
 // Where the content stands after an answer: in the other set if the call is done.

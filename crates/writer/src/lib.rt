@@ -1,5 +1,5 @@
 // Writing recordings into lent buffers, piece by piece: each piece and each entry at the current ends.
-// Document 01: "They write a recording's pieces and entries in order, each entry at the current end, dropping none."
+// Pieces and entries go in the order of the recording that is read, and no entry is dropped.
 // `bytes`, `numbers` and `texts` are the lent buffers; `content`, `entries` and `text` the recording that is read.
 // Every step has one equation: the buffers at exit are those at entry with some items put at the ends (`add`).
 use buffer::put;
