@@ -13,7 +13,12 @@ use Rattle.io.specs.Digits.{glyph, digits}
 use Rattle.buffer.specs.Place.{over, overAt, part}
 use Rattle.buffer.proofs.Laws.{put-over, take-over}
 use Rattle.recording.specs.Recording.{Bytes}
+use Rattle.recording.specs.Refusals.{dataLimit}
+use Rattle.recording.specs.Outcome.{Outcome, done, lentAfter, Returned, returned, answerOf}
+use Rattle.recording.specs.declared.Answer.{Answer}
 use Rattle.layout.specs.Wrap.{Line, lineNumbers, wrapLines}
+use Rattle.wrap.specs.WrapBytes.{lentLines, wrapResult, wrapBytesOutcome}
+use Rattle.wrap.proofs.WrapLaws.{outcome-done}
 use Rattle.sheet.specs.Sheet.{after, upTo, sheetLine, sheetLines, allDigits, valueFrom, noLeadingZero, smallDigits, isDecimal, decimalOr, isBreak, breakOf, isData, allHex, dataOf, widthField, breakField, dataField, goodLine}
 use Rattle.sheet.proofs.SheetLaws.{rest-next, line-next, up-to-take, after-drop}
 use Rattle.rows.specs.Rows.{decimalUpTo, decimal, rowText, badRow, lineRows, numberRows, rowsOf}
@@ -163,6 +168,19 @@ held n ns old new e f = ap (take n) f ∙ ap (λ (j : ℕ). take j (over ns old)
 
 pub same-row : (at : ℕ) (out x y : Bytes) (r : ℕ) (o : Bytes) → x ≡ y → r ≡ at + length x → o ≡ overAt at x out → (r ≡ at + length y) × (o ≡ overAt at y out)
 same-row at out x y r o e f g = (f ∙ ap (λ (l : Bytes). at + length l) e, g ∙ ap (λ (l : Bytes). overAt at l out) e)
+
+-- ── a value line's data, wrapped: the line list does, at most one line a byte and one more
+module _ (w : ℕ) (b : Bool) (d old : List ℕ) (few : length d ≤ dataLimit → length (wrapLines w b d) ≤ length d + 1) (short : length d ≤ 4000) (room : 8002 ≤ length old) where
+  enough : wrapBytesOutcome w b d (length old) ≡ done (wrapResult w b d)
+  enough = outcome-done w b d (length old) (omega (arith, short)) (omega (arith, numbers-two (wrapLines w b d), few (omega (arith, short)), short, room))
+
+  pub line-count : (a : Answer) → answerOf a ≡ returned (wrapBytesOutcome w b d (length old)) → answerOf a .number ≡ length (wrapLines w b d)
+  unfolding returned
+  line-count a e = ap (λ (x : Returned). x .number) (e ∙ ap returned enough)
+
+  pub line-list : (n : ℕ) (new : List ℕ) → n ≡ length (lineNumbers (wrapLines w b d)) → new ≡ lentAfter (wrapBytesOutcome w b d (length old)) (lentLines old) .lines → take n new ≡ lineNumbers (wrapLines w b d)
+  unfolding lentAfter
+  line-list n new e f = held n (lineNumbers (wrapLines w b d)) old new e (f ∙ ap (λ (x : Outcome). lentAfter x (lentLines old) .lines) enough)
 
 -- ── a value line, bad or good
 pub row-open : (r : ℕ) (t : Bytes) (e : Bool) → e ≡ false → badRow r ≡ rowsOf r (sheetLine t e)

@@ -1,5 +1,6 @@
 // What `wraplist` prints for a sheet (document 01, module 7), in one lent buffer: `write_output` leaves `output` of `specs/Rows.antt`, whatever the sheet's bytes are.
 // Each byte of a sheet gives at most 22 bytes, so a buffer of OUTPUT bytes always does.
+use recording::Answer;
 use sheet::after_space;
 use sheet::break_of;
 use sheet::decimal_in;
@@ -8,11 +9,14 @@ use sheet::first_field;
 use sheet::is_break;
 use sheet::is_data;
 use sheet::unhex;
+use wrap::numbers_of;
+use wrap::wrap_bytes;
 ghost use mathlib.Core.Path.{_≡_};
 ghost use mathlib.Core.List.{_++_, _∷_, []};
 ghost use Prim.Native.Nat.{_+_, _-_, _*_, _≤_, _<_};
 ghost use lib.ListN.{length, take, drop};
 ghost use Rattle.buffer.specs.Place.{over, overAt};
+ghost use Rattle.recording.specs.Outcome.{answerOf};
 ghost use Rattle.layout.specs.Wrap.{wrapLines};
 ghost use Rattle.sheet.specs.Sheet.{sheetLine, sheetLines};
 ghost use Rattle.rows.specs.Rows.{decimal, field, rowText, badRow, numberRows, lineRows, rowsOf, rowsFrom, output};
@@ -69,7 +73,22 @@ fn put_lines(out: &mut [u8], at: usize, row: u32, lines: &[u32]) -> usize
     end
 }
 
-// Puts the rows of a value line's data.
+// How many lines an answer of `wrap_bytes` gives; none if it is a refusal.
+fn lines_in(a: Answer) -> usize
+    ensures { λ r. ⌜ r ≡ answerOf a .number ⌝ }
+{
+    match a {
+        Answer::Refused(_) => 0,
+        Answer::Done {
+            data: _,
+            entries: _,
+            text: _,
+            number,
+        } => number as usize,
+    }
+}
+
+// Puts the rows of a value line's data. The call is not refused: 8,002 numbers do for 4,000 bytes.
 fn good_rows(
     d: &[u8],
     width: u32,
@@ -83,11 +102,8 @@ fn good_rows(
     ensures { λ r. ⌜ (r ≡ at + length (lineRows row 0 (wrapLines width breaks (now (d .entry))))) × (now (out .exit) ≡ overAt at (lineRows row 0 (wrapLines width breaks (now (d .entry)))) (now (out .entry))) ⌝ }
     ensures { λ r. ⌜ r ≤ at + 44 * (length (now (d .entry)) + 1) ⌝ }
 {
-    let t = chars::LEADS;
-    let found = wrap::count_lines(&t, d, width, breaks);
-    let count = found.count;
-    let n = wrap::numbers_of(count);
-    wrap::write_lines(&t, d, width, breaks, lines);
+    let a = wrap_bytes(d, width, breaks, lines);
+    let n = numbers_of(lines_in(a));
     put_lines(out, at, row, &lines[..n])
 }
 

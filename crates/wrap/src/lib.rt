@@ -91,9 +91,11 @@ pub fn numbers_of(count: usize) -> usize
 }
 
 // The lines that the data is wrapped into, in `lines`; the number that comes back is their count.
+// There is at most one line a byte and one more.
 pub fn wrap_bytes(data: &[u8], width: u32, break_words: bool, lines: &mut [u32]) -> Answer
     ensures { λ r. ⌜ answerOf r ≡ returned (wrapBytesOutcome width «break_words» (now («data» .entry)) (length (now (lines .entry)))) ⌝ }
     ensures { λ _. ⌜ now (lines .exit) ≡ lentAfter (wrapBytesOutcome width «break_words» (now («data» .entry)) (length (now (lines .entry)))) (lentLines (now (lines .entry))) .lines ⌝ }
+    ensures { λ _. ⌜ (length (now («data» .entry)) ≤ dataLimit → length (wrapLines width «break_words» (now («data» .entry))) ≤ length (now («data» .entry)) + 1) ⌝ }
 {
     if DATA_LIMIT < data.len() {
         return Answer::Refused(Refusal::DataTooLong);

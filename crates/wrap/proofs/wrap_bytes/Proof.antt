@@ -9,7 +9,7 @@ use Rattle.recording.specs.Outcome.{answerOf, returned, lentAfter}
 use Rattle.chars.specs.Leads.{leadTable}
 use lib.ListN.{length}
 use mathlib.Core.Path.{_≡_, refl, sym, ap, _∙_}
-use Prim.Native.Nat.{ℕ, _*_}
+use Prim.Native.Nat.{ℕ, _+_, _*_, _≤_}
 use Rattle.wrap.proofs.wrap_bytes.Statement.{statement}
 use Rattle.wrap.proofs.wrap_bytes.Tie as tie
 use Rattle.wrap.proofs.wrap_bytes.Reads as reads
@@ -23,6 +23,10 @@ counted : (c : tie.After-numbers-of) → c .before .count-lines .result .count �
 unfolding linesOf
 counted c = ap (λ (x : Lines). x .count) (c .before .count-lines .ensures .0)
 
+-- at most one line a byte and one more
+few : (c : tie.After-numbers-of) → length (wrapLines (c .before .before .before .before .before .before .args .width) (c .before .before .before .before .before .before .args .break-words) (c .before .before .before .before .before .before .args .«data» .now)) ≤ length (c .before .before .before .before .before .before .args .«data» .now) + 1
+few c = omega (arith, counted c, c .before .count-lines .ensures .1 .1)
+
 numbers : (c : tie.After-numbers-of) → c .numbers-of .result ≡ length (lineNumbers (wrapLines (c .before .before .before .before .before .before .args .width) (c .before .before .before .before .before .before .args .break-words) (c .before .before .before .before .before .before .args .«data» .now)))
 numbers c = c .numbers-of .ensures ∙ ap (λ (n : ℕ). n * lineSize) (counted c) ∙ sym (laws.numbers-length (wrapLines (c .before .before .before .before .before .before .args .width) (c .before .before .before .before .before .before .args .break-words) (c .before .before .before .before .before .before .args .«data» .now)))
 
@@ -30,7 +34,7 @@ returns : tie.Need-returns
 unfolding answerOf returned lentAfter
 returns c =
     let a = c .before .before .before .args in
-    rw (laws.outcome-long (a .width) (a .break-words) (a .«data» .now) (length (a .lines .now)) (c .if1 .taken)) (refl, refl)
+    rw (laws.outcome-long (a .width) (a .break-words) (a .«data» .now) (length (a .lines .now)) (c .if1 .taken)) (refl, (refl, λ h. absurd (omega (arith, h, c .if1 .taken))))
 
 count-lines-requires : tie.Need-count-lines-requires
 unfolding leadTable
@@ -44,7 +48,7 @@ returns-2 : tie.Need-returns-2
 unfolding answerOf returned lentAfter
 returns-2 c =
     let a = c .before .before .before .before .before .before .before .args in
-    rw (laws.outcome-short (a .width) (a .break-words) (a .«data» .now) (length (a .lines .now)) (c .before .before .before .before .if1 .left) (omega (arith, numbers (c .before), c .if2 .taken))) (refl, refl)
+    rw (laws.outcome-short (a .width) (a .break-words) (a .«data» .now) (length (a .lines .now)) (c .before .before .before .before .if1 .left) (omega (arith, numbers (c .before), c .if2 .taken))) (refl, (refl, λ h. few (c .before)))
 
 write-lines-requires : tie.Need-write-lines-requires
 unfolding leadTable
@@ -60,7 +64,7 @@ returns-3 c =
     let a = c .before .before .before .before .before .before .before .before .before .before .before .before .args in
     let n = counted (c .before .before .before .before .before .before) in
     rw (laws.outcome-done (a .width) (a .break-words) (a .«data» .now) (length (a .lines .now)) (c .before .before .before .before .before .before .before .before .before .if1 .left) (omega (arith, numbers (c .before .before .before .before .before .before), c .before .before .before .before .before .if2 .left)))
-    (λ i. record { refusal = 0; dataBytes = 0; entryNumbers = 0; text = 0; number = n i }, c .before .before .write-lines .ensures)
+    (λ i. record { refusal = 0; dataBytes = 0; entryNumbers = 0; text = 0; number = n i }, (c .before .before .write-lines .ensures, λ h. few (c .before .before .before .before .before .before)))
 
 pub wrap-bytes-spec : {M : Type 1} → statement M
 wrap-bytes-spec =
