@@ -13,10 +13,12 @@ pub fn view(lists: &Lists) -> View<'_> {
 /// Data of characters of every width, ill-formed bytes, and in some of it words, spaces and line ends.
 pub fn content(numbers: &mut Numbers) -> Vec<u8> {
     let mut made = vec![];
-    for _ in 0..numbers.within(0, 4) {
+    // One in fifty is long.
+    let (pieces, run) = if numbers.within(0, 49) == 0 { (40, 70) } else { (4, 9) };
+    for _ in 0..numbers.within(0, pieces) {
         match numbers.within(0, 3) {
             0 => made.extend(damaged(numbers)),
-            1 => (0..numbers.within(0, 9)).for_each(|_| made.push(numbers.within(b'a' as u64, b'z' as u64) as u8)),
+            1 => (0..numbers.within(0, run)).for_each(|_| made.push(numbers.within(b'a' as u64, b'z' as u64) as u8)),
             2 => (0..numbers.within(1, 3)).for_each(|_| made.push(b" \n \r\n\t"[numbers.within(0, 5) as usize])),
             _ => (0..numbers.within(0, 6)).for_each(|_| made.extend("木\u{301}x é字\n".chars().nth(numbers.within(0, 6) as usize).unwrap().to_string().bytes())),
         }
@@ -92,6 +94,16 @@ pub fn scattered(recording: &Recording, numbers: &mut Numbers) -> Lists {
         })
         .collect();
     Lists { data: recording.data.clone(), entries, text }
+}
+
+/// Data, entries or text as long as the limit or one longer.
+pub fn at_a_limit(numbers: &mut Numbers) -> Lists {
+    let over = numbers.within(0, 1) as usize;
+    match numbers.within(0, 2) {
+        0 => Lists { data: b"oak 12 ft".repeat(1 << 17)[..LIMITS.0 + over].to_vec(), ..Lists::default() },
+        1 => Lists { data: b"ab".to_vec(), entries: [1, 1, 0, 0].repeat(LIMITS.1 / 4 + over), text: vec![] },
+        _ => Lists { data: b"ab".to_vec(), entries: vec![1, 2, 0, LIMITS.2 as u32 - 2], text: vec![0x1B; LIMITS.2 + over] },
+    }
 }
 
 /// Now and then one number is changed, or one too many or too few; the result may still be a recording.

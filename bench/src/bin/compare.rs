@@ -4,7 +4,7 @@ use std::fmt::Debug;
 use std::process::ExitCode;
 
 use bench::inputs::{Numbers, damaged};
-use bench::recordings::{Expected, content, fault, maybe_damaged, recording, scattered, view};
+use bench::recordings::{Expected, at_a_limit, content, fault, maybe_damaged, recording, scattered, view};
 use bindings::{Answer, LIMITS, Place, Room, Used, View};
 use oracle::original::Formatter as _;
 use oracle::{Lists, Recording, Replacement};
@@ -82,6 +82,9 @@ fn zero_width_len(numbers: &mut Numbers) -> Result<(), String> {
 
 /// A content or a second recording in the library's form, its fault, and the recording that it is if it has none.
 fn input(numbers: &mut Numbers, most: u64) -> (Lists, u64, Recording) {
+    if numbers.within(0, 9999) == 0 {
+        return read(at_a_limit(numbers), numbers);
+    }
     let made = recording(numbers, most);
     read(scattered(&made, numbers), numbers)
 }
