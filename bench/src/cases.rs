@@ -1,22 +1,41 @@
 //! The calls that are timed. A new one is one more line of `CASES`: its name and a function from an input to the two sides.
+use std::cell::RefCell;
 use std::hint::black_box;
+use std::io::{Result as Io, Write as _};
 
-use bench::inputs::Input;
+use bench::inputs::{Input, ROWS, SHORT_ROWS, SIZES, Size};
+use bench::recordings::view;
 use bench::timing::Pair;
-use bindings::Place;
-use oracle::original;
+use bindings::{Answer, Place, Room, Used};
+use oracle::original::{FormatRecorder, Formatter};
+use oracle::{Entry, Kind, Lists, Recording, original};
 
 pub struct Case {
     pub name: &'static str,
+    pub sizes: &'static [Size],
     pub sides: fn(&Input) -> Result<Pair, String>,
 }
 
 pub const CASES: &[Case] = &[
-    Case { name: "text_width", sides: text_width },
-    Case { name: "truncate_end_pos", sides: truncate_end_pos },
-    Case { name: "truncate_start_pos", sides: truncate_start_pos },
-    Case { name: "text_width_and_truncate_start_pos", sides: text_width_and_truncate_start_pos },
-    Case { name: "well_formed", sides: well_formed },
+    Case { name: "text_width", sizes: &SIZES, sides: text_width },
+    Case { name: "truncate_end_pos", sizes: &SIZES, sides: truncate_end_pos },
+    Case { name: "truncate_start_pos", sizes: &SIZES, sides: truncate_start_pos },
+    Case { name: "text_width_and_truncate_start_pos", sizes: &SIZES, sides: text_width_and_truncate_start_pos },
+    Case { name: "well_formed", sizes: &SIZES, sides: well_formed },
+    Case { name: "replay", sizes: &ROWS, sides: replay },
+    Case { name: "write_truncated_start", sizes: &ROWS, sides: write_truncated_start },
+    Case { name: "write_truncated_end", sizes: &ROWS, sides: write_truncated_end },
+    Case { name: "write_padded_start", sizes: &ROWS, sides: write_padded_start },
+    Case { name: "write_padded_end", sizes: &ROWS, sides: write_padded_end },
+    Case { name: "write_padded_centered", sizes: &ROWS, sides: write_padded_centered },
+    Case { name: "write_indented", sizes: &ROWS, sides: write_indented },
+    Case { name: "wrap_bytes", sizes: &ROWS, sides: wrap_bytes },
+    Case { name: "write_wrapped", sizes: &ROWS, sides: write_wrapped },
+    Case { name: "write_replaced", sizes: &ROWS, sides: write_replaced },
+    Case { name: "elide_start", sizes: &ROWS, sides: elide_start },
+    Case { name: "elide_end", sizes: &ROWS, sides: elide_end },
+    Case { name: "complete_newline", sizes: &ROWS, sides: complete_newline },
+    Case { name: "made_by_adding", sizes: &SHORT_ROWS, sides: made_by_adding },
 ];
 
 fn text_width(input: &Input) -> Result<Pair, String> {
@@ -63,4 +82,254 @@ fn text_width_and_truncate_start_pos(input: &Input) -> Result<Pair, String> {
 
 fn well_formed(input: &Input) -> Result<Pair, String> {
     Pair::of_values(input.texts.clone(), |s| std::str::from_utf8(s).is_ok(), |s| bindings::well_formed(s))
+}
+
+/// A text with entries, in both forms: six entries in a short row, one for each 512 bytes of a long text.
+struct Row {
+    recording: Recording,
+    lists: Lists,
+    recorder: FormatRecorder,
+    width: usize,
+}
+
+fn row(text: &[u8]) -> Row {
+    let count = if text.len() <= 1024 { 6 } else { text.len() / 512 / 2 * 2 };
+    let mut data = text.to_vec();
+    // Lines of about 100 bytes.
+    (1..data.len() / 100).for_each(|i| data[i * 100] = b'\n');
+    let entries = (0..count)
+        .map(|i| {
+            let at = data.len() * i / count;
+            match i % 2 {
+                0 => Entry { at, kind: Kind::Push, text: b"working_copy"[..4 + i % 8].to_vec() },
+                _ => Entry { at, kind: Kind::Pop, text: vec![] },
+            }
+        })
+        .collect();
+    let width = original::text_width(&data);
+    let recording = Recording { data, entries };
+    Row { lists: recording.to_lists(), recorder: recording.to_recorder(), recording, width }
+}
+
+fn rows(input: &Input) -> Vec<Row> {
+    input.texts.iter().map(|text| row(text)).collect()
+}
+
+/// A short second recording: a label, the data, a pop.
+fn second(data: &[u8]) -> (Lists, FormatRecorder) {
+    let entries = vec![
+        Entry { at: 0, kind: Kind::Push, text: b"rest".to_vec() },
+        Entry { at: data.len(), kind: Kind::Pop, text: vec![] },
+    ];
+    let made = Recording { data: data.to_vec(), entries };
+    (made.to_lists(), made.to_recorder())
+}
+
+/// Rust writes to a new recorder, the library to buffers that are lent again and again.
+fn recorded(
+    input: &Input,
+    rust: impl Fn(&Row, &mut FormatRecorder) -> Io<u64> + Copy + 'static,
+    rattle: impl Fn(&Row, &mut Room) -> Answer + Copy + 'static,
+) -> Result<Pair, String> {
+    let made = move |row: &Row| {
+        let mut out = FormatRecorder::new(false);
+        let number = rust(row, &mut out).unwrap();
+        (out, number)
+    };
+    let check = move |row: &Row| {
+        let (out, number) = made(row);
+        let expected = Recording::from_recorder(&out).to_lists();
+        let mut room = Room::full();
+        let got = rattle(row, &mut room);
+        if got.refusal != 0 {
+            return Err(format!("refused: {got:?}"));
+        }
+        let (d, e, t) = (got.data as usize, got.entries as usize, got.text as usize);
+        let left = Lists { data: room.data[..d].to_vec(), entries: room.entries[..e].to_vec(), text: room.text[..t].to_vec() };
+        if (left, got.number) == (expected, number) { Ok(()) } else { Err("other results".into()) }
+    };
+    let room = RefCell::new(Room::full());
+    Pair::new(rows(input), check, made, move |row| rattle(row, &mut room.borrow_mut()))
+}
+
+fn replay(input: &Input) -> Result<Pair, String> {
+    recorded(input, |row, out| row.recorder.replay(out).map(|()| 0), |row, room| bindings::replay(view(&row.lists), room))
+}
+
+thread_local! {
+    static ELLIPSIS: (Lists, FormatRecorder) = second("…..".as_bytes());
+    static FILL: (Lists, FormatRecorder) = second(b" ");
+    static PREFIX: (Lists, FormatRecorder) = (Recording::plain(b"> ").to_lists(), Recording::plain(b"> ").to_recorder());
+}
+
+/// To half of its width.
+fn write_truncated_start(input: &Input) -> Result<Pair, String> {
+    recorded(
+        input,
+        |row, out| ELLIPSIS.with(|e| original::write_truncated_start(out, &row.recorder, &e.1, row.width / 2)).map(|n| n as u64),
+        |row, room| ELLIPSIS.with(|e| bindings::write_truncated_start(view(&row.lists), view(&e.0), row.width as u32 / 2, room)),
+    )
+}
+
+fn write_truncated_end(input: &Input) -> Result<Pair, String> {
+    recorded(
+        input,
+        |row, out| ELLIPSIS.with(|e| original::write_truncated_end(out, &row.recorder, &e.1, row.width / 2)).map(|n| n as u64),
+        |row, room| ELLIPSIS.with(|e| bindings::write_truncated_end(view(&row.lists), view(&e.0), row.width as u32 / 2, room)),
+    )
+}
+
+/// By 20 columns more than it has.
+fn write_padded_start(input: &Input) -> Result<Pair, String> {
+    recorded(
+        input,
+        |row, out| FILL.with(|f| original::write_padded_start(out, &row.recorder, &f.1, row.width + 20)).map(|_| 0),
+        |row, room| FILL.with(|f| bindings::write_padded_start(view(&row.lists), view(&f.0), row.width as u32 + 20, room)),
+    )
+}
+
+fn write_padded_end(input: &Input) -> Result<Pair, String> {
+    recorded(
+        input,
+        |row, out| FILL.with(|f| original::write_padded_end(out, &row.recorder, &f.1, row.width + 20)).map(|_| 0),
+        |row, room| FILL.with(|f| bindings::write_padded_end(view(&row.lists), view(&f.0), row.width as u32 + 20, room)),
+    )
+}
+
+fn write_padded_centered(input: &Input) -> Result<Pair, String> {
+    recorded(
+        input,
+        |row, out| FILL.with(|f| original::write_padded_centered(out, &row.recorder, &f.1, row.width + 20)).map(|_| 0),
+        |row, room| FILL.with(|f| bindings::write_padded_centered(view(&row.lists), view(&f.0), row.width as u32 + 20, room)),
+    )
+}
+
+fn write_indented(input: &Input) -> Result<Pair, String> {
+    recorded(
+        input,
+        |row, out| PREFIX.with(|p| original::write_indented(out, &row.recorder, |out| p.1.replay(out))).map(|_| 0),
+        |row, room| PREFIX.with(|p| bindings::write_indented(view(&row.lists), view(&p.0), room)),
+    )
+}
+
+/// Short rows at 30 columns, long texts at 72.
+fn columns(row: &Row) -> usize {
+    if row.lists.data.len() <= 1024 { 30 } else { 72 }
+}
+
+fn wrap_bytes(input: &Input) -> Result<Pair, String> {
+    let most = 2 * input.size + 4;
+    let rattle = |row: &Row, lines: &mut [u32]| bindings::wrap_bytes(&row.lists.data, columns(row) as u32, false, lines);
+    let check = move |row: &Row| {
+        let expected = oracle::wrap_bytes(&row.lists.data, columns(row), false);
+        let mut lines = vec![0; most];
+        let got = rattle(row, &mut lines);
+        let listed: Vec<_> = lines.chunks(2).take(got.number as usize).map(|l| (l[0] as usize, l[1] as usize)).collect();
+        if (got.refusal, listed) == (0, expected) { Ok(()) } else { Err("other lines".into()) }
+    };
+    let lines = RefCell::new(vec![0; most]);
+    Pair::new(
+        rows(input),
+        check,
+        |row| original::wrap_bytes(&row.lists.data, columns(row), false).len(),
+        move |row| rattle(row, &mut lines.borrow_mut()),
+    )
+}
+
+thread_local! {
+    static LINES: RefCell<Vec<u32>> = RefCell::new(vec![0; 2 << 20]);
+}
+
+fn write_wrapped(input: &Input) -> Result<Pair, String> {
+    recorded(
+        input,
+        // The library's number is the count of the lines, which the original does not return.
+        |row, out| original::write_wrapped(out, &row.recorder, columns(row), false).map(|_| 0),
+        |row, room| {
+            let width = columns(row) as u32;
+            let answer = LINES.with(|lines| bindings::write_wrapped(view(&row.lists), width, false, room, &mut lines.borrow_mut()));
+            Answer { number: 0, ..answer }
+        },
+    )
+}
+
+/// Four bytes of every 32 by three others.
+fn write_replaced(input: &Input) -> Result<Pair, String> {
+    recorded(
+        input,
+        |row, out| {
+            let ranges: Vec<_> = (0..row.lists.data.len() / 32).map(|i| i * 32..i * 32 + 4).collect();
+            original::write_replaced(out, &row.recorder, &ranges, |out, _| out.write_all(b"new")).map(|_| 0)
+        },
+        |row, room| {
+            let records: Vec<u32> = (0..row.lists.data.len() as u32 / 32).flat_map(|i| [i * 32, i * 32 + 4, 0, 3]).collect();
+            bindings::write_replaced(view(&row.lists), &records, b"new", room)
+        },
+    )
+}
+
+/// Well-formed texts, with half of their width.
+fn plain(input: &Input) -> Vec<(String, usize)> {
+    let shorter = |s: &[u8]| String::from_utf8_lossy(&s[..s.len().min(300_000)]).into_owned();
+    input.texts.iter().map(|s| shorter(s)).map(|s| (original::text_width(s.as_bytes()) / 2, s)).map(|(n, s)| (s, n)).collect()
+}
+
+fn texts(
+    input: &Input,
+    rust: impl Fn(&str, usize) -> (String, usize) + Copy + 'static,
+    rattle: impl Fn(&[u8], u32, &mut [u8]) -> Answer + Copy + 'static,
+) -> Result<Pair, String> {
+    let check = move |(s, max): &(String, usize)| {
+        let (expected, width) = rust(s, *max);
+        let mut out = vec![0; 1 << 20];
+        let got = rattle(s.as_bytes(), *max as u32, &mut out);
+        let same = got.refusal == 0 && &out[..got.data as usize] == expected.as_bytes() && got.number == width as u64;
+        if same { Ok(()) } else { Err(format!("other results: {got:?}, {width}")) }
+    };
+    let out = RefCell::new(vec![0; 1 << 20]);
+    Pair::new(plain(input), check, move |(s, max)| rust(s, *max), move |(s, max)| rattle(s.as_bytes(), *max as u32, &mut out.borrow_mut()))
+}
+
+fn elide_start(input: &Input) -> Result<Pair, String> {
+    texts(input, |s, max| oracle::elide_start(s, "..", max), |s, max, out| bindings::elide_start(s, b"..", max, out))
+}
+
+fn elide_end(input: &Input) -> Result<Pair, String> {
+    texts(input, |s, max| oracle::elide_end(s, "..", max), |s, max, out| bindings::elide_end(s, b"..", max, out))
+}
+
+fn complete_newline(input: &Input) -> Result<Pair, String> {
+    texts(input, |s, _| (oracle::complete_newline(s), 0), |s, _, out| bindings::complete_newline(s, out))
+}
+
+/// A recording made from nothing by appending data, labels and pops.
+fn made_by_adding(input: &Input) -> Result<Pair, String> {
+    recorded(
+        input,
+        |row, out| {
+            let mut at = 0;
+            for entry in &row.recording.entries {
+                out.write_all(&row.recording.data[at..entry.at])?;
+                at = entry.at;
+                match entry.kind {
+                    Kind::Push => out.push_label(std::str::from_utf8(&entry.text).unwrap()),
+                    _ => out.pop_label(),
+                }
+            }
+            out.write_all(&row.recording.data[at..]).map(|()| 0)
+        },
+        |row, room| {
+            let used = |a: Answer| Used { data: a.data as usize, entries: a.entries as usize, text: a.text as usize };
+            let (mut at, mut u) = (0, Used::default());
+            for entry in &row.recording.entries {
+                u = used(bindings::write(room, u, &row.recording.data[at..entry.at]));
+                at = entry.at;
+                u = used(match entry.kind {
+                    Kind::Push => bindings::push_label(room, u, &entry.text),
+                    _ => bindings::pop_label(room, u),
+                });
+            }
+            bindings::write(room, u, &row.recording.data[at..])
+        },
+    )
 }

@@ -13,7 +13,14 @@ pub enum Kind {
 
 pub const KINDS: [(Kind, &str); 3] = [(Kind::Ascii, "ASCII"), (Kind::Mixed, "mixed CJK"), (Kind::Random, "random bytes")];
 
-pub const SIZES: [(usize, &str); 4] = [(6, "6 B"), (80, "80 B"), (64 << 10, "64 KiB"), (1 << 20, "1 MiB")];
+pub type Size = (usize, &'static str);
+
+/// For the calls on texts.
+pub const SIZES: [Size; 4] = [(6, "6 B"), (80, "80 B"), (64 << 10, "64 KiB"), (1 << 20, "1 MiB")];
+
+/// For the calls on recordings: results keep within the limit of 1 MiB.
+pub const ROWS: [Size; 3] = [(80, "80 B"), (64 << 10, "64 KiB"), (1_000_000, "1 MB")];
+pub const SHORT_ROWS: [Size; 2] = [(80, "80 B"), (64 << 10, "64 KiB")];
 
 /// Numbers from a seed (xorshift).
 pub struct Numbers(u64);

@@ -1,3 +1,4 @@
-//! What the two drivers share: the texts and the timing.
+//! What the two drivers share: the texts, the recordings and the timing.
 pub mod inputs;
+pub mod recordings;
 pub mod timing;

@@ -3,17 +3,17 @@ mod cases;
 
 use std::process::ExitCode;
 
-use bench::inputs::{Input, KINDS, SIZES};
+use bench::inputs::{Input, KINDS};
 use bench::timing;
 use cases::{CASES, Case};
 
 fn table(case: &Case, rounds: usize, many: usize) -> Result<(), String> {
     println!("\n### {}\n", case.name);
-    let heads: Vec<_> = SIZES.iter().map(|(_, name)| *name).collect();
+    let heads: Vec<_> = case.sizes.iter().map(|(_, name)| *name).collect();
     println!("| input | {} |\n|---|{}", heads.join(" | "), "---|".repeat(heads.len()));
     for (kind, name) in KINDS {
         let mut row = format!("| {name} |");
-        for (size, size_name) in SIZES {
+        for &(size, size_name) in case.sizes {
             let pair = (case.sides)(&Input::new(kind, size, many)).map_err(|e| format!("{}, {name}, {size_name}: {e}", case.name))?;
             let times = timing::measure(&pair, rounds);
             row += &format!(" **{:.2}** ({:.2} / {:.2}) |", times.ratio(), times.rattle / size as f64, times.rust / size as f64);

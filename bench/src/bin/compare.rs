@@ -4,7 +4,11 @@ use std::fmt::Debug;
 use std::process::ExitCode;
 
 use bench::inputs::{Numbers, damaged};
-use bindings::Place;
+use bench::recordings::{Expected, at_a_limit, content, fault, maybe_damaged, recording, scattered, view};
+use bindings::{Answer, LIMITS, Place, Room, Used, View};
+use oracle::original::Formatter as _;
+use oracle::{Lists, Recording, Replacement};
+use std::io::Write as _;
 
 type Call = fn(&mut Numbers) -> Result<(), String>;
 
@@ -14,6 +18,23 @@ const CALLS: &[(&str, Call)] = &[
     ("truncate_end_pos", truncate_end_pos),
     ("truncate_start_pos", truncate_start_pos),
     ("zero_width_len", zero_width_len),
+    ("replay", replay),
+    ("write_truncated_start", |n| with_second(n, oracle::write_truncated_start, bindings::write_truncated_start, true)),
+    ("write_truncated_end", |n| with_second(n, oracle::write_truncated_end, bindings::write_truncated_end, true)),
+    ("write_padded_start", |n| with_second(n, |c, f, w| (oracle::write_padded_start(c, f, w), 0), bindings::write_padded_start, false)),
+    ("write_padded_end", |n| with_second(n, |c, f, w| (oracle::write_padded_end(c, f, w), 0), bindings::write_padded_end, false)),
+    ("write_padded_centered", |n| with_second(n, |c, f, w| (oracle::write_padded_centered(c, f, w), 0), bindings::write_padded_centered, false)),
+    ("write_indented", write_indented),
+    ("wrap_bytes", wrap_bytes),
+    ("write_wrapped", write_wrapped),
+    ("write_replaced", write_replaced),
+    ("elide_start", |n| elide(n, oracle::elide_start, bindings::elide_start)),
+    ("elide_end", |n| elide(n, oracle::elide_end, bindings::elide_end)),
+    ("complete_newline", complete_newline),
+    ("write", |n| adding(n, 0)),
+    ("push_label", |n| adding(n, 1)),
+    ("pop_label", |n| adding(n, 2)),
+    ("raw", |n| adding(n, 3)),
 ];
 
 fn same<A: PartialEq + Debug>(expected: A, got: A, input: &dyn Debug) -> Result<(), String> {
@@ -59,6 +80,249 @@ fn zero_width_len(numbers: &mut Numbers) -> Result<(), String> {
     same(oracle::count_start_zero_width_chars_bytes(&s), bindings::zero_width_len(&s), &s)
 }
 
+/// A content or a second recording in the library's form, its fault, and the recording that it is if it has none.
+fn input(numbers: &mut Numbers, most: u64) -> (Lists, u64, Recording) {
+    if numbers.within(0, 9999) == 0 {
+        return read(at_a_limit(numbers), numbers);
+    }
+    let made = recording(numbers, most);
+    read(scattered(&made, numbers), numbers)
+}
+
+fn read(mut lists: Lists, numbers: &mut Numbers) -> (Lists, u64, Recording) {
+    maybe_damaged(&mut lists, numbers);
+    let fault = fault(&lists);
+    let recording = if fault == 0 { Recording::from_lists(&lists.data, &lists.entries, &lists.text).unwrap() } else { Recording::default() };
+    (lists, fault, recording)
+}
+
+/// Lends buffers to the library's call and compares all that it leaves.
+fn lend(
+    numbers: &mut Numbers,
+    expected: Expected,
+    call: impl FnOnce(&mut Room, &mut [u32]) -> Answer,
+    input: &dyn Debug,
+) -> Result<(), String> {
+    let sizes = expected.room(numbers);
+    let (mut room, mut lines) = (Room::of(sizes.0, sizes.1, sizes.2), vec![0xA5A5_A5A5; sizes.3]);
+    let got = call(&mut room, &mut lines);
+    REFUSED.with(|n| n.set(n.get() + (got.refusal != 0) as u64));
+    expected.check(got, &room, &lines).map_err(|e| format!("{e} on {input:x?}, buffers of {sizes:?}"))
+}
+
+thread_local! {
+    /// How many calls were refused, rightly.
+    static REFUSED: std::cell::Cell<u64> = const { std::cell::Cell::new(0) };
+}
+
+fn replay(numbers: &mut Numbers) -> Result<(), String> {
+    let (lists, fault, content) = input(numbers, 8);
+    let result = oracle::replay(&content).to_lists();
+    let expected = Expected { faults: vec![fault], result, lines: vec![], number: 0 };
+    lend(numbers, expected, |room, _| bindings::replay(view(&lists), room), &lists)
+}
+
+/// A truncating or a padding call. `any`: also at the largest width.
+fn with_second(
+    numbers: &mut Numbers,
+    rust: fn(&Recording, &Recording, usize) -> (Recording, usize),
+    rattle: fn(View, View, u32, &mut Room) -> Answer,
+    any: bool,
+) -> Result<(), String> {
+    let (lists, fault, content) = input(numbers, 8);
+    let (second_lists, second_fault, second) = input(numbers, 4);
+    let width = match numbers.within(0, 3999) {
+        0..40 if any => u32::MAX as usize,
+        // Results about the limit of data.
+        0 if second.data.len() == 1 => LIMITS.0 - lists.data.len() + oracle::text_width(&lists.data) + numbers.within(0, 2) as usize - 1,
+        _ => numbers.within(0, oracle::text_width(&lists.data) as u64 + 6) as usize,
+    };
+    let (result, number) = if (fault, second_fault) == (0, 0) { rust(&content, &second, width) } else { Default::default() };
+    let expected = Expected { faults: vec![fault, second_fault], result: result.to_lists(), lines: vec![], number: number as u64 };
+    let call = |room: &mut Room, _: &mut [u32]| rattle(view(&lists), view(&second_lists), width as u32, room);
+    lend(numbers, expected, call, &(&lists, &second_lists, width))
+}
+
+fn write_indented(numbers: &mut Numbers) -> Result<(), String> {
+    let (mut lists, mut fault, mut content) = input(numbers, 8);
+    let (second_lists, second_fault, second) = input(numbers, 4);
+    if numbers.within(0, 2999) == 0 {
+        // Results about the limits of entries and text.
+        let lines = numbers.within(800, 5000) as usize;
+        content = Recording::plain(&b"a\n".repeat(lines));
+        (lists, fault) = (content.to_lists(), 0);
+    }
+    let result = if (fault, second_fault) == (0, 0) { oracle::write_indented(&content, &second) } else { Default::default() };
+    let expected = Expected { faults: vec![fault, second_fault], result: result.to_lists(), lines: vec![], number: 0 };
+    lend(numbers, expected, |room, _| bindings::write_indented(view(&lists), view(&second_lists), room), &(&lists, &second_lists))
+}
+
+fn numbers_of(lines: Vec<(usize, usize)>) -> Vec<u32> {
+    lines.into_iter().flat_map(|(start, end)| [start as u32, end as u32]).collect()
+}
+
+fn wrap_width(data: &[u8], numbers: &mut Numbers) -> usize {
+    match numbers.within(0, 39) {
+        0 => u32::MAX as usize,
+        1..20 => numbers.within(0, 6) as usize,
+        _ => numbers.within(0, oracle::text_width(data) as u64 + 2) as usize,
+    }
+}
+
+fn wrap_bytes(numbers: &mut Numbers) -> Result<(), String> {
+    let data = content(numbers);
+    let (width, break_words) = (wrap_width(&data, numbers), numbers.within(0, 1) == 0);
+    let lines = numbers_of(oracle::wrap_bytes(&data, width, break_words));
+    let number = lines.len() as u64 / 2;
+    let expected = Expected { faults: vec![], result: Lists::default(), lines, number };
+    lend(numbers, expected, |_, lines| bindings::wrap_bytes(&data, width as u32, break_words, lines), &(&data, width, break_words))
+}
+
+fn write_wrapped(numbers: &mut Numbers) -> Result<(), String> {
+    let (lists, fault, content) = input(numbers, 8);
+    let (width, break_words) = (wrap_width(&lists.data, numbers), numbers.within(0, 1) == 0);
+    let lines = numbers_of(oracle::wrap_bytes(&content.data, width, break_words));
+    let result = oracle::write_wrapped(&content, width, break_words).to_lists();
+    let number = lines.len() as u64 / 2;
+    let expected = Expected { faults: vec![fault], result, lines, number };
+    let call = |room: &mut Room, lines: &mut [u32]| bindings::write_wrapped(view(&lists), width as u32, break_words, room, lines);
+    lend(numbers, expected, call, &(&lists, width, break_words))
+}
+
+/// Document 01's refusal 8.
+fn records_fault(records: &[Replacement], data: usize, text: usize) -> u64 {
+    let mut at = 0;
+    for r in records {
+        if r.start > r.end || r.end as usize > data || r.start < at || r.from > r.to || r.to as usize > text {
+            return 8;
+        }
+        at = r.end;
+    }
+    0
+}
+
+fn write_replaced(numbers: &mut Numbers) -> Result<(), String> {
+    let (lists, fault, content) = input(numbers, 8);
+    let text = damaged(numbers);
+    let (count, mut at) = (numbers.within(0, 4), 0);
+    let mut records = vec![];
+    for _ in 0..count {
+        let start = numbers.within(at, lists.data.len() as u64);
+        let end = numbers.within(start, (start + 5).min(lists.data.len() as u64));
+        let from = numbers.within(0, text.len() as u64);
+        let to = numbers.within(from, text.len() as u64);
+        at = end;
+        records.push(Replacement { start: start as u32, end: end as u32, from: from as u32, to: to as u32 });
+    }
+    if count > 0 && numbers.within(0, 11) == 0 {
+        let r = &mut records[numbers.within(0, count - 1) as usize];
+        let n = numbers.within(0, lists.data.len() as u64 + 1) as u32;
+        match numbers.within(0, 4) {
+            0 => r.start = n,
+            1 => r.end = n,
+            2 => r.from = n,
+            3 => r.to = n,
+            _ => r.end = u32::MAX,
+        }
+    }
+    let due = records_fault(&records, lists.data.len(), text.len());
+    let result = if (fault, due) == (0, 0) { oracle::write_replaced(&content, &records, &text) } else { Default::default() };
+    let expected = Expected { faults: vec![fault, due], result: result.to_lists(), lines: vec![], number: 0 };
+    let flat: Vec<u32> = records.iter().flat_map(|r| [r.start, r.end, r.from, r.to]).collect();
+    lend(numbers, expected, |room, _| bindings::write_replaced(view(&lists), &flat, &text, room), &(&lists, &flat, &text))
+}
+
+/// A text that is well-formed, mostly.
+fn plain(numbers: &mut Numbers) -> Vec<u8> {
+    let made = if numbers.within(0, 1) == 0 { damaged(numbers) } else { content(numbers) };
+    if numbers.within(0, 9) == 0 { made } else { String::from_utf8_lossy(&made).into_owned().into_bytes() }
+}
+
+fn elide(
+    numbers: &mut Numbers,
+    rust: fn(&str, &str, usize) -> (String, usize),
+    rattle: fn(&[u8], &[u8], u32, &mut [u8]) -> Answer,
+) -> Result<(), String> {
+    let (text, ellipsis) = (plain(numbers), if numbers.within(0, 2) == 0 { b"..".to_vec() } else { plain(numbers) });
+    let width = match numbers.within(0, 39) {
+        0 => u32::MAX as usize,
+        _ => numbers.within(0, oracle::text_width(&text) as u64 + 3) as usize,
+    };
+    let (fault, (result, number)) = match (std::str::from_utf8(&text), std::str::from_utf8(&ellipsis)) {
+        (Ok(t), Ok(e)) => (0, rust(t, e, width)),
+        _ => (7, Default::default()),
+    };
+    let result = Lists { data: result.into_bytes(), ..Lists::default() };
+    let expected = Expected { faults: vec![fault], result, lines: vec![], number: number as u64 };
+    lend(numbers, expected, |room, _| rattle(&text, &ellipsis, width as u32, &mut room.data), &(&text, &ellipsis, width))
+}
+
+fn complete_newline(numbers: &mut Numbers) -> Result<(), String> {
+    let text = plain(numbers);
+    let (fault, result) = match std::str::from_utf8(&text) {
+        Ok(t) => (0, oracle::complete_newline(t)),
+        Err(_) => (7, String::new()),
+    };
+    let result = Lists { data: result.into_bytes(), ..Lists::default() };
+    let expected = Expected { faults: vec![fault], result, lines: vec![], number: 0 };
+    lend(numbers, expected, |room, _| bindings::complete_newline(&text, &mut room.data), &text)
+}
+
+/// The calls that add: 0 data, 1 a label, 2 a pop, 3 a raw sequence. What they leave must also be, read back, what the original has.
+fn adding(numbers: &mut Numbers, kind: u64) -> Result<(), String> {
+    let (lists, fault, content) = input(numbers, 8);
+    let added = damaged(numbers);
+    let added = if kind == 1 && numbers.within(0, 7) != 0 { String::from_utf8_lossy(&added).into_owned().into_bytes() } else { added };
+    let added_fault = match kind {
+        1 if std::str::from_utf8(&added).is_err() => 6,
+        3 if added.is_empty() => 3,
+        _ => 0,
+    };
+    let mut result = lists.clone();
+    let (at, start, len) = (lists.data.len() as u32, lists.text.len() as u32, added.len() as u32);
+    match kind {
+        0 => result.data.extend(&added),
+        1 => result.entries.extend([at, 0, start, len]),
+        2 => result.entries.extend([at, 1, 0, 0]),
+        _ => result.entries.extend([at, 2, start, len]),
+    }
+    if kind == 1 || kind == 3 {
+        result.text.extend(&added);
+    }
+    let expected = Expected { faults: vec![fault, added_fault], result, lines: vec![], number: 0 };
+    if (fault, added_fault) == (0, 0) {
+        let mut made = content.to_recorder();
+        match kind {
+            0 => made.write_all(&added).unwrap(),
+            1 => made.push_label(std::str::from_utf8(&added).unwrap()),
+            2 => made.pop_label(),
+            _ => made.raw().unwrap().write_all(&added).unwrap(),
+        }
+        let r = &expected.result;
+        same(Some(Recording::from_recorder(&made)), Recording::from_lists(&r.data, &r.entries, &r.text), &(&lists, &added))?;
+    }
+    let sizes = expected.room(numbers);
+    let sizes = (sizes.0.max(lists.data.len()), sizes.1.max(lists.entries.len()), sizes.2.max(lists.text.len()));
+    let used = Used { data: lists.data.len(), entries: lists.entries.len(), text: lists.text.len() };
+    let mut room = Room::of(sizes.0, sizes.1, sizes.2);
+    room.data[..used.data].copy_from_slice(&lists.data);
+    room.entries[..used.entries].copy_from_slice(&lists.entries);
+    room.text[..used.text].copy_from_slice(&lists.text);
+    let before = room.clone();
+    let got = match kind {
+        0 => bindings::write(&mut room, used, &added),
+        1 => bindings::push_label(&mut room, used, &added),
+        2 => bindings::pop_label(&mut room, used),
+        _ => bindings::raw(&mut room, used, &added),
+    };
+    REFUSED.with(|n| n.set(n.get() + (got.refusal != 0) as u64));
+    if got.refusal != 0 {
+        same((&before.data, &before.entries, &before.text), (&room.data, &room.entries, &room.text), &(&lists, &added))?;
+        return same(expected.answer((sizes.0, sizes.1, sizes.2, 0)), got, &(&lists, &added));
+    }
+    expected.check(got, &room, &[]).map_err(|e| format!("{e} on {lists:x?}, {added:x?}"))
+}
+
 fn main() -> ExitCode {
     let (mut seed, mut count, mut names) = (1, 200_000u64, vec![]);
     let mut words = std::env::args().skip(1);
@@ -77,13 +341,14 @@ fn main() -> ExitCode {
     }
     for (name, call) in CALLS.iter().filter(|(name, _)| names.is_empty() || names.iter().any(|n| n == name)) {
         let mut numbers = Numbers::new(seed);
+        REFUSED.with(|n| n.set(0));
         for case in 0..count {
             if let Err(difference) = call(&mut numbers) {
                 eprintln!("compare: {name}, case {case} of seed {seed}: {difference}");
                 return ExitCode::FAILURE;
             }
         }
-        println!("{name}: {count} cases agree");
+        println!("{name}: {count} cases agree, {} of them refused", REFUSED.with(|n| n.get()));
     }
     ExitCode::SUCCESS
 }

@@ -1,14 +1,46 @@
 // The library's calls for Rust and C: each under the name that the archive gives it, with the contract of the call behind it.
 // A slice passes as a pointer and its number of elements.
+// A call on recordings takes its content, then what else it reads, its numbers, and last the lent buffers; none may overlap another. `res` gets five numbers: the refusal or 0, the lengths of data, entry numbers and text that were left, and the call's number.
 use chars::LEADS;
 use chars::text_width;
 use chars::truncate_end_pos;
 use chars::truncate_start_pos;
 use chars::well_formed;
 use chars::zero_width_len;
+use elide::complete_newline;
+use elide::elide_end;
+use elide::elide_start;
+use formatter::pop_label;
+use formatter::push_label;
+use formatter::raw;
+use formatter::replay;
+use formatter::write;
+use indent::write_indented;
+use pad::write_padded_centered;
+use pad::write_padded_end;
+use pad::write_padded_start;
+use recording::Answer;
+use recording::Refusal;
+use replace::write_replaced_flat;
+use truncate::write_truncated_end;
+use truncate::write_truncated_start;
+use wrap::wrap_bytes;
+use wrapped::write_wrapped;
 ghost use mathlib.Core.Path.{_≡_};
+ghost use lib.ListN.{length};
 ghost use Rattle.chars.specs.Chars.{textWidth, wellFormed};
 ghost use Rattle.chars.specs.Cut.{truncateEndPos, truncateEndWidth, truncateStartPos, truncateStartWidth, zeroWidthLen};
+ghost use Rattle.recording.specs.Recording.{recording};
+ghost use Rattle.recording.specs.Refusals.{numberOf};
+ghost use Rattle.recording.specs.Outcome.{answerOf, returned, lentAfter};
+ghost use Rattle.formatter.specs.Formatter.{replayed, written, pushed, popped, rawAdded};
+ghost use Rattle.layout.specs.Layout.{truncateStart, truncateEnd, padStart, padEnd, padCentered, indent, wrap, replace, outcome};
+ghost use Rattle.layout.specs.Lent.{lentOf, callOn};
+ghost use Rattle.wrap.specs.WrapBytes.{lentLines, wrapBytesOutcome};
+ghost use Rattle.wrapped.specs.Plan.{lentLined, callLined};
+ghost use Rattle.replace.specs.Records.{recordsOf};
+ghost use Rattle.elide.specs.Elide.{lent, elideEndOutcome, elideStartOutcome, completeNewlineOutcome};
+ghost use Rattle.capi.specs.Five.{five};
 
 // The width of a text.
 #[no_mangle]
@@ -69,4 +101,481 @@ pub extern "C" fn ruszvedok_zero_width_len(s: &[u8]) -> usize
 {
     let t = LEADS;
     zero_width_len(&t, s)
+}
+
+// Document 01's number of a refusal.
+fn number_of(f: Refusal) -> u64
+    ensures { λ r. ⌜ r ≡ numberOf f ⌝ }
+{
+    match f {
+        Refusal::DataTooLong => 1,
+        Refusal::EntryNumbers => 2,
+        Refusal::EntryShape => 3,
+        Refusal::EntryPosition => 4,
+        Refusal::TextPart => 5,
+        Refusal::LabelIllFormed => 6,
+        Refusal::TextIllFormed => 7,
+        Refusal::ReplacementRange => 8,
+        Refusal::ResultOverLimit => 9,
+        Refusal::LengthOverBuffer => 10,
+        Refusal::DataBufferTooShort => 21,
+        Refusal::EntryBufferTooShort => 22,
+        Refusal::TextBufferTooShort => 23,
+        Refusal::LineListTooShort => 24,
+    }
+}
+
+// Stores an answer as its five numbers.
+fn store(a: Answer, res: &mut [u64; 5])
+    ensures { λ _. ⌜ now (res .exit) ≡ five (answerOf a) ⌝ }
+{
+    match a {
+        Answer::Refused(f) => {
+            *res = [number_of(f), 0, 0, 0, 0];
+        }
+        Answer::Done {
+            data: d,
+            entries: e,
+            text: t,
+            number: n,
+        } => {
+            *res = [0, d as u64, e as u64, t as u64, n];
+        }
+    }
+}
+
+// Copies a recording into three lent buffers; text that no entry uses is left out.
+#[no_mangle]
+pub extern "C" fn ruszvedok_replay(
+    content: &[u8],
+    entries: &[u32],
+    text: &[u8],
+    out_data: &mut [u8],
+    out_entries: &mut [u32],
+    out_text: &mut [u8],
+    res: &mut [u64; 5],
+)
+    ensures { λ _. ⌜ now (res .exit) ≡ five (returned (replayed (recording (now (content .entry)) (now (entries .entry)) (now (text .entry))) (lentOf (now («out_data» .entry)) (now («out_entries» .entry)) (now («out_text» .entry))))) ⌝ }
+    ensures { λ _. ⌜ lentOf (now («out_data» .exit)) (now («out_entries» .exit)) (now («out_text» .exit)) ≡ lentAfter (replayed (recording (now (content .entry)) (now (entries .entry)) (now (text .entry))) (lentOf (now («out_data» .entry)) (now («out_entries» .entry)) (now («out_text» .entry)))) (lentOf (now («out_data» .entry)) (now («out_entries» .entry)) (now («out_text» .entry))) ⌝ }
+{
+    let a = replay(content, entries, text, out_data, out_entries, out_text);
+    store(a, res);
+}
+
+// Cuts a content wider than max_width at its start and writes the ellipsis before it. The number is the width kept.
+#[no_mangle]
+pub extern "C" fn ruszvedok_write_truncated_start(
+    content: &[u8],
+    entries: &[u32],
+    text: &[u8],
+    ellipsis: &[u8],
+    ellipsis_entries: &[u32],
+    ellipsis_text: &[u8],
+    max_width: u32,
+    bytes: &mut [u8],
+    numbers: &mut [u32],
+    texts: &mut [u8],
+    res: &mut [u64; 5],
+)
+    ensures { λ _. ⌜ now (res .exit) ≡ five (returned (outcome (callOn (truncateStart «max_width» (recording (now (ellipsis .entry)) (now («ellipsis_entries» .entry)) (now («ellipsis_text» .entry)))) (now (bytes .entry)) (now (numbers .entry)) (now (texts .entry))) (recording (now (content .entry)) (now (entries .entry)) (now (text .entry))))) ⌝ }
+    ensures { λ _. ⌜ now (bytes .exit) ≡ lentAfter (outcome (callOn (truncateStart «max_width» (recording (now (ellipsis .entry)) (now («ellipsis_entries» .entry)) (now («ellipsis_text» .entry)))) (now (bytes .entry)) (now (numbers .entry)) (now (texts .entry))) (recording (now (content .entry)) (now (entries .entry)) (now (text .entry)))) (lentOf (now (bytes .entry)) (now (numbers .entry)) (now (texts .entry))) .dataBytes ⌝ }
+    ensures { λ _. ⌜ now (numbers .exit) ≡ lentAfter (outcome (callOn (truncateStart «max_width» (recording (now (ellipsis .entry)) (now («ellipsis_entries» .entry)) (now («ellipsis_text» .entry)))) (now (bytes .entry)) (now (numbers .entry)) (now (texts .entry))) (recording (now (content .entry)) (now (entries .entry)) (now (text .entry)))) (lentOf (now (bytes .entry)) (now (numbers .entry)) (now (texts .entry))) .entryNumbers ⌝ }
+    ensures { λ _. ⌜ now (texts .exit) ≡ lentAfter (outcome (callOn (truncateStart «max_width» (recording (now (ellipsis .entry)) (now («ellipsis_entries» .entry)) (now («ellipsis_text» .entry)))) (now (bytes .entry)) (now (numbers .entry)) (now (texts .entry))) (recording (now (content .entry)) (now (entries .entry)) (now (text .entry)))) (lentOf (now (bytes .entry)) (now (numbers .entry)) (now (texts .entry))) .text ⌝ }
+{
+    let a = write_truncated_start(
+        content,
+        entries,
+        text,
+        ellipsis,
+        ellipsis_entries,
+        ellipsis_text,
+        max_width,
+        bytes,
+        numbers,
+        texts,
+    );
+    store(a, res);
+}
+
+// Cuts a content wider than max_width at its end and writes the ellipsis after it. The number is the width kept.
+#[no_mangle]
+pub extern "C" fn ruszvedok_write_truncated_end(
+    content: &[u8],
+    entries: &[u32],
+    text: &[u8],
+    ellipsis: &[u8],
+    ellipsis_entries: &[u32],
+    ellipsis_text: &[u8],
+    max_width: u32,
+    bytes: &mut [u8],
+    numbers: &mut [u32],
+    texts: &mut [u8],
+    res: &mut [u64; 5],
+)
+    ensures { λ _. ⌜ now (res .exit) ≡ five (returned (outcome (callOn (truncateEnd «max_width» (recording (now (ellipsis .entry)) (now («ellipsis_entries» .entry)) (now («ellipsis_text» .entry)))) (now (bytes .entry)) (now (numbers .entry)) (now (texts .entry))) (recording (now (content .entry)) (now (entries .entry)) (now (text .entry))))) ⌝ }
+    ensures { λ _. ⌜ now (bytes .exit) ≡ lentAfter (outcome (callOn (truncateEnd «max_width» (recording (now (ellipsis .entry)) (now («ellipsis_entries» .entry)) (now («ellipsis_text» .entry)))) (now (bytes .entry)) (now (numbers .entry)) (now (texts .entry))) (recording (now (content .entry)) (now (entries .entry)) (now (text .entry)))) (lentOf (now (bytes .entry)) (now (numbers .entry)) (now (texts .entry))) .dataBytes ⌝ }
+    ensures { λ _. ⌜ now (numbers .exit) ≡ lentAfter (outcome (callOn (truncateEnd «max_width» (recording (now (ellipsis .entry)) (now («ellipsis_entries» .entry)) (now («ellipsis_text» .entry)))) (now (bytes .entry)) (now (numbers .entry)) (now (texts .entry))) (recording (now (content .entry)) (now (entries .entry)) (now (text .entry)))) (lentOf (now (bytes .entry)) (now (numbers .entry)) (now (texts .entry))) .entryNumbers ⌝ }
+    ensures { λ _. ⌜ now (texts .exit) ≡ lentAfter (outcome (callOn (truncateEnd «max_width» (recording (now (ellipsis .entry)) (now («ellipsis_entries» .entry)) (now («ellipsis_text» .entry)))) (now (bytes .entry)) (now (numbers .entry)) (now (texts .entry))) (recording (now (content .entry)) (now (entries .entry)) (now (text .entry)))) (lentOf (now (bytes .entry)) (now (numbers .entry)) (now (texts .entry))) .text ⌝ }
+{
+    let a = write_truncated_end(
+        content,
+        entries,
+        text,
+        ellipsis,
+        ellipsis_entries,
+        ellipsis_text,
+        max_width,
+        bytes,
+        numbers,
+        texts,
+    );
+    store(a, res);
+}
+
+// Writes the fill before a content that is narrower than min_width.
+#[no_mangle]
+pub extern "C" fn ruszvedok_write_padded_start(
+    content: &[u8],
+    entries: &[u32],
+    text: &[u8],
+    fill: &[u8],
+    fill_entries: &[u32],
+    fill_text: &[u8],
+    min_width: u32,
+    bytes: &mut [u8],
+    numbers: &mut [u32],
+    texts: &mut [u8],
+    res: &mut [u64; 5],
+)
+    ensures { λ _. ⌜ now (res .exit) ≡ five (returned (outcome (callOn (padStart «min_width» (recording (now (fill .entry)) (now («fill_entries» .entry)) (now («fill_text» .entry)))) (now (bytes .entry)) (now (numbers .entry)) (now (texts .entry))) (recording (now (content .entry)) (now (entries .entry)) (now (text .entry))))) ⌝ }
+    ensures { λ _. ⌜ now (bytes .exit) ≡ lentAfter (outcome (callOn (padStart «min_width» (recording (now (fill .entry)) (now («fill_entries» .entry)) (now («fill_text» .entry)))) (now (bytes .entry)) (now (numbers .entry)) (now (texts .entry))) (recording (now (content .entry)) (now (entries .entry)) (now (text .entry)))) (lentOf (now (bytes .entry)) (now (numbers .entry)) (now (texts .entry))) .dataBytes ⌝ }
+    ensures { λ _. ⌜ now (numbers .exit) ≡ lentAfter (outcome (callOn (padStart «min_width» (recording (now (fill .entry)) (now («fill_entries» .entry)) (now («fill_text» .entry)))) (now (bytes .entry)) (now (numbers .entry)) (now (texts .entry))) (recording (now (content .entry)) (now (entries .entry)) (now (text .entry)))) (lentOf (now (bytes .entry)) (now (numbers .entry)) (now (texts .entry))) .entryNumbers ⌝ }
+    ensures { λ _. ⌜ now (texts .exit) ≡ lentAfter (outcome (callOn (padStart «min_width» (recording (now (fill .entry)) (now («fill_entries» .entry)) (now («fill_text» .entry)))) (now (bytes .entry)) (now (numbers .entry)) (now (texts .entry))) (recording (now (content .entry)) (now (entries .entry)) (now (text .entry)))) (lentOf (now (bytes .entry)) (now (numbers .entry)) (now (texts .entry))) .text ⌝ }
+{
+    let a = write_padded_start(
+        content,
+        entries,
+        text,
+        fill,
+        fill_entries,
+        fill_text,
+        min_width,
+        bytes,
+        numbers,
+        texts,
+    );
+    store(a, res);
+}
+
+// Writes the fill behind a content that is narrower than min_width.
+#[no_mangle]
+pub extern "C" fn ruszvedok_write_padded_end(
+    content: &[u8],
+    entries: &[u32],
+    text: &[u8],
+    fill: &[u8],
+    fill_entries: &[u32],
+    fill_text: &[u8],
+    min_width: u32,
+    bytes: &mut [u8],
+    numbers: &mut [u32],
+    texts: &mut [u8],
+    res: &mut [u64; 5],
+)
+    ensures { λ _. ⌜ now (res .exit) ≡ five (returned (outcome (callOn (padEnd «min_width» (recording (now (fill .entry)) (now («fill_entries» .entry)) (now («fill_text» .entry)))) (now (bytes .entry)) (now (numbers .entry)) (now (texts .entry))) (recording (now (content .entry)) (now (entries .entry)) (now (text .entry))))) ⌝ }
+    ensures { λ _. ⌜ now (bytes .exit) ≡ lentAfter (outcome (callOn (padEnd «min_width» (recording (now (fill .entry)) (now («fill_entries» .entry)) (now («fill_text» .entry)))) (now (bytes .entry)) (now (numbers .entry)) (now (texts .entry))) (recording (now (content .entry)) (now (entries .entry)) (now (text .entry)))) (lentOf (now (bytes .entry)) (now (numbers .entry)) (now (texts .entry))) .dataBytes ⌝ }
+    ensures { λ _. ⌜ now (numbers .exit) ≡ lentAfter (outcome (callOn (padEnd «min_width» (recording (now (fill .entry)) (now («fill_entries» .entry)) (now («fill_text» .entry)))) (now (bytes .entry)) (now (numbers .entry)) (now (texts .entry))) (recording (now (content .entry)) (now (entries .entry)) (now (text .entry)))) (lentOf (now (bytes .entry)) (now (numbers .entry)) (now (texts .entry))) .entryNumbers ⌝ }
+    ensures { λ _. ⌜ now (texts .exit) ≡ lentAfter (outcome (callOn (padEnd «min_width» (recording (now (fill .entry)) (now («fill_entries» .entry)) (now («fill_text» .entry)))) (now (bytes .entry)) (now (numbers .entry)) (now (texts .entry))) (recording (now (content .entry)) (now (entries .entry)) (now (text .entry)))) (lentOf (now (bytes .entry)) (now (numbers .entry)) (now (texts .entry))) .text ⌝ }
+{
+    let a = write_padded_end(
+        content,
+        entries,
+        text,
+        fill,
+        fill_entries,
+        fill_text,
+        min_width,
+        bytes,
+        numbers,
+        texts,
+    );
+    store(a, res);
+}
+
+// Writes half of the fill, rounded down, before a content that is narrower than min_width and the rest behind it.
+#[no_mangle]
+pub extern "C" fn ruszvedok_write_padded_centered(
+    content: &[u8],
+    entries: &[u32],
+    text: &[u8],
+    fill: &[u8],
+    fill_entries: &[u32],
+    fill_text: &[u8],
+    min_width: u32,
+    bytes: &mut [u8],
+    numbers: &mut [u32],
+    texts: &mut [u8],
+    res: &mut [u64; 5],
+)
+    ensures { λ _. ⌜ now (res .exit) ≡ five (returned (outcome (callOn (padCentered «min_width» (recording (now (fill .entry)) (now («fill_entries» .entry)) (now («fill_text» .entry)))) (now (bytes .entry)) (now (numbers .entry)) (now (texts .entry))) (recording (now (content .entry)) (now (entries .entry)) (now (text .entry))))) ⌝ }
+    ensures { λ _. ⌜ now (bytes .exit) ≡ lentAfter (outcome (callOn (padCentered «min_width» (recording (now (fill .entry)) (now («fill_entries» .entry)) (now («fill_text» .entry)))) (now (bytes .entry)) (now (numbers .entry)) (now (texts .entry))) (recording (now (content .entry)) (now (entries .entry)) (now (text .entry)))) (lentOf (now (bytes .entry)) (now (numbers .entry)) (now (texts .entry))) .dataBytes ⌝ }
+    ensures { λ _. ⌜ now (numbers .exit) ≡ lentAfter (outcome (callOn (padCentered «min_width» (recording (now (fill .entry)) (now («fill_entries» .entry)) (now («fill_text» .entry)))) (now (bytes .entry)) (now (numbers .entry)) (now (texts .entry))) (recording (now (content .entry)) (now (entries .entry)) (now (text .entry)))) (lentOf (now (bytes .entry)) (now (numbers .entry)) (now (texts .entry))) .entryNumbers ⌝ }
+    ensures { λ _. ⌜ now (texts .exit) ≡ lentAfter (outcome (callOn (padCentered «min_width» (recording (now (fill .entry)) (now («fill_entries» .entry)) (now («fill_text» .entry)))) (now (bytes .entry)) (now (numbers .entry)) (now (texts .entry))) (recording (now (content .entry)) (now (entries .entry)) (now (text .entry)))) (lentOf (now (bytes .entry)) (now (numbers .entry)) (now (texts .entry))) .text ⌝ }
+{
+    let a = write_padded_centered(
+        content,
+        entries,
+        text,
+        fill,
+        fill_entries,
+        fill_text,
+        min_width,
+        bytes,
+        numbers,
+        texts,
+    );
+    store(a, res);
+}
+
+// Writes the prefix before every line that is not empty.
+#[no_mangle]
+pub extern "C" fn ruszvedok_write_indented(
+    content: &[u8],
+    entries: &[u32],
+    text: &[u8],
+    prefix: &[u8],
+    prefix_entries: &[u32],
+    prefix_text: &[u8],
+    bytes: &mut [u8],
+    numbers: &mut [u32],
+    texts: &mut [u8],
+    res: &mut [u64; 5],
+)
+    ensures { λ _. ⌜ now (res .exit) ≡ five (returned (outcome (callOn (indent (recording (now (prefix .entry)) (now («prefix_entries» .entry)) (now («prefix_text» .entry)))) (now (bytes .entry)) (now (numbers .entry)) (now (texts .entry))) (recording (now (content .entry)) (now (entries .entry)) (now (text .entry))))) ⌝ }
+    ensures { λ _. ⌜ now (bytes .exit) ≡ lentAfter (outcome (callOn (indent (recording (now (prefix .entry)) (now («prefix_entries» .entry)) (now («prefix_text» .entry)))) (now (bytes .entry)) (now (numbers .entry)) (now (texts .entry))) (recording (now (content .entry)) (now (entries .entry)) (now (text .entry)))) (lentOf (now (bytes .entry)) (now (numbers .entry)) (now (texts .entry))) .dataBytes ⌝ }
+    ensures { λ _. ⌜ now (numbers .exit) ≡ lentAfter (outcome (callOn (indent (recording (now (prefix .entry)) (now («prefix_entries» .entry)) (now («prefix_text» .entry)))) (now (bytes .entry)) (now (numbers .entry)) (now (texts .entry))) (recording (now (content .entry)) (now (entries .entry)) (now (text .entry)))) (lentOf (now (bytes .entry)) (now (numbers .entry)) (now (texts .entry))) .entryNumbers ⌝ }
+    ensures { λ _. ⌜ now (texts .exit) ≡ lentAfter (outcome (callOn (indent (recording (now (prefix .entry)) (now («prefix_entries» .entry)) (now («prefix_text» .entry)))) (now (bytes .entry)) (now (numbers .entry)) (now (texts .entry))) (recording (now (content .entry)) (now (entries .entry)) (now (text .entry)))) (lentOf (now (bytes .entry)) (now (numbers .entry)) (now (texts .entry))) .text ⌝ }
+{
+    let a = write_indented(
+        content,
+        entries,
+        text,
+        prefix,
+        prefix_entries,
+        prefix_text,
+        bytes,
+        numbers,
+        texts,
+    );
+    store(a, res);
+}
+
+// The lines of a text broken at the width, two numbers each: first byte and end. The number is how many.
+#[no_mangle]
+pub extern "C" fn ruszvedok_wrap_bytes(
+    data: &[u8],
+    width: u32,
+    break_words: bool,
+    lines: &mut [u32],
+    res: &mut [u64; 5],
+)
+    ensures { λ _. ⌜ now (res .exit) ≡ five (returned (wrapBytesOutcome width «break_words» (now («data» .entry)) (length (now (lines .entry))))) ⌝ }
+    ensures { λ _. ⌜ now (lines .exit) ≡ lentAfter (wrapBytesOutcome width «break_words» (now («data» .entry)) (length (now (lines .entry)))) (lentLines (now (lines .entry))) .lines ⌝ }
+{
+    let a = wrap_bytes(data, width, break_words, lines);
+    store(a, res);
+}
+
+// Writes a recording broken at the width. The number is how many lines.
+#[no_mangle]
+pub extern "C" fn ruszvedok_write_wrapped(
+    content: &[u8],
+    entries: &[u32],
+    text: &[u8],
+    width: u32,
+    break_words: bool,
+    bytes: &mut [u8],
+    numbers: &mut [u32],
+    texts: &mut [u8],
+    lines: &mut [u32],
+    res: &mut [u64; 5],
+)
+    ensures { λ _. ⌜ now (res .exit) ≡ five (returned (outcome (callLined (wrap width «break_words») (now (bytes .entry)) (now (numbers .entry)) (now (texts .entry)) (now (lines .entry))) (recording (now (content .entry)) (now (entries .entry)) (now (text .entry))))) ⌝ }
+    ensures { λ _. ⌜ lentLined (now (bytes .exit)) (now (numbers .exit)) (now (texts .exit)) (now (lines .exit)) ≡ lentAfter (outcome (callLined (wrap width «break_words») (now (bytes .entry)) (now (numbers .entry)) (now (texts .entry)) (now (lines .entry))) (recording (now (content .entry)) (now (entries .entry)) (now (text .entry)))) (lentLined (now (bytes .entry)) (now (numbers .entry)) (now (texts .entry)) (now (lines .entry))) ⌝ }
+{
+    let a = write_wrapped(
+        content,
+        entries,
+        text,
+        width,
+        break_words,
+        bytes,
+        numbers,
+        texts,
+        lines,
+    );
+    store(a, res);
+}
+
+// Writes the content with each record's stretch gone and its part of the replacement text in its stead; a record is four numbers.
+#[no_mangle]
+pub extern "C" fn ruszvedok_write_replaced(
+    content: &[u8],
+    entries: &[u32],
+    text: &[u8],
+    records: &[u32],
+    new: &[u8],
+    bytes: &mut [u8],
+    numbers: &mut [u32],
+    texts: &mut [u8],
+    res: &mut [u64; 5],
+)
+    ensures { λ _. ⌜ now (res .exit) ≡ five (returned (outcome (callOn (replace (recordsOf (now (records .entry))) (now (new .entry))) (now (bytes .entry)) (now (numbers .entry)) (now (texts .entry))) (recording (now (content .entry)) (now (entries .entry)) (now (text .entry))))) ⌝ }
+    ensures { λ _. ⌜ now (bytes .exit) ≡ lentAfter (outcome (callOn (replace (recordsOf (now (records .entry))) (now (new .entry))) (now (bytes .entry)) (now (numbers .entry)) (now (texts .entry))) (recording (now (content .entry)) (now (entries .entry)) (now (text .entry)))) (lentOf (now (bytes .entry)) (now (numbers .entry)) (now (texts .entry))) .dataBytes ⌝ }
+    ensures { λ _. ⌜ now (numbers .exit) ≡ lentAfter (outcome (callOn (replace (recordsOf (now (records .entry))) (now (new .entry))) (now (bytes .entry)) (now (numbers .entry)) (now (texts .entry))) (recording (now (content .entry)) (now (entries .entry)) (now (text .entry)))) (lentOf (now (bytes .entry)) (now (numbers .entry)) (now (texts .entry))) .entryNumbers ⌝ }
+    ensures { λ _. ⌜ now (texts .exit) ≡ lentAfter (outcome (callOn (replace (recordsOf (now (records .entry))) (now (new .entry))) (now (bytes .entry)) (now (numbers .entry)) (now (texts .entry))) (recording (now (content .entry)) (now (entries .entry)) (now (text .entry)))) (lentOf (now (bytes .entry)) (now (numbers .entry)) (now (texts .entry))) .text ⌝ }
+{
+    let a = write_replaced_flat(content, entries, text, records, new, bytes, numbers, texts);
+    store(a, res);
+}
+
+// The text, shortened at its start to max_width with the ellipsis. The number is its width.
+#[no_mangle]
+pub extern "C" fn ruszvedok_elide_start(
+    text: &[u8],
+    ellipsis: &[u8],
+    max_width: u32,
+    out: &mut [u8],
+    res: &mut [u64; 5],
+)
+    ensures { λ _. ⌜ now (res .exit) ≡ five (returned (elideStartOutcome (length (now (out .entry))) (now (text .entry)) (now (ellipsis .entry)) «max_width»)) ⌝ }
+    ensures { λ _. ⌜ now (out .exit) ≡ lentAfter (elideStartOutcome (length (now (out .entry))) (now (text .entry)) (now (ellipsis .entry)) «max_width») (lent (now (out .entry))) .dataBytes ⌝ }
+{
+    let a = elide_start(text, ellipsis, max_width, out);
+    store(a, res);
+}
+
+// The text, shortened at its end to max_width with the ellipsis. The number is its width.
+#[no_mangle]
+pub extern "C" fn ruszvedok_elide_end(
+    text: &[u8],
+    ellipsis: &[u8],
+    max_width: u32,
+    out: &mut [u8],
+    res: &mut [u64; 5],
+)
+    ensures { λ _. ⌜ now (res .exit) ≡ five (returned (elideEndOutcome (length (now (out .entry))) (now (text .entry)) (now (ellipsis .entry)) «max_width»)) ⌝ }
+    ensures { λ _. ⌜ now (out .exit) ≡ lentAfter (elideEndOutcome (length (now (out .entry))) (now (text .entry)) (now (ellipsis .entry)) «max_width») (lent (now (out .entry))) .dataBytes ⌝ }
+{
+    let a = elide_end(text, ellipsis, max_width, out);
+    store(a, res);
+}
+
+// The text with 0A at its end, which is added unless the text is empty or ends in it.
+#[no_mangle]
+pub extern "C" fn ruszvedok_complete_newline(text: &[u8], out: &mut [u8], res: &mut [u64; 5])
+    ensures { λ _. ⌜ now (res .exit) ≡ five (returned (completeNewlineOutcome (length (now (out .entry))) (now (text .entry)))) ⌝ }
+    ensures { λ _. ⌜ now (out .exit) ≡ lentAfter (completeNewlineOutcome (length (now (out .entry))) (now (text .entry))) (lent (now (out .entry))) .dataBytes ⌝ }
+{
+    let a = complete_newline(text, out);
+    store(a, res);
+}
+
+// Appends bytes to the data of a recording, of whose buffers the lengths are used.
+#[no_mangle]
+pub extern "C" fn ruszvedok_write(
+    content: &mut [u8],
+    content_len: usize,
+    entries: &[u32],
+    entries_len: usize,
+    text: &[u8],
+    text_len: usize,
+    added: &[u8],
+    res: &mut [u64; 5],
+)
+    ensures { λ _. ⌜ now (res .exit) ≡ five (returned (written (now (added .entry)) (lentOf (now (content .entry)) (now (entries .entry)) (now (text .entry))) «content_len» «entries_len» «text_len»)) ⌝ }
+    ensures { λ _. ⌜ lentOf (now (content .exit)) (now (entries .entry)) (now (text .entry)) ≡ lentAfter (written (now (added .entry)) (lentOf (now (content .entry)) (now (entries .entry)) (now (text .entry))) «content_len» «entries_len» «text_len») (lentOf (now (content .entry)) (now (entries .entry)) (now (text .entry))) ⌝ }
+{
+    let a = write(
+        content,
+        content_len,
+        entries,
+        entries_len,
+        text,
+        text_len,
+        added,
+    );
+    store(a, res);
+}
+
+// Pushes a label, at the current end.
+#[no_mangle]
+pub extern "C" fn ruszvedok_push_label(
+    content: &[u8],
+    content_len: usize,
+    entries: &mut [u32],
+    entries_len: usize,
+    text: &mut [u8],
+    text_len: usize,
+    label: &[u8],
+    res: &mut [u64; 5],
+)
+    ensures { λ _. ⌜ now (res .exit) ≡ five (returned (pushed (now (label .entry)) (lentOf (now (content .entry)) (now (entries .entry)) (now (text .entry))) «content_len» «entries_len» «text_len»)) ⌝ }
+    ensures { λ _. ⌜ lentOf (now (content .entry)) (now (entries .exit)) (now (text .exit)) ≡ lentAfter (pushed (now (label .entry)) (lentOf (now (content .entry)) (now (entries .entry)) (now (text .entry))) «content_len» «entries_len» «text_len») (lentOf (now (content .entry)) (now (entries .entry)) (now (text .entry))) ⌝ }
+{
+    let a = push_label(
+        content,
+        content_len,
+        entries,
+        entries_len,
+        text,
+        text_len,
+        label,
+    );
+    store(a, res);
+}
+
+// A pop of the last label, at the current end.
+#[no_mangle]
+pub extern "C" fn ruszvedok_pop_label(
+    content: &[u8],
+    content_len: usize,
+    entries: &mut [u32],
+    entries_len: usize,
+    text: &[u8],
+    text_len: usize,
+    res: &mut [u64; 5],
+)
+    ensures { λ _. ⌜ now (res .exit) ≡ five (returned (popped (lentOf (now (content .entry)) (now (entries .entry)) (now (text .entry))) «content_len» «entries_len» «text_len»)) ⌝ }
+    ensures { λ _. ⌜ lentOf (now (content .entry)) (now (entries .exit)) (now (text .entry)) ≡ lentAfter (popped (lentOf (now (content .entry)) (now (entries .entry)) (now (text .entry))) «content_len» «entries_len» «text_len») (lentOf (now (content .entry)) (now (entries .entry)) (now (text .entry))) ⌝ }
+{
+    let a = pop_label(content, content_len, entries, entries_len, text, text_len);
+    store(a, res);
+}
+
+// Appends a raw sequence as one entry at the current end.
+#[no_mangle]
+pub extern "C" fn ruszvedok_raw(
+    content: &[u8],
+    content_len: usize,
+    entries: &mut [u32],
+    entries_len: usize,
+    text: &mut [u8],
+    text_len: usize,
+    sequence: &[u8],
+    res: &mut [u64; 5],
+)
+    ensures { λ _. ⌜ now (res .exit) ≡ five (returned (rawAdded (now (sequence .entry)) (lentOf (now (content .entry)) (now (entries .entry)) (now (text .entry))) «content_len» «entries_len» «text_len»)) ⌝ }
+    ensures { λ _. ⌜ lentOf (now (content .entry)) (now (entries .exit)) (now (text .exit)) ≡ lentAfter (rawAdded (now (sequence .entry)) (lentOf (now (content .entry)) (now (entries .entry)) (now (text .entry))) «content_len» «entries_len» «text_len») (lentOf (now (content .entry)) (now (entries .entry)) (now (text .entry))) ⌝ }
+{
+    let a = raw(
+        content,
+        content_len,
+        entries,
+        entries_len,
+        text,
+        text_len,
+        sequence,
+    );
+    store(a, res);
 }
