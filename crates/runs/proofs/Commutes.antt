@@ -1,17 +1,13 @@
 -- Demand 3 over what ran: any recording that is `run` of the calls, as `run_calls` promises of what it leaves, commutes.
 -- The idea: `run` is made of the `outcome` that stands in the contracts of all eight calls, so the theorem `demand3` is about them and nothing is left but to put q in its place.
-use Prim.Native.Nat.{ℕ}
-use mathlib.Core.Bool.{Bool, true}
 use mathlib.Core.Path.{_≡_, refl, sym, ap, _∙_}
 use mathlib.Core.List.{List, [], _∷_, _++_}
-use Rattle.recording.specs.Coloured.{Coloured, coloured, balanced}
-use Rattle.recording.specs.Outcome.{Room}
-use Rattle.recording.specs.Recording.{Bytes, Recording, strip}
-use Rattle.layout.specs.Layout.{Call, refusal, after, run}
-use Rattle.layout.specs.Plain.{steps, told}
-use Rattle.layout.specs.Theorem.{Proper, AllRefused, wrapCall, Demand3}
+use Rattle.recording.specs.Coloured.{coloured}
+use Rattle.recording.specs.Recording.{Recording, strip}
+use Rattle.layout.specs.Layout.{Call, after, run}
+use Rattle.layout.specs.Theorem.{wrapCall, Demand3}
 use Rattle.layout.proofs.Demand3.{demand3}
-use Rattle.runs.specs.Commute.{Commuted, Commutes}
+use Rattle.runs.specs.Commute.{Commutes}
 
 run-last : (xs ys : List Call) (c w : Call) (r : Recording) → run (xs ++ (c ∷ ys ++ (w ∷ []))) r ≡ after w (run (xs ++ (c ∷ ys)) r)
 run-last [] [] c w r = refl

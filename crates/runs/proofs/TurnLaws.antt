@@ -14,7 +14,6 @@ use Rattle.buffer.proofs.Laws.{take-over}
 use Rattle.recording.specs.declared.Answer.{Answer}
 use Rattle.recording.specs.declared.Answer.the-variants.{Refused, Done}
 use Rattle.recording.specs.Recording.{Recording, recording}
-use Rattle.recording.specs.Refusals.{numberOf}
 use Rattle.recording.specs.Outcome.{Room, Result, Faults, Outcome, refused, done, refusalOf, settle, Lent, lentAfter, Returned, returned, answerOf}
 use Rattle.recording.proofs.OutcomeLaws.{number-pos}
 use Rattle.layout.specs.Layout.{Job, Call, contentAfter, faultsOf, resultOf, outcome, after}

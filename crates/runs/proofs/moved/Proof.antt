@@ -1,4 +1,4 @@
-use native.Mathlib.Omega.{arith}
+-- Where the content stands after each of the two answers.
 use borrow.Author.Needs.{needs}
 use Rattle.runs.specs.Runs.{moved}
 use Rattle.runs.proofs.moved.Statement.{statement}
