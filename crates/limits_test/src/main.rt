@@ -2,6 +2,8 @@
 // The large buffers come from functions and go on as slices, since the prover does not write out an array of that length.
 use formatter::replay;
 use formatter::write;
+use indent::write_indented;
+use pad::write_padded_start;
 use recording::Answer;
 use recording::Refusal;
 use wrap::wrap_bytes;
@@ -75,10 +77,40 @@ fn wrapped(name: &[u8], content: &[u8]) {
     answer(name, a);
 }
 
+// Padding by the largest count: no loop over what will not be written.
+fn padded(name: &[u8], fill: &[u8]) {
+    let mut data = [0; 1];
+    let mut entries = [0; 4];
+    let mut text = [0; 1];
+    let a = write_padded_start(
+        b"",
+        &[],
+        b"",
+        fill,
+        &[],
+        b"",
+        4294967295,
+        &mut data,
+        &mut entries,
+        &mut text,
+    );
+    answer(name, a);
+}
+
+// A text indented by itself.
+fn indented(name: &[u8], s: &[u8]) {
+    let mut data = [0; 1];
+    let mut entries = [0; 4];
+    let mut text = [0; 1];
+    let a = write_indented(s, &[], b"", s, &[], b"", &mut data, &mut entries, &mut text);
+    answer(name, a);
+}
+
 fn past() {
     let mut big = over_limit();
     replayed(b"replay, one past the limit", &big);
     wrapped(b"wrap, one past the limit", &big);
+    padded(b"pad, a fill one past the limit", &big);
     added(b"write, up to the limit", &mut big, 1048575, b"x");
     added(b"write, one past the limit", &mut big, 1048576, b"x");
     added(b"write nothing at the limit", &mut big, 1048576, b"");
@@ -90,6 +122,8 @@ fn exact() {
     let mut most = at_limit();
     replayed(b"replay, at the limit", &most);
     wrapped(b"wrap, at the limit", &most);
+    padded(b"pad, a fill at the limit and the largest count", &most);
+    indented(b"indent, content and prefix at the limit", &most);
     added(
         b"write, no room before the limit is passed",
         &mut most,
