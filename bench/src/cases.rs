@@ -268,10 +268,17 @@ fn write_replaced(input: &Input) -> Result<Pair, String> {
     )
 }
 
-/// Well-formed texts, with half of their width.
+/// Well-formed texts of the size, with half of their width.
 fn plain(input: &Input) -> Vec<(String, usize)> {
-    let shorter = |s: &[u8]| String::from_utf8_lossy(&s[..s.len().min(300_000)]).into_owned();
-    input.texts.iter().map(|s| shorter(s)).map(|s| (original::text_width(s.as_bytes()) / 2, s)).map(|(n, s)| (s, n)).collect()
+    let made = |bytes: &Vec<u8>| {
+        let mut s = String::from_utf8_lossy(bytes).into_owned();
+        while s.len() > input.size {
+            s.pop();
+        }
+        let width = original::text_width(s.as_bytes());
+        (s, width / 2)
+    };
+    input.texts.iter().map(made).collect()
 }
 
 fn texts(

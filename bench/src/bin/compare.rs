@@ -137,8 +137,13 @@ fn with_second(
         0 if second.data.len() == 1 => LIMITS.0 - lists.data.len() + oracle::text_width(&lists.data) + numbers.within(0, 2) as usize - 1,
         _ => numbers.within(0, oracle::text_width(&lists.data) as u64 + 6) as usize,
     };
-    let (result, number) = if (fault, second_fault) == (0, 0) { rust(&content, &second, width) } else { Default::default() };
-    let expected = Expected { faults: vec![fault, second_fault], result: result.to_lists(), lines: vec![], number: number as u64 };
+    // Padding to the largest width passes the limit, or writes an empty fill four thousand million times, which is as twice.
+    let huge = !any && numbers.within(0, 399) == 0;
+    let rust_width = if huge { oracle::text_width(&lists.data) + 2 } else { width };
+    let width = if huge { u32::MAX as usize } else { width };
+    let over = if huge && !second.data.is_empty() { 9 } else { 0 };
+    let (result, number) = if (fault, second_fault) == (0, 0) { rust(&content, &second, rust_width) } else { Default::default() };
+    let expected = Expected { faults: vec![fault, second_fault, over], result: result.to_lists(), lines: vec![], number: number as u64 };
     let call = |room: &mut Room, _: &mut [u32]| rattle(view(&lists), view(&second_lists), width as u32, room);
     lend(numbers, expected, call, &(&lists, &second_lists, width))
 }
