@@ -305,7 +305,7 @@ fn plain(name: &[u8], content: &[u8], ellipsis: &[u8]) {
 }
 
 // Document 01: C9 and C11 are the lines `end 4` and `end 1`, C10 is `start 4`.
-fn gauge() {
+fn document_cases() {
     plain(b"spruce", b"spruce", b"..");
 }
 
@@ -516,7 +516,7 @@ fn limits() {
 }
 
 fn main() {
-    gauge();
+    document_cases();
     ellipses();
     zero_widths();
     ill_formed();

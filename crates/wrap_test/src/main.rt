@@ -90,7 +90,7 @@ fn wrap(name: &[u8], data: &[u8], width: u32, break_words: bool, room: usize)
     wrap_into(name, data, width, break_words, room, &mut lines);
 }
 
-fn gauge() {
+fn document_cases() {
     wrap(b"C1", b"oak 12 ft b", 5, false, 10);
     wrap(b"C2", b"", 5, false, 10);
     wrap(b"C3", b"ab\n", 5, false, 10);
@@ -427,7 +427,7 @@ fn refusals() {
 }
 
 fn main() {
-    gauge();
+    document_cases();
     words();
     heads();
     newlines();
