@@ -357,6 +357,22 @@ fn labels() {
     record(b"newlines stay", b"a\n\nb", &[], b"", 2, 8, 12, 4, 6);
 }
 
+// One raw sequence at the offset p of a text whose white space goes.
+fn entry_at(p: u32) {
+    let entries = [p, 2, 0, 1];
+    record(b"an entry at", b"ab  cd", &entries, b"x", 2, 8, 12, 4, 6);
+}
+
+fn offsets() {
+    entry_at(0);
+    entry_at(1);
+    entry_at(2);
+    entry_at(3);
+    entry_at(4);
+    entry_at(5);
+    entry_at(6);
+}
+
 fn refusals() {
     record(
         b"all exactly full",
@@ -433,5 +449,6 @@ fn main() {
     newlines();
     lists();
     labels();
+    offsets();
     refusals();
 }
