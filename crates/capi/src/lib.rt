@@ -20,7 +20,7 @@ use pad::write_padded_centered;
 use pad::write_padded_end;
 use pad::write_padded_start;
 use recording::Answer;
-use recording::Refusal;
+use recording::number_of;
 use replace::write_replaced_flat;
 use truncate::write_truncated_end;
 use truncate::write_truncated_start;
@@ -31,7 +31,6 @@ ghost use lib.ListN.{length};
 ghost use Rattle.chars.specs.Chars.{textWidth, wellFormed};
 ghost use Rattle.chars.specs.Cut.{truncateEndPos, truncateEndWidth, truncateStartPos, truncateStartWidth, zeroWidthLen};
 ghost use Rattle.recording.specs.Recording.{recording};
-ghost use Rattle.recording.specs.Refusals.{numberOf};
 ghost use Rattle.recording.specs.Outcome.{answerOf, returned, lentAfter};
 ghost use Rattle.formatter.specs.Formatter.{replayed, written, pushed, popped, rawAdded};
 ghost use Rattle.layout.specs.Layout.{truncateStart, truncateEnd, padStart, padEnd, padCentered, indent, wrap, replace, outcome};
@@ -101,28 +100,6 @@ pub extern "C" fn ruszvedok_zero_width_len(s: &[u8]) -> usize
 {
     let t = LEADS;
     zero_width_len(&t, s)
-}
-
-// Document 01's number of a refusal.
-fn number_of(f: Refusal) -> u64
-    ensures { λ r. ⌜ r ≡ numberOf f ⌝ }
-{
-    match f {
-        Refusal::DataTooLong => 1,
-        Refusal::EntryNumbers => 2,
-        Refusal::EntryShape => 3,
-        Refusal::EntryPosition => 4,
-        Refusal::TextPart => 5,
-        Refusal::LabelIllFormed => 6,
-        Refusal::TextIllFormed => 7,
-        Refusal::ReplacementRange => 8,
-        Refusal::ResultOverLimit => 9,
-        Refusal::LengthOverBuffer => 10,
-        Refusal::DataBufferTooShort => 21,
-        Refusal::EntryBufferTooShort => 22,
-        Refusal::TextBufferTooShort => 23,
-        Refusal::LineListTooShort => 24,
-    }
 }
 
 // Stores an answer as its five numbers.

@@ -5,8 +5,13 @@ use formatter::write;
 use indent::write_indented;
 use pad::write_padded_start;
 use recording::Answer;
-use recording::Refusal;
 use wrap::wrap_bytes;
+
+fn answer(name: &[u8], a: Answer) {
+    io::write_all(1, name);
+    report::answer(a);
+    io::write_all(1, b"\n");
+}
 
 fn over_limit() -> [u8; 1048577] {
     [0x61; 1048577]
@@ -14,45 +19,6 @@ fn over_limit() -> [u8; 1048577] {
 
 fn at_limit() -> [u8; 1048576] {
     [0x61; 1048576]
-}
-
-fn number(n: u64) {
-    io::write_all(1, b" ");
-    io::print_decimal(1, n);
-}
-
-// The refusals that are met here.
-fn refusal(f: Refusal) -> u64 {
-    match f {
-        Refusal::DataTooLong => 1,
-        Refusal::ResultOverLimit => 9,
-        Refusal::LengthOverBuffer => 10,
-        Refusal::DataBufferTooShort => 21,
-        Refusal::LineListTooShort => 24,
-        _ => 99,
-    }
-}
-
-fn answer(name: &[u8], a: Answer) {
-    io::write_all(1, name);
-    match a {
-        Answer::Refused(f) => {
-            number(refusal(f));
-        }
-        Answer::Done {
-            data,
-            entries,
-            text,
-            number: n,
-        } => {
-            number(0);
-            number(data as u64);
-            number(entries as u64);
-            number(text as u64);
-            number(n);
-        }
-    }
-    io::write_all(1, b"\n");
 }
 
 // A replay into no room at all: 21 shows that the content itself was accepted.

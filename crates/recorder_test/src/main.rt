@@ -6,11 +6,16 @@ use formatter::raw;
 use formatter::replay;
 use formatter::write;
 use recording::Answer;
-use recording::Refusal;
+use report::number;
 
-fn number(n: u64) {
-    io::write_all(1, b" ");
-    io::print_decimal(1, n);
+fn answer(name: &[u8], a: Answer) {
+    io::write_all(1, name);
+    report::answer(a);
+}
+
+fn numbers(s: &[u32]) {
+    io::write_all(1, b" |");
+    report::numbers(s);
 }
 
 fn bytes(s: &[u8]) {
@@ -19,57 +24,6 @@ fn bytes(s: &[u8]) {
     while i < s.len() {
         number(s[i] as u64);
         i += 1;
-    }
-}
-
-fn numbers(s: &[u32]) {
-    io::write_all(1, b" |");
-    let mut i = 0;
-    while i < s.len() {
-        number(s[i] as u64);
-        i += 1;
-    }
-}
-
-// Document 01's number of a refusal.
-fn number_of(f: Refusal) -> u64 {
-    match f {
-        Refusal::DataTooLong => 1,
-        Refusal::EntryNumbers => 2,
-        Refusal::EntryShape => 3,
-        Refusal::EntryPosition => 4,
-        Refusal::TextPart => 5,
-        Refusal::LabelIllFormed => 6,
-        Refusal::TextIllFormed => 7,
-        Refusal::ReplacementRange => 8,
-        Refusal::ResultOverLimit => 9,
-        Refusal::LengthOverBuffer => 10,
-        Refusal::DataBufferTooShort => 21,
-        Refusal::EntryBufferTooShort => 22,
-        Refusal::TextBufferTooShort => 23,
-        Refusal::LineListTooShort => 24,
-    }
-}
-
-// The answer: a refusal's number, or 0 and the lengths.
-fn answer(name: &[u8], a: Answer) {
-    io::write_all(1, name);
-    match a {
-        Answer::Refused(f) => {
-            number(number_of(f));
-        }
-        Answer::Done {
-            data,
-            entries,
-            text,
-            number: n,
-        } => {
-            number(0);
-            number(data as u64);
-            number(entries as u64);
-            number(text as u64);
-            number(n);
-        }
     }
 }
 
@@ -93,13 +47,17 @@ fn replay_small(name: &[u8], content: &[u8], entries: &[u32], text: &[u8]) {
     io::write_all(1, b"\n");
 }
 
-// Refusals 2 to 6, from one entry each.
-fn refused() {
+// Refusals 2 and 3.
+fn refused_shapes() {
     replay_small(b"2 three numbers", b"ab", &[0, 1, 0], b"x");
     replay_small(b"3 kind 3", b"ab", &[0, 3, 0, 1], b"x");
     replay_small(b"3 pop with a start", b"ab", &[0, 1, 1, 0], b"x");
     replay_small(b"3 pop with a length", b"ab", &[0, 1, 0, 1], b"x");
     replay_small(b"3 empty raw", b"ab", &[0, 2, 0, 0], b"x");
+}
+
+// Refusals 4 to 6.
+fn refused_parts() {
     replay_small(b"4 falling", b"ab", &[1, 1, 0, 0, 0, 1, 0, 0], b"x");
     replay_small(b"4 beyond", b"ab", &[3, 1, 0, 0], b"x");
     replay_small(b"5 part one too long", b"ab", &[0, 0, 0, 2], b"x");
@@ -108,7 +66,7 @@ fn refused() {
 }
 
 // Two faults: the first in order is given.
-fn ordered() {
+fn ordered_in_entries() {
     replay_small(b"3 before 4", b"ab", &[3, 3, 0, 0], b"x");
     replay_small(b"4 before 5", b"ab", &[3, 0, 0, 2], b"x");
     replay_small(b"5 before 6", b"ab", &[0, 0, 0, 2], b"\xFF");
@@ -118,6 +76,9 @@ fn ordered() {
         &[0, 0, 0, 1, 0, 3, 0, 0],
         b"\xFF",
     );
+}
+
+fn ordered_in_rooms() {
     replay_small(b"5 before 21", b"abcde", &[0, 0, 0, 2], b"x");
     replay_small(
         b"21 before 22",
@@ -133,7 +94,8 @@ fn ordered() {
     );
 }
 
-fn accepted() {
+// Data and entries exactly full, and one short.
+fn full_data_and_entries() {
     replay_small(b"nothing", b"", &[], b"");
     replay_small(b"full data", b"abcd", &[], b"");
     replay_small(b"21 one short", b"abcde", &[], b"");
@@ -149,6 +111,10 @@ fn accepted() {
         &[0, 1, 0, 0, 0, 1, 0, 0, 0, 1, 0, 0, 0, 1, 0, 0],
         b"",
     );
+}
+
+// Texts exactly full and one short; what an entry may name.
+fn full_text() {
     replay_small(
         b"full text, unused text goes",
         b"a",
@@ -311,10 +277,16 @@ fn writes() {
     write_small(b"write nothing", 2, 4, 1, b"");
     write_small(b"write full", 2, 4, 1, b"cd");
     write_small(b"21 write one short", 2, 4, 1, b"cde");
+}
+
+fn writes_beyond() {
     write_small(b"10 data", 5, 4, 1, b"c");
     write_small(b"10 entries", 2, 9, 1, b"c");
     write_small(b"10 text", 2, 4, 5, b"c");
     write_small(b"10 the largest number", 18446744073709551615, 4, 1, b"c");
+}
+
+fn writes_to_faulty() {
     write_small(b"10 before 2", 2, 3, 5, b"c");
     write_small(b"2 content", 2, 3, 1, b"c");
     write_small(b"5 content, before 21", 2, 4, 0, b"cde");
@@ -325,20 +297,29 @@ fn pushes() {
     push_small(b"push an empty label", 2, 4, 1, b"");
     push_small(b"push full", 2, 4, 1, b"vwy");
     push_small(b"23 push one short", 2, 4, 1, b"vwyz");
+}
+
+fn pushes_refused() {
     push_small(b"6 push", 2, 4, 1, b"\xFF");
     push_small(b"6 before 23", 2, 4, 1, b"vwyz\xFF");
     push_small(b"3 content, before 6", 2, 8, 1, b"\xFF");
     push_small(b"10 text", 2, 4, 5, b"y");
 }
 
-fn pops_and_raws() {
+fn pops() {
     pop_small(b"pop", 2, 4, 1);
     pop_small(b"pop without a label, text unused", 2, 0, 1);
     pop_small(b"10 data", 5, 4, 1);
     pop_small(b"5 content", 2, 4, 0);
+}
+
+fn raws() {
     raw_small(b"raw", 2, 4, 1, b"z");
     raw_small(b"raw FF", 2, 4, 1, b"\xFF");
     raw_small(b"3 empty raw", 2, 4, 1, b"");
+}
+
+fn raws_in_room() {
     raw_small(b"5 content, before 3", 2, 4, 0, b"");
     raw_small(b"raw full", 2, 4, 1, b"vwz");
     raw_small(b"23 raw one short", 2, 4, 1, b"vwyz");
@@ -373,14 +354,22 @@ fn short_entries() {
 }
 
 fn main() {
-    refused();
-    ordered();
-    accepted();
+    refused_shapes();
+    refused_parts();
+    ordered_in_entries();
+    ordered_in_rooms();
+    full_data_and_entries();
+    full_text();
     entry_limit();
     text_limit();
     writes();
+    writes_beyond();
+    writes_to_faulty();
     pushes();
-    pops_and_raws();
+    pushes_refused();
+    pops();
+    raws();
+    raws_in_room();
     push_limit();
     short_entries();
 }

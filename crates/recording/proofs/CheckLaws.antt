@@ -121,11 +121,11 @@ abbrev pub sumLen : List Entry → ℕ
 sumLen [] = 0
 sumLen (e ∷ es) = e .len + sumLen es
 
-text-bytes : (p : List ℕ) (is : List Item) → textOf (byteItems p ++ is) ≡ textOf is
+pub text-bytes : (p : List ℕ) (is : List Item) → textOf (byteItems p ++ is) ≡ textOf is
 text-bytes [] is = refl
 text-bytes (b ∷ p) is = text-bytes p is
 
-text-none : (p : List ℕ) → textOf (byteItems p) ≡ []
+pub text-none : (p : List ℕ) → textOf (byteItems p) ≡ []
 text-none [] = refl
 text-none (b ∷ p) = text-none p
 

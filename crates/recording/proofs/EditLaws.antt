@@ -195,3 +195,20 @@ edit-data [] is = refl
 edit-data (keep n ∷ ops) is = rw (data-append, edit-data ops (back n is), data-front, data-back)
 edit-data (skip n ∷ ops) is = rw (data-append, data-entries, edit-data ops (back n is), data-back)
 edit-data (put p ∷ ops) is = rw (data-append (front 0 is) (p ++ edit ops (back 0 is)), data-append p (edit ops (back 0 is)), edit-data ops (back 0 is), data-front 0 is, data-back 0 is)
+
+-- ── at the place where a back starts, the entries are gone already
+pub front-back : (k : ℕ) (is : List Item) → front 0 (back k is) ≡ []
+front-back k [] = refl
+front-back zero (byte b ∷ is) = refl
+front-back (suc k) (byte b ∷ is) = front-back k is
+front-back k (push l ∷ is) = front-back k is
+front-back k (pop ∷ is) = front-back k is
+front-back k (raw l ∷ is) = front-back k is
+
+pub back-back : (k : ℕ) (is : List Item) → back 0 (back k is) ≡ back k is
+back-back k [] = refl
+back-back zero (byte b ∷ is) = refl
+back-back (suc k) (byte b ∷ is) = back-back k is
+back-back k (push l ∷ is) = back-back k is
+back-back k (pop ∷ is) = back-back k is
+back-back k (raw l ∷ is) = back-back k is

@@ -7,7 +7,6 @@ use mathlib.Core.Path.{_≡_, refl, sym, _∙_}
 use mathlib.Core.List.{List, [], _∷_, _++_, append-assoc}
 use lib.Dec.{ltb, eqb, eqb·suc-zero}
 use lib.ListN.{length, take, drop, length-append}
-use lib.Seq.{take-append-seam, drop-at}
 use borrow.Author.Tests.{eqb-true, eqb-false, eq-eqb, ltb-false, le-ltb}
 use Rattle.chars.specs.Chars.{wellFormed}
 use Rattle.buffer.proofs.Laws.{take-over}
@@ -17,7 +16,7 @@ use Rattle.recording.specs.Edit.{Op, keep, skip, put, front, back, entri
 use Rattle.recording.specs.Refusals.{firstOf, refuseIf, badShape, entryFault, entriesFault, recordingFault, dataLimit, entryLimit, textLimit}
 use Rattle.recording.specs.Outcome.{Room, Result, Faults, Outcome, done, overLimit, noRoom, refusalOf, Lent, lentAfter, returned}
 use Rattle.recording.proofs.Lists.{AllOf, all-append, or-left, or-right, not-false}
-use Rattle.recording.proofs.ItemsLaws.{entries-numbers}
+use Rattle.recording.proofs.ItemsLaws.{part-at, entries-numbers}
 use Rattle.recording.proofs.SizeLaws.{entryCount, count-numbers}
 
 -- ── the first of some tests
@@ -82,10 +81,6 @@ in-limits q h =
     let y = or-left (d || e) t z in
     record { dataBytes = or-left d e y; entryNumbers = or-right d e y; text = or-right (d || e) t z }
 
-pub limits-in : (q : Recording) → InLimits q → overLimit q ≡ 0
-unfolding overLimit
-limits-in q l = rw (l .dataBytes, l .entryNumbers, l .text)
-
 pub record Roomy (o : Room) (x : Result) : Type 0 where
   pub dataBytes : ltb (o .dataBytes) (length (x .recording .dataBytes)) ≡ false
   pub entryNumbers : ltb (o .entryNumbers) (length (x .recording .entryNumbers)) ≡ false
@@ -109,10 +104,6 @@ roomy o x h =
       text = refuseIf-zero (ltb (o .text) (length (x .recording .text))) 22 (c .0);
       lines = refuseIf-zero (ltb (o .lines) (length (x .lines))) 23 (d .0);
     }
-
-pub room-for : (o : Room) (x : Result) → Roomy o x → noRoom o x ≡ 0
-unfolding noRoom
-room-for o x r = rw (r .dataBytes, r .entryNumbers, r .text, r .lines)
 
 -- a call that is not refused, part by part
 pub record Granted (f : Faults) (o : Room) (x : Result) : Type 0 where
@@ -254,9 +245,6 @@ ok-edit (put p ∷ ops) is q h =
     all-append ItemOk (front 0 is) (p ++ edit ops (back 0 is)) (ok-front 0 is h) (all-append ItemOk p (edit ops (back 0 is)) (q .0) (ok-edit ops (back 0 is) (q .1) (ok-back 0 is h)))
 
 -- ── what is written of them has no fault
-part-at : (pre t post : Bytes) (used : ℕ) → length pre ≡ used → take (length t) (drop used (pre ++ (t ++ post))) ≡ t
-part-at pre t post used e = rw (drop-at pre (t ++ post) used e) (take-append-seam t post)
-
 some : (x : Bytes) → isNil x ≡ false → eqb (length x) 0 ≡ false
 some [] z = absurd (false≢true (sym z))
 some (b ∷ x) z = eqb·suc-zero (length x)

@@ -29,7 +29,7 @@ snoc-items [] b r = refl
 snoc-items (x ∷ q) b r = ap (λ (l : List Item). byte x ∷ l) (snoc-items q b r)
 
 -- the part of the text that an entry with the text t, after used bytes, finds
-part-at : (pre t post : Bytes) (used : ℕ) → length pre ≡ used → take (length t) (drop used (pre ++ (t ++ post))) ≡ t
+pub part-at : (pre t post : Bytes) (used : ℕ) → length pre ≡ used → take (length t) (drop used (pre ++ (t ++ post))) ≡ t
 part-at pre t post used e = rw (drop-at pre (t ++ post) used e) (take-append-seam t post)
 
 less : (at : ℕ) (q : Bytes) → (at + length q) - at ≡ length q

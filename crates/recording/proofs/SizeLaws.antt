@@ -123,10 +123,6 @@ pub back-bytes : (d : Bytes) (n : ℕ) (is : List Item) → back (length d + n) 
 back-bytes [] n is = let e : 0 + n ≡ n = omega arith in rw e
 back-bytes (b ∷ d) n is = let e : suc (length d) + n ≡ suc (length d + n) = omega arith in rw (e, back-bytes d n is)
 
--- what is left of a content at the offset `at`, its first entries read: the entry is next if it stands here, and bytes come first if it stands further on
-pub cursor-entry : (at : ℕ) (t d : Bytes) (e : Entry) (es : List Entry) → e .position ≡ at → itemsFrom at t d (e ∷ es) ≡ itemOf (e .kind) (partOf t e) ∷ itemsFrom at t d es
-cursor-entry at t d e es h = let z : e .position - at ≡ 0 = omega arith in rw z (ap (λ (n : ℕ). itemOf (e .kind) (partOf t e) ∷ itemsFrom n t d es) h)
-
 -- the text of an edit has the length of the content's text and of the texts put in
 abbrev pub putText : List Op → ℕ
 putText [] = 0

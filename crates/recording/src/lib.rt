@@ -6,7 +6,7 @@ ghost use mathlib.Core.List.{_∷_};
 ghost use lib.ListN.{length, drop};
 ghost use Rattle.chars.specs.Leads.{leadTable};
 ghost use Rattle.recording.specs.Recording.{recording, entriesOf, items, textOf};
-ghost use Rattle.recording.specs.Refusals.{badShape, entryFault, entriesFault, recordingFault};
+ghost use Rattle.recording.specs.Refusals.{numberOf, badShape, entryFault, entriesFault, recordingFault};
 ghost use Rattle.recording.specs.Check.{faultOf, Counted, Within};
 
 // The refusals, by document 01's causes; `specs/Refusals.antt` gives each its number.
@@ -36,6 +36,28 @@ pub enum Refusal {
     EntryBufferTooShort,
     TextBufferTooShort,
     LineListTooShort,
+}
+
+// Document 01's number of a refusal.
+pub fn number_of(f: Refusal) -> u64
+    ensures { λ r. ⌜ r ≡ numberOf f ⌝ }
+{
+    match f {
+        Refusal::DataTooLong => 1,
+        Refusal::EntryNumbers => 2,
+        Refusal::EntryShape => 3,
+        Refusal::EntryPosition => 4,
+        Refusal::TextPart => 5,
+        Refusal::LabelIllFormed => 6,
+        Refusal::TextIllFormed => 7,
+        Refusal::ReplacementRange => 8,
+        Refusal::ResultOverLimit => 9,
+        Refusal::LengthOverBuffer => 10,
+        Refusal::DataBufferTooShort => 21,
+        Refusal::EntryBufferTooShort => 22,
+        Refusal::TextBufferTooShort => 23,
+        Refusal::LineListTooShort => 24,
+    }
 }
 
 // One entry of a recording: four numbers.

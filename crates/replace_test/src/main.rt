@@ -1,63 +1,9 @@
 // Runs `write_replaced_flat` and prints a line for each case: the refusal, or the three lengths; then what the buffers hold, dots where they were not written.
 // What is proved of a program is that it is safe; what it should print stands in the file `stdout`.
 use recording::Answer;
-use recording::Refusal;
 use replace::write_replaced_flat;
 ghost use Prim.Native.Nat.{_≤_};
 ghost use lib.ListN.{length};
-
-fn number(n: u64) {
-    io::write_all(1, b" ");
-    io::print_decimal(1, n);
-}
-
-// Document 01's number of a refusal that this call can give.
-fn number_of(f: Refusal) -> u64 {
-    match f {
-        Refusal::DataTooLong => 1,
-        Refusal::EntryNumbers => 2,
-        Refusal::EntryShape => 3,
-        Refusal::EntryPosition => 4,
-        Refusal::TextPart => 5,
-        Refusal::LabelIllFormed => 6,
-        Refusal::TextIllFormed => 7,
-        Refusal::ReplacementRange => 8,
-        Refusal::ResultOverLimit => 9,
-        Refusal::LengthOverBuffer => 10,
-        Refusal::DataBufferTooShort => 21,
-        Refusal::EntryBufferTooShort => 22,
-        Refusal::TextBufferTooShort => 23,
-        Refusal::LineListTooShort => 24,
-    }
-}
-
-fn answer(a: Answer) {
-    match a {
-        Answer::Refused(f) => {
-            io::write_all(1, b" refused");
-            number(number_of(f));
-        }
-        Answer::Done {
-            data: d,
-            entries: e,
-            text: t,
-            number: n,
-        } => {
-            number(d as u64);
-            number(e as u64);
-            number(t as u64);
-            number(n);
-        }
-    }
-}
-
-fn entry_numbers(s: &[u32]) {
-    let mut i = 0;
-    while i < s.len() {
-        number(s[i] as u64);
-        i += 1;
-    }
-}
 
 // A case in these buffers.
 fn case_by(
@@ -74,11 +20,11 @@ fn case_by(
     let a = write_replaced_flat(content, entries, text, records, new, bytes, numbers, texts);
     io::write_all(1, name);
     io::write_all(1, b":");
-    answer(a);
+    report::answer(a);
     io::write_all(1, b" |");
     io::write_all(1, bytes);
     io::write_all(1, b"|");
-    entry_numbers(numbers);
+    report::numbers(numbers);
     io::write_all(1, b" |");
     io::write_all(1, texts);
     io::write_all(1, b"|\n");
@@ -381,11 +327,11 @@ fn thousands_in(records: &[u32], bytes: &mut [u8]) {
         &mut texts,
     );
     io::write_all(1, b"ten thousand:");
-    answer(a);
+    report::answer(a);
     if bytes.len() == 10003 {
         io::write_all(1, b" |");
         io::write_all(1, &bytes[0..1]);
-        number(run_of(&bytes[1..10003], 0x58) as u64);
+        report::number(run_of(&bytes[1..10003], 0x58) as u64);
         io::write_all(1, b" ");
         io::write_all(1, &bytes[10001..10003]);
         io::write_all(1, b"|");

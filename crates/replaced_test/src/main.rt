@@ -2,7 +2,6 @@
 // Cases that `replace_test` runs over flat numbers have its names and its lines here.
 use layout::Replacement;
 use recording::Answer;
-use recording::Refusal;
 use replaced::write_replaced;
 ghost use mathlib.Core.Path.{_≡_};
 ghost use mathlib.Core.List.{[], _∷_};
@@ -11,59 +10,6 @@ ghost use Rattle.recording.specs.Recording.{recording};
 ghost use Rattle.recording.specs.Outcome.{answerOf, returned, lentAfter};
 ghost use Rattle.layout.specs.Layout.{replace, outcome};
 ghost use Rattle.layout.specs.Lent.{lentOf, callOn};
-
-fn number(n: u64) {
-    io::write_all(1, b" ");
-    io::print_decimal(1, n);
-}
-
-// Document 01's number of a refusal that this call can give.
-fn number_of(f: Refusal) -> u64 {
-    match f {
-        Refusal::DataTooLong => 1,
-        Refusal::EntryNumbers => 2,
-        Refusal::EntryShape => 3,
-        Refusal::EntryPosition => 4,
-        Refusal::TextPart => 5,
-        Refusal::LabelIllFormed => 6,
-        Refusal::TextIllFormed => 7,
-        Refusal::ReplacementRange => 8,
-        Refusal::ResultOverLimit => 9,
-        Refusal::LengthOverBuffer => 10,
-        Refusal::DataBufferTooShort => 21,
-        Refusal::EntryBufferTooShort => 22,
-        Refusal::TextBufferTooShort => 23,
-        Refusal::LineListTooShort => 24,
-    }
-}
-
-fn answer(a: Answer) {
-    match a {
-        Answer::Refused(f) => {
-            io::write_all(1, b" refused");
-            number(number_of(f));
-        }
-        Answer::Done {
-            data: d,
-            entries: e,
-            text: t,
-            number: n,
-        } => {
-            number(d as u64);
-            number(e as u64);
-            number(t as u64);
-            number(n);
-        }
-    }
-}
-
-fn entry_numbers(s: &[u32]) {
-    let mut i = 0;
-    while i < s.len() {
-        number(s[i] as u64);
-        i += 1;
-    }
-}
 
 // Lends two records as a list. It is proved by hand, as a walk: a list of structs is lent nowhere else.
 fn with_two(
@@ -110,11 +56,11 @@ fn case_by(
     let r = with_two(a, b, content, entries, text, b"XY", bytes, numbers, texts);
     io::write_all(1, name);
     io::write_all(1, b":");
-    answer(r);
+    report::answer(r);
     io::write_all(1, b" |");
     io::write_all(1, bytes);
     io::write_all(1, b"|");
-    entry_numbers(numbers);
+    report::numbers(numbers);
     io::write_all(1, b" |");
     io::write_all(1, texts);
     io::write_all(1, b"|\n");

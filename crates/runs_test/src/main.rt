@@ -6,24 +6,11 @@ use runs::run_calls;
 ghost use mathlib.Core.Bool.{true};
 ghost use Rattle.runs.specs.Runs.{Sets};
 
-fn number(n: u64) {
-    io::write_all(1, b" ");
-    io::print_decimal(1, n);
-}
-
-fn list(numbers: &[u32]) {
-    let mut i = 0;
-    while i < numbers.len() {
-        number(numbers[i] as u64);
-        i += 1;
-    }
-}
-
 fn show_recording(content: &[u8], entries: &[u32], text: &[u8]) {
     io::write_all(1, b" <");
     io::write_all(1, content);
     io::write_all(1, b">");
-    list(entries);
+    report::numbers(entries);
     io::write_all(1, b" <");
     io::write_all(1, text);
     io::write_all(1, b">\n");
@@ -77,7 +64,7 @@ fn each(
     let mut held = s;
     let mut i = 0;
     while i + 2 <= calls.len() {
-        list(&calls[i..i + 2]);
+        report::numbers(&calls[i..i + 2]);
         held = run_calls(
             held,
             &calls[i..i + 2],

@@ -1,88 +1,25 @@
 // Runs the two truncating calls and prints a line for each case: its name, the call and max; the refusal, or the three lengths and the width kept;
 // then all of what the buffers hold, which held EE and 7. What is proved of a program is that it is safe; what it should print stands in the file `stdout`.
 use recording::Answer;
-use recording::Refusal;
 use truncate::write_truncated_end;
 use truncate::write_truncated_start;
 ghost use Prim.Native.Nat.{_≤_};
 ghost use lib.ListN.{length};
 
-fn number(n: u64) {
-    io::write_all(1, b" ");
-    io::print_decimal(1, n);
-}
-
-fn hexadecimal(s: &[u8]) {
-    let mut i = 0;
-    while i < s.len() {
-        io::write_all(1, b" ");
-        io::print_hex(1, s[i] as u64, 2);
-        i += 1;
-    }
-}
-
-fn entry_numbers(s: &[u32]) {
-    let mut i = 0;
-    while i < s.len() {
-        number(s[i] as u64);
-        i += 1;
-    }
-}
-
-// Document 01's number of a refusal.
-fn number_of(f: Refusal) -> u64 {
-    match f {
-        Refusal::DataTooLong => 1,
-        Refusal::EntryNumbers => 2,
-        Refusal::EntryShape => 3,
-        Refusal::EntryPosition => 4,
-        Refusal::TextPart => 5,
-        Refusal::LabelIllFormed => 6,
-        Refusal::TextIllFormed => 7,
-        Refusal::ReplacementRange => 8,
-        Refusal::ResultOverLimit => 9,
-        Refusal::LengthOverBuffer => 10,
-        Refusal::DataBufferTooShort => 21,
-        Refusal::EntryBufferTooShort => 22,
-        Refusal::TextBufferTooShort => 23,
-        Refusal::LineListTooShort => 24,
-    }
-}
-
-fn answer(a: Answer) {
-    match a {
-        Answer::Refused(f) => {
-            io::write_all(1, b" refused");
-            number(number_of(f));
-        }
-        Answer::Done {
-            data: d,
-            entries: e,
-            text: t,
-            number: n,
-        } => {
-            number(d as u64);
-            number(e as u64);
-            number(t as u64);
-            number(n);
-        }
-    }
-}
-
 fn called(name: &[u8], call: &[u8], max: u32) {
     io::write_all(1, name);
     io::write_all(1, call);
-    number(max as u64);
+    report::number(max as u64);
     io::write_all(1, b":");
 }
 
 fn left(bytes: &[u8], numbers: &[u32], texts: &[u8]) {
     io::write_all(1, b" |");
-    hexadecimal(bytes);
+    report::hexadecimal(bytes);
     io::write_all(1, b" |");
-    entry_numbers(numbers);
+    report::numbers(numbers);
     io::write_all(1, b" |");
-    hexadecimal(texts);
+    report::hexadecimal(texts);
     io::write_all(1, b"\n");
 }
 
@@ -113,7 +50,7 @@ fn end_by(
         numbers,
         texts,
     );
-    answer(a);
+    report::answer(a);
     left(bytes, numbers, texts);
 }
 
@@ -178,7 +115,7 @@ fn start_by(
         numbers,
         texts,
     );
-    answer(a);
+    report::answer(a);
     left(bytes, numbers, texts);
 }
 

@@ -2,57 +2,10 @@
 // What is proved of a program is that it is safe; what it should print stands in the file `stdout`: the count of lines with the three lengths, or the refusal, and then all that the
 // lent places hold.
 use recording::Answer;
-use recording::Refusal;
 use wrap::wrap_bytes;
 use wrapped::write_wrapped;
 ghost use Prim.Native.Nat.{_≤_};
 ghost use lib.ListN.{length};
-
-fn number(n: u64) {
-    io::write_all(1, b" ");
-    io::print_decimal(1, n);
-}
-
-// The refusals that are met here, by document 01's numbers.
-fn refusal(f: Refusal) -> u64 {
-    match f {
-        Refusal::DataTooLong => 1,
-        Refusal::LabelIllFormed => 6,
-        Refusal::DataBufferTooShort => 21,
-        Refusal::EntryBufferTooShort => 22,
-        Refusal::TextBufferTooShort => 23,
-        Refusal::LineListTooShort => 24,
-        _ => 0,
-    }
-}
-
-fn answer(a: Answer) {
-    match a {
-        Answer::Refused(f) => {
-            io::write_all(1, b" refused");
-            number(refusal(f));
-        }
-        Answer::Done {
-            data,
-            entries,
-            text,
-            number: count,
-        } => {
-            number(count);
-            number(data as u64);
-            number(entries as u64);
-            number(text as u64);
-        }
-    }
-}
-
-fn list(lines: &[u32]) {
-    let mut i = 0;
-    while i < lines.len() {
-        number(lines[i] as u64);
-        i += 1;
-    }
-}
 
 fn hex(bytes: &[u8]) {
     io::write_all(1, b" ");
@@ -76,9 +29,9 @@ fn wrap_into(
 {
     io::write_all(1, name);
     let a = wrap_bytes(data, width, break_words, &mut lines[..room]);
-    answer(a);
+    report::answer(a);
     io::write_all(1, b" :");
-    list(lines);
+    report::numbers(lines);
     io::write_all(1, b"\n");
 }
 
@@ -114,6 +67,9 @@ fn words() {
         false,
         10,
     );
+}
+
+fn fits() {
     wrap(b"but in the next one", b"ab  cd", 5, false, 10);
     wrap(b"a word as wide as the width", b"abcd e", 4, false, 10);
     wrap(b"width 0, not broken", b"ab c  d", 0, false, 10);
@@ -124,6 +80,9 @@ fn words() {
         false,
         10,
     );
+}
+
+fn zero_width_words() {
     wrap(
         b"zero-width word where the space fits",
         b"a \xCC\x81",
@@ -170,6 +129,9 @@ fn heads() {
         true,
         10,
     );
+}
+
+fn cut_sequences() {
     wrap(b"ill-formed bytes", b"\xE6\x9C\xFF\x80a", 1, true, 10);
     wrap(b"a sequence cut by a space", b"\xE6\x9C \xA8", 1, true, 10);
     wrap(
@@ -179,6 +141,9 @@ fn heads() {
         true,
         10,
     );
+}
+
+fn last_heads() {
     wrap(b"the last head and the next word", b"abc d", 2, true, 10);
     wrap(b"the last head keeps its space", b"abc  d", 3, true, 10);
     wrap(b"no empty last head", b"abcd", 2, true, 10);
@@ -241,12 +206,12 @@ fn record_into(
         &mut texts[..room.texts],
         &mut lines[..room.lines],
     );
-    answer(a);
+    report::answer(a);
     io::write_all(1, b" :");
     hex(bytes);
-    list(numbers);
+    report::numbers(numbers);
     hex(texts);
-    list(lines);
+    report::numbers(lines);
     io::write_all(1, b"\n");
 }
 
@@ -332,6 +297,9 @@ fn labels() {
         4,
         6,
     );
+}
+
+fn labels_at_ends() {
     record(
         b"entries behind the last line",
         b"ab  ",
@@ -407,6 +375,9 @@ fn refusals() {
         1,
         4,
     );
+}
+
+fn more_refusals() {
     record(
         b"text one short",
         b"ab cd",
@@ -445,10 +416,16 @@ fn refusals() {
 fn main() {
     document_cases();
     words();
+    fits();
+    zero_width_words();
     heads();
+    cut_sequences();
+    last_heads();
     newlines();
     lists();
     labels();
+    labels_at_ends();
     offsets();
     refusals();
+    more_refusals();
 }

@@ -8,7 +8,7 @@ use Rattle.recorder_test.proofs.bytes.Tie as tie
 use Rattle.recorder_test.proofs.bytes.Reads as reads
 use Rattle.recorder_test.proofs.bytes.Lts as lts
 use Rattle.io.proofs.write_all.Reads as write-all-reads
-use Rattle.recorder_test.proofs.number.Reads as number-reads
+use Rattle.report.proofs.number.Reads as number-reads
 
 abbrev Inv-loop : tie.InvT-loop
 Inv-loop s i₀ i = i ≤ length s

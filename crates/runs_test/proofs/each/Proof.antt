@@ -10,7 +10,7 @@ use Rattle.runs_test.proofs.each.Tie as tie
 use Rattle.runs_test.proofs.each.Reads as reads
 use Rattle.runs_test.proofs.each.Lts as lts
 use Rattle.runs.proofs.run_calls.Reads as run-calls-reads
-use Rattle.runs_test.proofs.list.Reads as list-reads
+use Rattle.report.proofs.numbers.Reads as numbers-reads
 use Rattle.runs_test.proofs.show.Reads as show-reads
 
 abbrev Inv-loop : tie.InvT-loop
@@ -32,28 +32,28 @@ add-loop c =
     omega (arith, c .loop .inv .1, c .before .before .before .before .before .before .before .before .before .before .before .before .before .before .good)
 
 -- src/main.rt:86:24
-add-list : tie.Need-add-list Inv-loop μ-loop
-add-list c = search needs
+add-numbers : tie.Need-add-numbers Inv-loop μ-loop
+add-numbers c = search needs
 
 -- src/main.rt:86:14
-mul-list : tie.Need-mul-list Inv-loop μ-loop
-mul-list c = search needs
+mul-numbers : tie.Need-mul-numbers Inv-loop μ-loop
+mul-numbers c = search needs
 
 -- src/main.rt:86:14
-sub-list : tie.Need-sub-list Inv-loop μ-loop
-sub-list c = search needs
+sub-numbers : tie.Need-sub-numbers Inv-loop μ-loop
+sub-numbers c = search needs
 
 -- src/main.rt:86:14
-part-list-start : tie.Need-part-list-start Inv-loop μ-loop
-part-list-start c = search needs
+part-numbers-start : tie.Need-part-numbers-start Inv-loop μ-loop
+part-numbers-start c = search needs
 
 -- src/main.rt:86:14
-part-list-end : tie.Need-part-list-end Inv-loop μ-loop
-part-list-end c = search needs
+part-numbers-end : tie.Need-part-numbers-end Inv-loop μ-loop
+part-numbers-end c = search needs
 
 -- src/main.rt:86:9
-list-requires : tie.Need-list-requires Inv-loop μ-loop
-list-requires c κs = search needs
+numbers-requires : tie.Need-numbers-requires Inv-loop μ-loop
+numbers-requires c κs = search needs
 
 -- src/main.rt:89:23
 add-run-calls : tie.Need-add-run-calls Inv-loop μ-loop
@@ -150,12 +150,12 @@ each-spec =
     μ-loop
     loop-holds
     add-loop
-    add-list
-    mul-list
-    sub-list
-    part-list-start
-    part-list-end
-    list-requires
+    add-numbers
+    mul-numbers
+    sub-numbers
+    part-numbers-start
+    part-numbers-end
+    numbers-requires
     add-run-calls
     mul-run-calls
     sub-run-calls

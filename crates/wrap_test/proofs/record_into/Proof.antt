@@ -7,9 +7,9 @@ use Rattle.wrap_test.proofs.record_into.Tie as tie
 use Rattle.wrap_test.proofs.record_into.Reads as reads
 use Rattle.wrap_test.proofs.record_into.Lts as lts
 use Rattle.io.proofs.write_all.Reads as write-all-reads
-use Rattle.wrap_test.proofs.answer.Reads as answer-reads
+use Rattle.report.proofs.answer.Reads as answer-reads
 use Rattle.wrap_test.proofs.hex.Reads as hex-reads
-use Rattle.wrap_test.proofs.list.Reads as list-reads
+use Rattle.report.proofs.numbers.Reads as numbers-reads
 use Rattle.wrapped.proofs.write_wrapped.Reads as write-wrapped-reads
 
 write-all-requires : tie.Need-write-all-requires
@@ -54,14 +54,14 @@ write-all-requires-2 c κs = search needs
 hex-requires : tie.Need-hex-requires
 hex-requires c κs = search needs
 
-list-requires : tie.Need-list-requires
-list-requires c κs = search needs
+numbers-requires : tie.Need-numbers-requires
+numbers-requires c κs = search needs
 
 hex-requires-2 : tie.Need-hex-requires-2
 hex-requires-2 c κs = search needs
 
-list-requires-2 : tie.Need-list-requires-2
-list-requires-2 c κs = search needs
+numbers-requires-2 : tie.Need-numbers-requires-2
+numbers-requires-2 c κs = search needs
 
 slice-aggregate-write-all-2 : tie.Need-slice-aggregate-write-all-2
 slice-aggregate-write-all-2 c = search needs
@@ -102,9 +102,9 @@ record-into-spec =
     slice-aggregate-write-all
     write-all-requires-2
     hex-requires
-    list-requires
+    numbers-requires
     hex-requires-2
-    list-requires-2
+    numbers-requires-2
     slice-aggregate-write-all-2
     write-all-requires-3
     same-length

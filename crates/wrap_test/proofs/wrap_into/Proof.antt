@@ -8,8 +8,8 @@ use Rattle.wrap_test.proofs.wrap_into.Reads as reads
 use Rattle.wrap_test.proofs.wrap_into.Lts as lts
 use Rattle.io.proofs.write_all.Reads as write-all-reads
 use Rattle.wrap.proofs.wrap_bytes.Reads as wrap-bytes-reads
-use Rattle.wrap_test.proofs.answer.Reads as answer-reads
-use Rattle.wrap_test.proofs.list.Reads as list-reads
+use Rattle.report.proofs.answer.Reads as answer-reads
+use Rattle.report.proofs.numbers.Reads as numbers-reads
 
 write-all-requires : tie.Need-write-all-requires
 write-all-requires c κs = search needs
@@ -32,8 +32,8 @@ slice-aggregate-write-all c = search needs
 write-all-requires-2 : tie.Need-write-all-requires-2
 write-all-requires-2 c κs = search needs
 
-list-requires : tie.Need-list-requires
-list-requires c κs = search needs
+numbers-requires : tie.Need-numbers-requires
+numbers-requires c κs = search needs
 
 slice-aggregate-write-all-2 : tie.Need-slice-aggregate-write-all-2
 slice-aggregate-write-all-2 c = search needs
@@ -58,7 +58,7 @@ wrap-into-spec =
     answer-requires
     slice-aggregate-write-all
     write-all-requires-2
-    list-requires
+    numbers-requires
     slice-aggregate-write-all-2
     write-all-requires-3
     same-length

@@ -1,8 +1,8 @@
 -- Each refusal has document 01's number, by computing.
 use borrow.Author.Needs.{needs}
 use Rattle.recording.specs.Refusals.{numberOf}
-use Rattle.capi.proofs.number_of.Statement.{statement}
-use Rattle.capi.proofs.number_of.Tie as tie
+use Rattle.recording.proofs.number_of.Statement.{statement}
+use Rattle.recording.proofs.number_of.Tie as tie
 
 enum-told : tie.Need-enum-told
 enum-told c = search needs

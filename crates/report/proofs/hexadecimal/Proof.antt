@@ -1,35 +1,38 @@
--- Each byte is there, and the loop ends.
+-- The loop stays within the bytes.
 use native.Mathlib.Omega.{arith}
 use borrow.Author.Needs.{needs}
 use Prim.Native.Nat.{_-_, _≤_}
 use lib.ListN.{length}
-use Rattle.elide_test.proofs.bytes.Statement.{statement}
-use Rattle.elide_test.proofs.bytes.Tie as tie
-use Rattle.elide_test.proofs.bytes.Reads as reads
-use Rattle.elide_test.proofs.bytes.Lts as lts
-use Rattle.elide_test.proofs.space.Reads as space-reads
+use Rattle.report.proofs.hexadecimal.Statement.{statement}
+use Rattle.report.proofs.hexadecimal.Tie as tie
+use Rattle.report.proofs.hexadecimal.Reads as reads
+use Rattle.report.proofs.hexadecimal.Lts as lts
 use Rattle.io.proofs.print_hex.Reads as print-hex-reads
+use Rattle.io.proofs.write_all.Reads as write-all-reads
 
 abbrev Inv-loop : tie.InvT-loop
-Inv-loop s i₀ i = i ≤ length s
+Inv-loop s i₀ t3 i = i ≤ length s
 
 abbrev μ-loop : tie.MeasureT-loop
-μ-loop s i₀ i = length s - i
+μ-loop s i₀ t3 i = length s - i
 
 loop-holds : tie.Need-loop-holds Inv-loop μ-loop
 loop-holds c = search needs
+
+slice-aggregate-write-all : tie.Need-slice-aggregate-write-all Inv-loop μ-loop
+slice-aggregate-write-all c = search needs
+
+write-all-requires : tie.Need-write-all-requires Inv-loop μ-loop
+write-all-requires c κs = search needs
 
 shared-slice-read-print-hex : tie.Need-shared-slice-read-print-hex Inv-loop μ-loop
 shared-slice-read-print-hex c = search needs
 
 cast-print-hex : tie.Need-cast-print-hex Inv-loop μ-loop
-cast-print-hex c = omega (arith, c .shared-slice-known2 .given (c .before .before .loop .i))
+cast-print-hex c = omega (arith, c .shared-slice-known2 .given (c .before .before .before .before .loop .i))
 
 print-hex-requires : tie.Need-print-hex-requires Inv-loop μ-loop
 print-hex-requires c κs = search needs
-
-space-requires : tie.Need-space-requires Inv-loop μ-loop
-space-requires c κs = search needs
 
 add-i : tie.Need-add-i Inv-loop μ-loop
 add-i c = search needs
@@ -43,17 +46,18 @@ loop-again c = search needs
 returns : tie.Need-returns Inv-loop μ-loop
 returns c = search needs
 
-pub bytes-spec : {M : Type 1} → statement M
-bytes-spec =
+pub hexadecimal-spec : {M : Type 1} → statement M
+hexadecimal-spec =
     tie.close
     (tie.spec
     Inv-loop
     μ-loop
     loop-holds
+    slice-aggregate-write-all
+    write-all-requires
     shared-slice-read-print-hex
     cast-print-hex
     print-hex-requires
-    space-requires
     add-i
     loop-less
     loop-again

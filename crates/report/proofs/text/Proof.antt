@@ -3,12 +3,12 @@ use native.Mathlib.Omega.{arith}
 use borrow.Author.Needs.{needs}
 use lib.ListN.{length}
 use Prim.Native.Nat.{ℕ, _-_, _≤_}
-use Rattle.pad_test.proofs.show_bytes.Statement.{statement}
-use Rattle.pad_test.proofs.show_bytes.Tie as tie
-use Rattle.pad_test.proofs.show_bytes.Reads as reads
-use Rattle.pad_test.proofs.show_bytes.Lts as lts
+use Rattle.report.proofs.text.Statement.{statement}
+use Rattle.report.proofs.text.Tie as tie
+use Rattle.report.proofs.text.Reads as reads
+use Rattle.report.proofs.text.Lts as lts
 use Rattle.io.proofs.write_all.Reads as write-all-reads
-use Rattle.pad_test.proofs.byte.Reads as byte-reads
+use Rattle.report.proofs.byte.Reads as byte-reads
 
 abbrev Inv-loop : tie.InvT-loop
 Inv-loop s i₀ i =
@@ -54,8 +54,8 @@ loop-again c = search needs
 returns : tie.Need-returns Inv-loop μ-loop
 returns c = search needs
 
-pub show-bytes-spec : {M : Type 1} → statement M
-show-bytes-spec =
+pub text-spec : {M : Type 1} → statement M
+text-spec =
     tie.close
     (tie.spec
     Inv-loop

@@ -3,11 +3,11 @@ use native.Mathlib.Omega.{arith}
 use borrow.Author.Needs.{needs}
 use lib.ListN.{length}
 use Prim.Native.Nat.{_-_, _≤_}
-use Rattle.truncate_test.proofs.entry_numbers.Statement.{statement}
-use Rattle.truncate_test.proofs.entry_numbers.Tie as tie
-use Rattle.truncate_test.proofs.entry_numbers.Reads as reads
-use Rattle.truncate_test.proofs.entry_numbers.Lts as lts
-use Rattle.truncate_test.proofs.number.Reads as number-reads
+use Rattle.report.proofs.numbers.Statement.{statement}
+use Rattle.report.proofs.numbers.Tie as tie
+use Rattle.report.proofs.numbers.Reads as reads
+use Rattle.report.proofs.numbers.Lts as lts
+use Rattle.report.proofs.number.Reads as number-reads
 
 abbrev Inv-loop : tie.InvT-loop
 Inv-loop s i₀ i =
@@ -45,8 +45,8 @@ loop-again c = search needs
 returns : tie.Need-returns Inv-loop μ-loop
 returns c = search needs
 
-pub entry-numbers-spec : {M : Type 1} → statement M
-entry-numbers-spec =
+pub numbers-spec : {M : Type 1} → statement M
+numbers-spec =
     tie.close
     (tie.spec
     Inv-loop
