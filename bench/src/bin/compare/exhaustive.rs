@@ -38,6 +38,11 @@ fn sequences() -> impl Iterator<Item = Vec<u8>> {
     })
 }
 
+/// Every well-formed text of up to five of the characters.
+fn characters() -> impl Iterator<Item = Vec<u8>> {
+    rows(&CHARACTERS, 5).map(|row| row.concat().into_bytes())
+}
+
 fn texts(check: impl Fn(&[u8]) -> Checked) -> Checked {
     rows(&BYTES, 5).chain(sequences()).try_fold(0, |made, s| Ok(made + check(&s)?))
 }
@@ -69,7 +74,7 @@ fn wrappings() -> impl Iterator<Item = (usize, bool)> {
 
 pub fn wrap_bytes(numbers: &mut Numbers) -> Checked {
     let mut made = 0;
-    for s in rows(&BYTES, 5) {
+    for s in rows(&BYTES, 5).chain(characters()) {
         for (width, break_words) in wrappings() {
             wrap_bytes_of(&s, width, break_words, numbers)?;
             made += 1;
@@ -78,9 +83,9 @@ pub fn wrap_bytes(numbers: &mut Numbers) -> Checked {
     Ok(made)
 }
 
-/// Well-formed texts of up to five characters, and any bytes.
+/// Well-formed texts of up to five characters, and any bytes up to four.
 fn plain_texts() -> impl Iterator<Item = Vec<u8>> {
-    rows(&CHARACTERS, 5).map(|row| row.concat().into_bytes()).chain(rows(&BYTES, 4))
+    characters().chain(rows(&BYTES, 4))
 }
 
 pub fn elide(
@@ -104,9 +109,9 @@ pub fn complete_newline(numbers: &mut Numbers) -> Checked {
     plain_texts().try_fold(0, |made, text| complete_newline_of(&text, numbers).map(|()| made + 1))
 }
 
-/// Every string of up to four bytes without entries.
+/// The same without entries.
 fn plain_contents() -> impl Iterator<Item = Recording> {
-    rows(&BYTES, 4).map(|data| Recording { data, entries: vec![] })
+    plain_texts().map(|data| Recording { data, entries: vec![] })
 }
 
 /// Every string of up to three bytes with one or two entries of every kind at every position, balanced or not.
