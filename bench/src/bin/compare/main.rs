@@ -3,6 +3,7 @@
 //! input and ends the run.
 mod exhaustive;
 mod lists;
+mod typed;
 
 use std::fmt::Debug;
 use std::process::ExitCode;
@@ -48,6 +49,8 @@ const CALLS: &[(&str, Call)] = &[
 
 const MANY: &[(&str, Many)] = &[
     ("lists_of_calls", lists::lists_of_calls),
+    ("typed_recorders", typed::recorders),
+    ("typed_texts", typed::texts),
     ("exhaustive_text_width", |_, _| exhaustive::text_width()),
     ("exhaustive_well_formed", |_, _| exhaustive::well_formed()),
     ("exhaustive_zero_width_len", |_, _| exhaustive::zero_width_len()),
