@@ -2,6 +2,7 @@
 use std::cell::RefCell;
 use std::hint::black_box;
 use std::io::{Result as Io, Write as _};
+use std::rc::Rc;
 
 use bench::inputs::{Input, ROWS, SHORT_ROWS, SIZES, Size};
 use bench::recordings::view;
@@ -40,6 +41,7 @@ pub const CASES: &[Case] = &[
     Case { name: "elide_start_from_bytes", sizes: &ROWS, sides: elide_start_from_bytes },
     Case { name: "elide_end_from_bytes", sizes: &ROWS, sides: elide_end_from_bytes },
     Case { name: "complete_newline_from_bytes", sizes: &ROWS, sides: complete_newline_from_bytes },
+    Case { name: "typed_write_truncated_end", sizes: &ROWS, sides: typed_write_truncated_end },
     Case { name: "made_by_adding", sizes: &SHORT_ROWS, sides: made_by_adding },
 ];
 
@@ -197,6 +199,30 @@ fn write_truncated_end(input: &Input) -> Result<Pair, String> {
         |row, out| ELLIPSIS.with(|e| original::write_truncated_end(out, &row.recorder, &e.1, row.width / 2)).map(|n| n as u64),
         |row, room| ELLIPSIS.with(|e| lent::write_truncated_end(view(&row.lists), view(&e.0), row.width as u32 / 2, room.lent())),
     )
+}
+
+/// The same through the type with its own buffers, which the first call has grown.
+fn typed_write_truncated_end(input: &Input) -> Result<Pair, String> {
+    let typed = |lists: &Lists| ruszvedok::FormatRecorder::try_from(view(lists)).unwrap();
+    let ellipsis = ELLIPSIS.with(|e| typed(&e.0));
+    let parts: Vec<_> = rows(input).into_iter().map(|row| (typed(&row.lists), row)).collect();
+    let rust = |row: &Row| {
+        let mut out = FormatRecorder::new(false);
+        ELLIPSIS.with(|e| original::write_truncated_end(&mut out, &row.recorder, &e.1, row.width / 2)).unwrap();
+        out
+    };
+    let out = Rc::new(RefCell::new(ruszvedok::FormatRecorder::new()));
+    let kept = out.clone();
+    let rattle = move |(typed, row): &(ruszvedok::FormatRecorder, Row)| {
+        ruszvedok::write_truncated_end(&mut kept.borrow_mut(), typed, &ellipsis, row.width / 2).unwrap()
+    };
+    let check = |part: &(ruszvedok::FormatRecorder, Row)| -> Result<(), String> {
+        rattle(part);
+        let same = *out.borrow() == typed(&Recording::from_recorder(&rust(&part.1)).to_lists());
+        if same { Ok(()) } else { Err("other results".into()) }
+    };
+    parts.iter().try_for_each(check)?;
+    Pair::new(parts, |_| Ok(()), move |(_, row)| rust(row), rattle)
 }
 
 /// By 20 columns more than it has.
