@@ -2,13 +2,15 @@
 use std::cell::RefCell;
 use std::hint::black_box;
 use std::io::{Result as Io, Write as _};
+use std::rc::Rc;
 
 use bench::inputs::{Input, ROWS, SHORT_ROWS, SIZES, Size};
 use bench::recordings::view;
+use bench::room::Room;
 use bench::timing::Pair;
-use bindings::{Answer, Place, Room, Used};
 use oracle::original::{FormatRecorder, Formatter};
 use oracle::{Entry, Kind, Lists, Recording, original};
+use ruszvedok::lent::{self, Answer, Place, Replacement, Used};
 
 pub struct Case {
     pub name: &'static str,
@@ -23,6 +25,7 @@ pub const CASES: &[Case] = &[
     Case { name: "text_width_and_truncate_start_pos", sizes: &SIZES, sides: text_width_and_truncate_start_pos },
     Case { name: "well_formed", sizes: &SIZES, sides: well_formed },
     Case { name: "replay", sizes: &ROWS, sides: replay },
+    Case { name: "copy", sizes: &ROWS, sides: copy },
     Case { name: "write_truncated_start", sizes: &ROWS, sides: write_truncated_start },
     Case { name: "write_truncated_end", sizes: &ROWS, sides: write_truncated_end },
     Case { name: "write_padded_start", sizes: &ROWS, sides: write_padded_start },
@@ -35,11 +38,15 @@ pub const CASES: &[Case] = &[
     Case { name: "elide_start", sizes: &ROWS, sides: elide_start },
     Case { name: "elide_end", sizes: &ROWS, sides: elide_end },
     Case { name: "complete_newline", sizes: &ROWS, sides: complete_newline },
+    Case { name: "elide_start_from_bytes", sizes: &ROWS, sides: elide_start_from_bytes },
+    Case { name: "elide_end_from_bytes", sizes: &ROWS, sides: elide_end_from_bytes },
+    Case { name: "complete_newline_from_bytes", sizes: &ROWS, sides: complete_newline_from_bytes },
+    Case { name: "typed_write_truncated_end", sizes: &ROWS, sides: typed_write_truncated_end },
     Case { name: "made_by_adding", sizes: &SHORT_ROWS, sides: made_by_adding },
 ];
 
 fn text_width(input: &Input) -> Result<Pair, String> {
-    Pair::of_values(input.texts.clone(), |s| original::text_width(s) as u64, |s| bindings::text_width(s))
+    Pair::of_values(input.texts.clone(), |s| original::text_width(s) as u64, |s| lent::text_width(s))
 }
 
 /// Each text with half of its width, so that the cut is in its middle.
@@ -55,7 +62,7 @@ fn truncate_end_pos(input: &Input) -> Result<Pair, String> {
     Pair::of_values(
         halves(input),
         |(s, max)| place(original::truncate_end_pos_bytes(s, *max)),
-        |(s, max)| bindings::truncate_end_pos(s, *max as u64),
+        |(s, max)| lent::truncate_end_pos(s, *max as u64),
     )
 }
 
@@ -64,7 +71,7 @@ fn truncate_start_pos(input: &Input) -> Result<Pair, String> {
     Pair::of_values(
         halves(input),
         |(s, max)| place(original::truncate_start_pos_bytes(s, *max)),
-        |(s, max)| bindings::truncate_start_pos(s, *max as u64),
+        |(s, max)| lent::truncate_start_pos(s, *max as u64),
     )
 }
 
@@ -76,12 +83,12 @@ fn text_width_and_truncate_start_pos(input: &Input) -> Result<Pair, String> {
             black_box(original::text_width(s));
             place(original::truncate_start_pos_bytes(s, *max))
         },
-        |(s, max)| bindings::truncate_start_pos(s, *max as u64),
+        |(s, max)| lent::truncate_start_pos(s, *max as u64),
     )
 }
 
 fn well_formed(input: &Input) -> Result<Pair, String> {
-    Pair::of_values(input.texts.clone(), |s| std::str::from_utf8(s).is_ok(), |s| bindings::well_formed(s))
+    Pair::of_values(input.texts.clone(), |s| std::str::from_utf8(s).is_ok(), |s| lent::well_formed(s))
 }
 
 /// A text with entries, in both forms: six entries in a short row, one for each 512 bytes of a long text.
@@ -153,7 +160,22 @@ fn recorded(
 }
 
 fn replay(input: &Input) -> Result<Pair, String> {
-    recorded(input, |row, out| row.recorder.replay(out).map(|()| 0), |row, room| bindings::replay(view(&row.lists), room))
+    recorded(input, |row, out| row.recorder.replay(out).map(|()| 0), |row, room| lent::replay(view(&row.lists), room.lent()))
+}
+
+/// The floor of the calls that copy: a bare copy of the data on the library's side, `replay` on Rust's.
+fn copy(input: &Input) -> Result<Pair, String> {
+    let room = RefCell::new(Room::full());
+    Pair::new(
+        rows(input),
+        |_| Ok(()),
+        |row| {
+            let mut out = FormatRecorder::new(false);
+            row.recorder.replay(&mut out).unwrap();
+            out
+        },
+        move |row| room.borrow_mut().data[..row.lists.data.len()].copy_from_slice(&row.lists.data),
+    )
 }
 
 thread_local! {
@@ -167,7 +189,7 @@ fn write_truncated_start(input: &Input) -> Result<Pair, String> {
     recorded(
         input,
         |row, out| ELLIPSIS.with(|e| original::write_truncated_start(out, &row.recorder, &e.1, row.width / 2)).map(|n| n as u64),
-        |row, room| ELLIPSIS.with(|e| bindings::write_truncated_start(view(&row.lists), view(&e.0), row.width as u32 / 2, room)),
+        |row, room| ELLIPSIS.with(|e| lent::write_truncated_start(view(&row.lists), view(&e.0), row.width as u32 / 2, room.lent())),
     )
 }
 
@@ -175,8 +197,32 @@ fn write_truncated_end(input: &Input) -> Result<Pair, String> {
     recorded(
         input,
         |row, out| ELLIPSIS.with(|e| original::write_truncated_end(out, &row.recorder, &e.1, row.width / 2)).map(|n| n as u64),
-        |row, room| ELLIPSIS.with(|e| bindings::write_truncated_end(view(&row.lists), view(&e.0), row.width as u32 / 2, room)),
+        |row, room| ELLIPSIS.with(|e| lent::write_truncated_end(view(&row.lists), view(&e.0), row.width as u32 / 2, room.lent())),
     )
+}
+
+/// The same through the type with its own buffers, which the first call has grown.
+fn typed_write_truncated_end(input: &Input) -> Result<Pair, String> {
+    let typed = |lists: &Lists| ruszvedok::FormatRecorder::try_from(view(lists)).unwrap();
+    let ellipsis = ELLIPSIS.with(|e| typed(&e.0));
+    let parts: Vec<_> = rows(input).into_iter().map(|row| (typed(&row.lists), row)).collect();
+    let rust = |row: &Row| {
+        let mut out = FormatRecorder::new(false);
+        ELLIPSIS.with(|e| original::write_truncated_end(&mut out, &row.recorder, &e.1, row.width / 2)).unwrap();
+        out
+    };
+    let out = Rc::new(RefCell::new(ruszvedok::FormatRecorder::new()));
+    let kept = out.clone();
+    let rattle = move |(typed, row): &(ruszvedok::FormatRecorder, Row)| {
+        ruszvedok::write_truncated_end(&mut kept.borrow_mut(), typed, &ellipsis, row.width / 2).unwrap()
+    };
+    let check = |part: &(ruszvedok::FormatRecorder, Row)| -> Result<(), String> {
+        rattle(part);
+        let same = *out.borrow() == typed(&Recording::from_recorder(&rust(&part.1)).to_lists());
+        if same { Ok(()) } else { Err("other results".into()) }
+    };
+    parts.iter().try_for_each(check)?;
+    Pair::new(parts, |_| Ok(()), move |(_, row)| rust(row), rattle)
 }
 
 /// By 20 columns more than it has.
@@ -184,7 +230,7 @@ fn write_padded_start(input: &Input) -> Result<Pair, String> {
     recorded(
         input,
         |row, out| FILL.with(|f| original::write_padded_start(out, &row.recorder, &f.1, row.width + 20)).map(|_| 0),
-        |row, room| FILL.with(|f| bindings::write_padded_start(view(&row.lists), view(&f.0), row.width as u32 + 20, room)),
+        |row, room| FILL.with(|f| lent::write_padded_start(view(&row.lists), view(&f.0), row.width as u32 + 20, room.lent())),
     )
 }
 
@@ -192,7 +238,7 @@ fn write_padded_end(input: &Input) -> Result<Pair, String> {
     recorded(
         input,
         |row, out| FILL.with(|f| original::write_padded_end(out, &row.recorder, &f.1, row.width + 20)).map(|_| 0),
-        |row, room| FILL.with(|f| bindings::write_padded_end(view(&row.lists), view(&f.0), row.width as u32 + 20, room)),
+        |row, room| FILL.with(|f| lent::write_padded_end(view(&row.lists), view(&f.0), row.width as u32 + 20, room.lent())),
     )
 }
 
@@ -200,7 +246,7 @@ fn write_padded_centered(input: &Input) -> Result<Pair, String> {
     recorded(
         input,
         |row, out| FILL.with(|f| original::write_padded_centered(out, &row.recorder, &f.1, row.width + 20)).map(|_| 0),
-        |row, room| FILL.with(|f| bindings::write_padded_centered(view(&row.lists), view(&f.0), row.width as u32 + 20, room)),
+        |row, room| FILL.with(|f| lent::write_padded_centered(view(&row.lists), view(&f.0), row.width as u32 + 20, room.lent())),
     )
 }
 
@@ -208,7 +254,7 @@ fn write_indented(input: &Input) -> Result<Pair, String> {
     recorded(
         input,
         |row, out| PREFIX.with(|p| original::write_indented(out, &row.recorder, |out| p.1.replay(out))).map(|_| 0),
-        |row, room| PREFIX.with(|p| bindings::write_indented(view(&row.lists), view(&p.0), room)),
+        |row, room| PREFIX.with(|p| lent::write_indented(view(&row.lists), view(&p.0), room.lent())),
     )
 }
 
@@ -219,7 +265,7 @@ fn columns(row: &Row) -> usize {
 
 fn wrap_bytes(input: &Input) -> Result<Pair, String> {
     let most = 2 * input.size + 4;
-    let rattle = |row: &Row, lines: &mut [u32]| bindings::wrap_bytes(&row.lists.data, columns(row) as u32, false, lines);
+    let rattle = |row: &Row, lines: &mut [u32]| lent::wrap_bytes(&row.lists.data, columns(row) as u32, false, lines);
     let check = move |row: &Row| {
         let expected = oracle::wrap_bytes(&row.lists.data, columns(row), false);
         let mut lines = vec![0; most];
@@ -247,7 +293,7 @@ fn write_wrapped(input: &Input) -> Result<Pair, String> {
         |row, out| original::write_wrapped(out, &row.recorder, columns(row), false).map(|_| 0),
         |row, room| {
             let width = columns(row) as u32;
-            let answer = LINES.with(|lines| bindings::write_wrapped(view(&row.lists), width, false, room, &mut lines.borrow_mut()));
+            let answer = LINES.with(|lines| lent::write_wrapped(view(&row.lists), width, false, room.lent(), &mut lines.borrow_mut()));
             Answer { number: 0, ..answer }
         },
     )
@@ -262,8 +308,9 @@ fn write_replaced(input: &Input) -> Result<Pair, String> {
             original::write_replaced(out, &row.recorder, &ranges, |out, _| out.write_all(b"new")).map(|_| 0)
         },
         |row, room| {
-            let records: Vec<u32> = (0..row.lists.data.len() as u32 / 32).flat_map(|i| [i * 32, i * 32 + 4, 0, 3]).collect();
-            bindings::write_replaced(view(&row.lists), &records, b"new", room)
+            let record = |i| Replacement { start: i * 32, end: i * 32 + 4, from: 0, to: 3 };
+            let records: Vec<_> = (0..row.lists.data.len() as u32 / 32).map(record).collect();
+            lent::write_replaced(view(&row.lists), &records, b"new", room.lent())
         },
     )
 }
@@ -298,15 +345,32 @@ fn texts(
 }
 
 fn elide_start(input: &Input) -> Result<Pair, String> {
-    texts(input, |s, max| oracle::elide_start(s, "..", max), |s, max, out| bindings::elide_start(s, b"..", max, out))
+    texts(input, |s, max| oracle::elide_start(s, "..", max), |s, max, out| lent::elide_start(s, b"..", max, out))
 }
 
 fn elide_end(input: &Input) -> Result<Pair, String> {
-    texts(input, |s, max| oracle::elide_end(s, "..", max), |s, max, out| bindings::elide_end(s, b"..", max, out))
+    texts(input, |s, max| oracle::elide_end(s, "..", max), |s, max, out| lent::elide_end(s, b"..", max, out))
 }
 
 fn complete_newline(input: &Input) -> Result<Pair, String> {
-    texts(input, |s, _| (oracle::complete_newline(s), 0), |s, _, out| bindings::complete_newline(s, out))
+    texts(input, |s, _| (oracle::complete_newline(s), 0), |s, _, out| lent::complete_newline(s, out))
+}
+
+/// A text that Rust's side has as bytes and tests first, as the library does in each call; above, its `str` has been tested before.
+fn tested(bytes: &[u8]) -> &str {
+    std::str::from_utf8(black_box(bytes)).unwrap()
+}
+
+fn elide_start_from_bytes(input: &Input) -> Result<Pair, String> {
+    texts(input, |s, max| oracle::elide_start(tested(s.as_bytes()), "..", max), |s, max, out| lent::elide_start(s, b"..", max, out))
+}
+
+fn elide_end_from_bytes(input: &Input) -> Result<Pair, String> {
+    texts(input, |s, max| oracle::elide_end(tested(s.as_bytes()), "..", max), |s, max, out| lent::elide_end(s, b"..", max, out))
+}
+
+fn complete_newline_from_bytes(input: &Input) -> Result<Pair, String> {
+    texts(input, |s, _| (oracle::complete_newline(tested(s.as_bytes())), 0), |s, _, out| lent::complete_newline(s, out))
 }
 
 /// A recording made from nothing by appending data, labels and pops.
@@ -326,17 +390,17 @@ fn made_by_adding(input: &Input) -> Result<Pair, String> {
             out.write_all(&row.recording.data[at..]).map(|()| 0)
         },
         |row, room| {
-            let used = |a: Answer| Used { data: a.data as usize, entries: a.entries as usize, text: a.text as usize };
             let (mut at, mut u) = (0, Used::default());
             for entry in &row.recording.entries {
-                u = used(bindings::write(room, u, &row.recording.data[at..entry.at]));
+                u = lent::write(room.lent(), u, &row.recording.data[at..entry.at]).used();
                 at = entry.at;
-                u = used(match entry.kind {
-                    Kind::Push => bindings::push_label(room, u, &entry.text),
-                    _ => bindings::pop_label(room, u),
-                });
+                let added = match entry.kind {
+                    Kind::Push => lent::push_label(room.lent(), u, &entry.text),
+                    _ => lent::pop_label(room.lent(), u),
+                };
+                u = added.used();
             }
-            bindings::write(room, u, &row.recording.data[at..])
+            lent::write(room.lent(), u, &row.recording.data[at..])
         },
     )
 }

@@ -1,9 +1,10 @@
 //! Recordings that are compared: made at random, with texts that lie anywhere, some of them damaged; and what the library must answer,
 //! worked out from the original's result and the sizes alone.
-use bindings::{Answer, LIMITS, Room, View};
 use oracle::{Entry, Kind, Lists, Recording};
+use ruszvedok::lent::{Answer, View};
 
 use crate::inputs::{Numbers, damaged};
+use crate::room::{LIMITS, Room};
 
 /// What is lent to a call.
 pub fn view(lists: &Lists) -> View<'_> {
@@ -189,6 +190,11 @@ impl Expected {
             _ => sizes.iter_mut().for_each(|n| *n += numbers.within(0, 9) as usize),
         }
         (sizes[0], sizes[1], sizes[2], sizes[3])
+    }
+
+    /// Room for one element more than is needed.
+    pub fn enough(&self) -> (usize, usize, usize, usize) {
+        (self.result.data.len() + 1, self.result.entries.len() + 1, self.result.text.len() + 1, self.lines.len() + 1)
     }
 
     /// Whether answer and buffers are as they must be: the result, with what lies beyond untouched; after a refusal all of it untouched.

@@ -1,16 +1,26 @@
 //! Compares the library's results with the originals' on generated inputs: `compare [--seed N] [COUNT] [CALL...]`.
-//! A new call is one more line of `CALLS`. The first difference is printed with its input and ends the run.
+//! A new call is one more line of `CALLS`, or of `MANY` if it makes calls of its own number. The first difference is printed with its
+//! input and ends the run.
+mod exhaustive;
+mod lists;
+mod typed;
+
 use std::fmt::Debug;
 use std::process::ExitCode;
 
 use bench::inputs::{Numbers, damaged};
 use bench::recordings::{Expected, at_a_limit, content, fault, maybe_damaged, recording, scattered, view};
-use bindings::{Answer, LIMITS, Place, Room, Used, View};
+use bench::room::{LIMITS, Room};
 use oracle::original::Formatter as _;
-use oracle::{Lists, Recording, Replacement};
+use oracle::{Lists, Recording};
+use ruszvedok::lent::{self, Answer, Buffers, Place, Replacement, Used, View};
 use std::io::Write as _;
 
+/// One call on one generated input.
 type Call = fn(&mut Numbers) -> Result<(), String>;
+
+/// Many calls, for the number of cases that is asked for; gives back how many were made.
+type Many = fn(&mut Numbers, u64) -> Result<u64, String>;
 
 const CALLS: &[(&str, Call)] = &[
     ("text_width", text_width),
@@ -19,17 +29,17 @@ const CALLS: &[(&str, Call)] = &[
     ("truncate_start_pos", truncate_start_pos),
     ("zero_width_len", zero_width_len),
     ("replay", replay),
-    ("write_truncated_start", |n| with_second(n, oracle::write_truncated_start, bindings::write_truncated_start, true)),
-    ("write_truncated_end", |n| with_second(n, oracle::write_truncated_end, bindings::write_truncated_end, true)),
-    ("write_padded_start", |n| with_second(n, |c, f, w| (oracle::write_padded_start(c, f, w), 0), bindings::write_padded_start, false)),
-    ("write_padded_end", |n| with_second(n, |c, f, w| (oracle::write_padded_end(c, f, w), 0), bindings::write_padded_end, false)),
-    ("write_padded_centered", |n| with_second(n, |c, f, w| (oracle::write_padded_centered(c, f, w), 0), bindings::write_padded_centered, false)),
+    ("write_truncated_start", |n| with_second(n, oracle::write_truncated_start, lent::write_truncated_start, true)),
+    ("write_truncated_end", |n| with_second(n, oracle::write_truncated_end, lent::write_truncated_end, true)),
+    ("write_padded_start", |n| with_second(n, |c, f, w| (oracle::write_padded_start(c, f, w), 0), lent::write_padded_start, false)),
+    ("write_padded_end", |n| with_second(n, |c, f, w| (oracle::write_padded_end(c, f, w), 0), lent::write_padded_end, false)),
+    ("write_padded_centered", |n| with_second(n, |c, f, w| (oracle::write_padded_centered(c, f, w), 0), lent::write_padded_centered, false)),
     ("write_indented", write_indented),
     ("wrap_bytes", wrap_bytes),
     ("write_wrapped", write_wrapped),
     ("write_replaced", write_replaced),
-    ("elide_start", |n| elide(n, oracle::elide_start, bindings::elide_start)),
-    ("elide_end", |n| elide(n, oracle::elide_end, bindings::elide_end)),
+    ("elide_start", |n| elide(n, oracle::elide_start, lent::elide_start)),
+    ("elide_end", |n| elide(n, oracle::elide_end, lent::elide_end)),
     ("complete_newline", complete_newline),
     ("write", |n| adding(n, 0)),
     ("push_label", |n| adding(n, 1)),
@@ -37,18 +47,48 @@ const CALLS: &[(&str, Call)] = &[
     ("raw", |n| adding(n, 3)),
 ];
 
+const MANY: &[(&str, Many)] = &[
+    ("lists_of_calls", lists::lists_of_calls),
+    ("typed_recorders", typed::recorders),
+    ("typed_texts", typed::texts),
+    ("exhaustive_text_width", |_, _| exhaustive::text_width()),
+    ("exhaustive_well_formed", |_, _| exhaustive::well_formed()),
+    ("exhaustive_zero_width_len", |_, _| exhaustive::zero_width_len()),
+    ("exhaustive_truncate_end_pos", |_, _| exhaustive::truncate_end_pos()),
+    ("exhaustive_truncate_start_pos", |_, _| exhaustive::truncate_start_pos()),
+    ("exhaustive_wrap_bytes", |n, _| exhaustive::wrap_bytes(n)),
+    ("exhaustive_elide_start", |n, _| exhaustive::elide(n, oracle::elide_start, lent::elide_start)),
+    ("exhaustive_elide_end", |n, _| exhaustive::elide(n, oracle::elide_end, lent::elide_end)),
+    ("exhaustive_complete_newline", |n, _| exhaustive::complete_newline(n)),
+    ("exhaustive_replay", |n, _| exhaustive::replay(n)),
+    ("exhaustive_write_truncated_start", |n, _| exhaustive::with_second(n, oracle::write_truncated_start, lent::write_truncated_start)),
+    ("exhaustive_write_truncated_end", |n, _| exhaustive::with_second(n, oracle::write_truncated_end, lent::write_truncated_end)),
+    ("exhaustive_write_padded_start", |n, _| exhaustive::with_second(n, |c, f, w| (oracle::write_padded_start(c, f, w), 0), lent::write_padded_start)),
+    ("exhaustive_write_padded_end", |n, _| exhaustive::with_second(n, |c, f, w| (oracle::write_padded_end(c, f, w), 0), lent::write_padded_end)),
+    ("exhaustive_write_padded_centered", |n, _| exhaustive::with_second(n, |c, f, w| (oracle::write_padded_centered(c, f, w), 0), lent::write_padded_centered)),
+    ("exhaustive_write_indented", |n, _| exhaustive::write_indented(n)),
+    ("exhaustive_write_wrapped", |n, _| exhaustive::write_wrapped(n)),
+    ("exhaustive_write_replaced", |n, _| exhaustive::write_replaced(n)),
+];
+
 fn same<A: PartialEq + Debug>(expected: A, got: A, input: &dyn Debug) -> Result<(), String> {
     if expected == got { Ok(()) } else { Err(format!("Rust {expected:?}, Rattle {got:?} on {input:x?}")) }
 }
 
 fn text_width(numbers: &mut Numbers) -> Result<(), String> {
-    let s = damaged(numbers);
-    same(oracle::text_width(&s) as u64, bindings::text_width(&s), &s)
+    text_width_of(&damaged(numbers))
+}
+
+fn text_width_of(s: &[u8]) -> Result<(), String> {
+    same(oracle::text_width(s) as u64, lent::text_width(s), &s)
 }
 
 fn well_formed(numbers: &mut Numbers) -> Result<(), String> {
-    let s = damaged(numbers);
-    same(std::str::from_utf8(&s).is_ok(), bindings::well_formed(&s), &s)
+    well_formed_of(&damaged(numbers))
+}
+
+fn well_formed_of(s: &[u8]) -> Result<(), String> {
+    same(std::str::from_utf8(s).is_ok(), lent::well_formed(s), &s)
 }
 
 fn place((pos, width): (usize, usize)) -> Place {
@@ -66,18 +106,29 @@ fn width_for(s: &[u8], numbers: &mut Numbers) -> usize {
 fn truncate_end_pos(numbers: &mut Numbers) -> Result<(), String> {
     let s = damaged(numbers);
     let max = width_for(&s, numbers);
-    same(place(oracle::truncate_end_pos_bytes(&s, max)), bindings::truncate_end_pos(&s, max as u64), &(&s, max))
+    truncate_end_pos_of(&s, max)
+}
+
+fn truncate_end_pos_of(s: &[u8], max: usize) -> Result<(), String> {
+    same(place(oracle::truncate_end_pos_bytes(s, max)), lent::truncate_end_pos(s, max as u64), &(s, max))
 }
 
 fn truncate_start_pos(numbers: &mut Numbers) -> Result<(), String> {
     let s = damaged(numbers);
     let max = width_for(&s, numbers);
-    same(place(oracle::truncate_start_pos_bytes(&s, max)), bindings::truncate_start_pos(&s, max as u64), &(&s, max))
+    truncate_start_pos_of(&s, max)
+}
+
+fn truncate_start_pos_of(s: &[u8], max: usize) -> Result<(), String> {
+    same(place(oracle::truncate_start_pos_bytes(s, max)), lent::truncate_start_pos(s, max as u64), &(s, max))
 }
 
 fn zero_width_len(numbers: &mut Numbers) -> Result<(), String> {
-    let s = damaged(numbers);
-    same(oracle::count_start_zero_width_chars_bytes(&s), bindings::zero_width_len(&s), &s)
+    zero_width_len_of(&damaged(numbers))
+}
+
+fn zero_width_len_of(s: &[u8]) -> Result<(), String> {
+    same(oracle::count_start_zero_width_chars_bytes(s), lent::zero_width_len(s), &s)
 }
 
 /// A content or a second recording in the library's form, its fault, and the recording that it is if it has none.
@@ -96,18 +147,32 @@ fn read(mut lists: Lists, numbers: &mut Numbers) -> (Lists, u64, Recording) {
     (lists, fault, recording)
 }
 
-/// Lends buffers to the library's call and compares all that it leaves.
+/// Lends buffers to the library's call and compares all that it leaves. A call refused for its buffers is made again with enough.
 fn lend(
     numbers: &mut Numbers,
     expected: Expected,
-    call: impl FnOnce(&mut Room, &mut [u32]) -> Answer,
+    mut call: impl FnMut(&mut Room, &mut [u32]) -> Answer,
     input: &dyn Debug,
 ) -> Result<(), String> {
-    let sizes = expected.room(numbers);
+    let (got, _) = lend_to(expected.room(numbers), &expected, &mut call, input)?;
+    if got.refusal > 20 {
+        lend_to(expected.enough(), &expected, &mut call, input)?;
+    }
+    Ok(())
+}
+
+/// One call over buffers of these lengths; gives back the answer and the buffers.
+fn lend_to(
+    sizes: (usize, usize, usize, usize),
+    expected: &Expected,
+    call: impl FnOnce(&mut Room, &mut [u32]) -> Answer,
+    input: &dyn Debug,
+) -> Result<(Answer, Room), String> {
     let (mut room, mut lines) = (Room::of(sizes.0, sizes.1, sizes.2), vec![0xA5A5_A5A5; sizes.3]);
     let got = call(&mut room, &mut lines);
     REFUSED.with(|n| n.set(n.get() + (got.refusal != 0) as u64));
-    expected.check(got, &room, &lines).map_err(|e| format!("{e} on {input:x?}, buffers of {sizes:?}"))
+    expected.check(got, &room, &lines).map_err(|e| format!("{e} on {input:x?}, buffers of {sizes:?}"))?;
+    Ok((got, room))
 }
 
 thread_local! {
@@ -119,14 +184,14 @@ fn replay(numbers: &mut Numbers) -> Result<(), String> {
     let (lists, fault, content) = input(numbers, 8);
     let result = oracle::replay(&content).to_lists();
     let expected = Expected { faults: vec![fault], result, lines: vec![], number: 0 };
-    lend(numbers, expected, |room, _| bindings::replay(view(&lists), room), &lists)
+    lend(numbers, expected, |room, _| lent::replay(view(&lists), room.lent()), &lists)
 }
 
 /// A truncating or a padding call. `any`: also at the largest width.
 fn with_second(
     numbers: &mut Numbers,
     rust: fn(&Recording, &Recording, usize) -> (Recording, usize),
-    rattle: fn(View, View, u32, &mut Room) -> Answer,
+    rattle: fn(View, View, u32, Buffers) -> Answer,
     any: bool,
 ) -> Result<(), String> {
     let (lists, fault, content) = input(numbers, 8);
@@ -144,7 +209,7 @@ fn with_second(
     let over = if huge && !second.data.is_empty() { 9 } else { 0 };
     let (result, number) = if (fault, second_fault) == (0, 0) { rust(&content, &second, rust_width) } else { Default::default() };
     let expected = Expected { faults: vec![fault, second_fault, over], result: result.to_lists(), lines: vec![], number: number as u64 };
-    let call = |room: &mut Room, _: &mut [u32]| rattle(view(&lists), view(&second_lists), width as u32, room);
+    let call = |room: &mut Room, _: &mut [u32]| rattle(view(&lists), view(&second_lists), width as u32, room.lent());
     lend(numbers, expected, call, &(&lists, &second_lists, width))
 }
 
@@ -159,7 +224,7 @@ fn write_indented(numbers: &mut Numbers) -> Result<(), String> {
     }
     let result = if (fault, second_fault) == (0, 0) { oracle::write_indented(&content, &second) } else { Default::default() };
     let expected = Expected { faults: vec![fault, second_fault], result: result.to_lists(), lines: vec![], number: 0 };
-    lend(numbers, expected, |room, _| bindings::write_indented(view(&lists), view(&second_lists), room), &(&lists, &second_lists))
+    lend(numbers, expected, |room, _| lent::write_indented(view(&lists), view(&second_lists), room.lent()), &(&lists, &second_lists))
 }
 
 fn numbers_of(lines: Vec<(usize, usize)>) -> Vec<u32> {
@@ -177,21 +242,30 @@ fn wrap_width(data: &[u8], numbers: &mut Numbers) -> usize {
 fn wrap_bytes(numbers: &mut Numbers) -> Result<(), String> {
     let data = content(numbers);
     let (width, break_words) = (wrap_width(&data, numbers), numbers.within(0, 1) == 0);
-    let lines = numbers_of(oracle::wrap_bytes(&data, width, break_words));
+    wrap_bytes_of(&data, width, break_words, numbers)
+}
+
+fn wrap_bytes_of(data: &[u8], width: usize, break_words: bool, numbers: &mut Numbers) -> Result<(), String> {
+    let lines = numbers_of(oracle::wrap_bytes(data, width, break_words));
     let number = lines.len() as u64 / 2;
     let expected = Expected { faults: vec![], result: Lists::default(), lines, number };
-    lend(numbers, expected, |_, lines| bindings::wrap_bytes(&data, width as u32, break_words, lines), &(&data, width, break_words))
+    lend(numbers, expected, |_, lines| lent::wrap_bytes(data, width as u32, break_words, lines), &(data, width, break_words))
 }
 
 fn write_wrapped(numbers: &mut Numbers) -> Result<(), String> {
     let (lists, fault, content) = input(numbers, 8);
     let (width, break_words) = (wrap_width(&lists.data, numbers), numbers.within(0, 1) == 0);
+    write_wrapped_of((&lists, fault, &content), width, break_words, numbers)
+}
+
+/// The content as its lists, its fault and its recording.
+fn write_wrapped_of((lists, fault, content): (&Lists, u64, &Recording), width: usize, break_words: bool, numbers: &mut Numbers) -> Result<(), String> {
     let lines = numbers_of(oracle::wrap_bytes(&content.data, width, break_words));
-    let result = oracle::write_wrapped(&content, width, break_words).to_lists();
+    let result = oracle::write_wrapped(content, width, break_words).to_lists();
     let number = lines.len() as u64 / 2;
     let expected = Expected { faults: vec![fault], result, lines, number };
-    let call = |room: &mut Room, lines: &mut [u32]| bindings::write_wrapped(view(&lists), width as u32, break_words, room, lines);
-    lend(numbers, expected, call, &(&lists, width, break_words))
+    let call = |room: &mut Room, lines: &mut [u32]| lent::write_wrapped(view(lists), width as u32, break_words, room.lent(), lines);
+    lend(numbers, expected, call, &(lists, width, break_words))
 }
 
 /// Document 01's refusal 8.
@@ -206,22 +280,21 @@ fn records_fault(records: &[Replacement], data: usize, text: usize) -> u64 {
     0
 }
 
-fn write_replaced(numbers: &mut Numbers) -> Result<(), String> {
-    let (lists, fault, content) = input(numbers, 8);
-    let text = damaged(numbers);
+/// Up to four replacements, now and then a wrong number in one of them.
+fn records(data: usize, text: usize, numbers: &mut Numbers) -> Vec<Replacement> {
     let (count, mut at) = (numbers.within(0, 4), 0);
     let mut records = vec![];
     for _ in 0..count {
-        let start = numbers.within(at, lists.data.len() as u64);
-        let end = numbers.within(start, (start + 5).min(lists.data.len() as u64));
-        let from = numbers.within(0, text.len() as u64);
-        let to = numbers.within(from, text.len() as u64);
+        let start = numbers.within(at, data as u64);
+        let end = numbers.within(start, (start + 5).min(data as u64));
+        let from = numbers.within(0, text as u64);
+        let to = numbers.within(from, text as u64);
         at = end;
         records.push(Replacement { start: start as u32, end: end as u32, from: from as u32, to: to as u32 });
     }
     if count > 0 && numbers.within(0, 11) == 0 {
         let r = &mut records[numbers.within(0, count - 1) as usize];
-        let n = numbers.within(0, lists.data.len() as u64 + 1) as u32;
+        let n = numbers.within(0, data as u64 + 1) as u32;
         match numbers.within(0, 4) {
             0 => r.start = n,
             1 => r.end = n,
@@ -230,11 +303,22 @@ fn write_replaced(numbers: &mut Numbers) -> Result<(), String> {
             _ => r.end = u32::MAX,
         }
     }
-    let due = records_fault(&records, lists.data.len(), text.len());
-    let result = if (fault, due) == (0, 0) { oracle::write_replaced(&content, &records, &text) } else { Default::default() };
+    records
+}
+
+fn write_replaced(numbers: &mut Numbers) -> Result<(), String> {
+    let (lists, fault, content) = input(numbers, 8);
+    let text = damaged(numbers);
+    let records = records(lists.data.len(), text.len(), numbers);
+    write_replaced_of((&lists, fault, &content), &records, &text, numbers)
+}
+
+fn write_replaced_of((lists, fault, content): (&Lists, u64, &Recording), records: &[Replacement], text: &[u8], numbers: &mut Numbers) -> Result<(), String> {
+    let due = records_fault(records, lists.data.len(), text.len());
+    let theirs: Vec<_> = records.iter().map(|r| oracle::Replacement { start: r.start, end: r.end, from: r.from, to: r.to }).collect();
+    let result = if (fault, due) == (0, 0) { oracle::write_replaced(content, &theirs, text) } else { Default::default() };
     let expected = Expected { faults: vec![fault, due], result: result.to_lists(), lines: vec![], number: 0 };
-    let flat: Vec<u32> = records.iter().flat_map(|r| [r.start, r.end, r.from, r.to]).collect();
-    lend(numbers, expected, |room, _| bindings::write_replaced(view(&lists), &flat, &text, room), &(&lists, &flat, &text))
+    lend(numbers, expected, |room, _| lent::write_replaced(view(lists), records, text, room.lent()), &(lists, records, text))
 }
 
 /// A text that is well-formed, mostly.
@@ -253,24 +337,38 @@ fn elide(
         0 => u32::MAX as usize,
         _ => numbers.within(0, oracle::text_width(&text) as u64 + 3) as usize,
     };
-    let (fault, (result, number)) = match (std::str::from_utf8(&text), std::str::from_utf8(&ellipsis)) {
+    elide_of(&text, &ellipsis, width, rust, rattle, numbers)
+}
+
+fn elide_of(
+    text: &[u8],
+    ellipsis: &[u8],
+    width: usize,
+    rust: fn(&str, &str, usize) -> (String, usize),
+    rattle: fn(&[u8], &[u8], u32, &mut [u8]) -> Answer,
+    numbers: &mut Numbers,
+) -> Result<(), String> {
+    let (fault, (result, number)) = match (std::str::from_utf8(text), std::str::from_utf8(ellipsis)) {
         (Ok(t), Ok(e)) => (0, rust(t, e, width)),
         _ => (7, Default::default()),
     };
     let result = Lists { data: result.into_bytes(), ..Lists::default() };
     let expected = Expected { faults: vec![fault], result, lines: vec![], number: number as u64 };
-    lend(numbers, expected, |room, _| rattle(&text, &ellipsis, width as u32, &mut room.data), &(&text, &ellipsis, width))
+    lend(numbers, expected, |room, _| rattle(text, ellipsis, width as u32, &mut room.data), &(text, ellipsis, width))
 }
 
 fn complete_newline(numbers: &mut Numbers) -> Result<(), String> {
-    let text = plain(numbers);
-    let (fault, result) = match std::str::from_utf8(&text) {
+    complete_newline_of(&plain(numbers), numbers)
+}
+
+fn complete_newline_of(text: &[u8], numbers: &mut Numbers) -> Result<(), String> {
+    let (fault, result) = match std::str::from_utf8(text) {
         Ok(t) => (0, oracle::complete_newline(t)),
         Err(_) => (7, String::new()),
     };
     let result = Lists { data: result.into_bytes(), ..Lists::default() };
     let expected = Expected { faults: vec![fault], result, lines: vec![], number: 0 };
-    lend(numbers, expected, |room, _| bindings::complete_newline(&text, &mut room.data), &text)
+    lend(numbers, expected, |room, _| lent::complete_newline(text, &mut room.data), &text)
 }
 
 /// The calls that add: 0 data, 1 a label, 2 a pop, 3 a raw sequence. What they leave must also be, read back, what the original has.
@@ -315,10 +413,10 @@ fn adding(numbers: &mut Numbers, kind: u64) -> Result<(), String> {
     room.text[..used.text].copy_from_slice(&lists.text);
     let before = room.clone();
     let got = match kind {
-        0 => bindings::write(&mut room, used, &added),
-        1 => bindings::push_label(&mut room, used, &added),
-        2 => bindings::pop_label(&mut room, used),
-        _ => bindings::raw(&mut room, used, &added),
+        0 => lent::write(room.lent(), used, &added),
+        1 => lent::push_label(room.lent(), used, &added),
+        2 => lent::pop_label(room.lent(), used),
+        _ => lent::raw(room.lent(), used, &added),
     };
     REFUSED.with(|n| n.set(n.get() + (got.refusal != 0) as u64));
     if got.refusal != 0 {
@@ -340,20 +438,35 @@ fn main() -> ExitCode {
             },
         }
     }
-    if let Some(name) = names.iter().find(|name| CALLS.iter().all(|(call, _)| call != name)) {
+    let known: Vec<_> = CALLS.iter().map(|(name, _)| *name).chain(MANY.iter().map(|(name, _)| *name)).collect();
+    if let Some(name) = names.iter().find(|name| !known.contains(&name.as_str())) {
         eprintln!("compare: no call {name}");
         return ExitCode::from(2);
     }
-    for (name, call) in CALLS.iter().filter(|(name, _)| names.is_empty() || names.iter().any(|n| n == name)) {
-        let mut numbers = Numbers::new(seed);
-        REFUSED.with(|n| n.set(0));
-        for case in 0..count {
-            if let Err(difference) = call(&mut numbers) {
-                eprintln!("compare: {name}, case {case} of seed {seed}: {difference}");
-                return ExitCode::FAILURE;
-            }
+    let asked = |name: &str| names.is_empty() || names.iter().any(|n| n == name);
+    let each = |call: Call| move |numbers: &mut Numbers| (0..count).try_for_each(|case| call(numbers).map_err(|e| format!("case {case}: {e}"))).map(|()| count);
+    for (name, call) in CALLS.iter().filter(|(name, _)| asked(name)) {
+        if !agrees(name, seed, each(*call)) {
+            return ExitCode::FAILURE;
         }
-        println!("{name}: {count} cases agree, {} of them refused", REFUSED.with(|n| n.get()));
+    }
+    for (name, call) in MANY.iter().filter(|(name, _)| asked(name)) {
+        if !agrees(name, seed, |numbers| call(numbers, count)) {
+            return ExitCode::FAILURE;
+        }
     }
     ExitCode::SUCCESS
+}
+
+/// Makes the calls of one name and prints how many agree, or the first difference.
+fn agrees(name: &str, seed: u64, calls: impl FnOnce(&mut Numbers) -> Result<u64, String>) -> bool {
+    REFUSED.with(|n| n.set(0));
+    match calls(&mut Numbers::new(seed)) {
+        Ok(made) => println!("{name}: {made} calls agree, {} of them refused", REFUSED.with(|n| n.get())),
+        Err(difference) => {
+            eprintln!("compare: {name}, seed {seed}: {difference}");
+            return false;
+        }
+    }
+    true
 }

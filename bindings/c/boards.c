@@ -1,0 +1,148 @@
+/* Every function of the header once or more: document 01's cases C1 to C16, and a refusal of each kind that lengths can give. */
+#include "ruszvedok.h"
+
+#include <stdio.h>
+#include <string.h>
+
+#define COUNT(array) (sizeof(array) / sizeof((array)[0]))
+#define BYTES(literal) (const uint8_t *)(literal), sizeof(literal) - 1
+/* A recording of data alone, and the buffers that all calls below write to. */
+#define PLAIN(literal) BYTES(literal), entries, 0, text, 0
+#define BUFFERS data, COUNT(data), entries, COUNT(entries), text, COUNT(text)
+
+static uint8_t data[64], text[16];
+static uint32_t entries[32], lines[16];
+static uint64_t res[5];
+static int failed;
+
+static void expect(const char *what, int holds)
+{
+    if (!holds) {
+        printf("failed: %s\n", what);
+        failed = 1;
+    }
+}
+
+/* The answer: no refusal, this data, this number. */
+static void left(const char *what, const char *bytes, uint64_t number)
+{
+    size_t len = strlen(bytes);
+    expect(what, res[RUSZVEDOK_RES_REFUSAL] == 0 && res[RUSZVEDOK_RES_DATA] == len && memcmp(data, bytes, len) == 0);
+    expect(what, data[len] == 0xEE && res[RUSZVEDOK_RES_NUMBER] == number);
+    memset(data, 0xEE, sizeof data);
+}
+
+static void refused(const char *what, uint64_t refusal)
+{
+    size_t k;
+    expect(what, res[0] == refusal && (res[1] | res[2] | res[3] | res[4]) == 0);
+    for (k = 0; k < COUNT(data); k++)
+        expect(what, data[k] == 0xEE);
+}
+
+/* Lines as two numbers each. */
+static void listed(const char *what, const uint32_t *wanted, size_t count)
+{
+    expect(what, res[RUSZVEDOK_RES_REFUSAL] == 0 && res[RUSZVEDOK_RES_NUMBER] * 2 == count);
+    expect(what, memcmp(lines, wanted, count * sizeof lines[0]) == 0);
+}
+
+#define LINES(what, literal, width, break_words, ...) \
+    do { \
+        const uint32_t wanted[] = {__VA_ARGS__}; \
+        ruszvedok_wrap_bytes(BYTES(literal), width, break_words, lines, COUNT(lines), res); \
+        listed(what, wanted, COUNT(wanted)); \
+    } while (0)
+
+static void texts(void)
+{
+    ruszvedok_place end = ruszvedok_truncate_end_pos(BYTES("\xE6\x9C" "A"), 1), start = ruszvedok_truncate_start_pos(BYTES("\xE6\x9C" "A"), 1);
+    expect("C8", ruszvedok_text_width(BYTES("\xE6\x9C" "A")) == 2);
+    expect("end cut", end.pos == 2 && end.width == 1);
+    expect("start cut", start.pos == 2 && start.width == 1);
+    expect("zero-width", ruszvedok_zero_width_len(BYTES("\t\xCC\x81" "a")) == 3);
+    expect("well-formed", ruszvedok_well_formed(BYTES("\xE6\x9C\xA8")) && !ruszvedok_well_formed(BYTES("\xE6\x9C")));
+}
+
+static void wrapping(void)
+{
+    LINES("C1", "oak 12 ft b", 5, false, 0, 3, 4, 9, 10, 11);
+    LINES("C2", "", 5, false, 0, 0);
+    LINES("C3", "ab\n", 5, false, 0, 2, 3, 3);
+    LINES("C4", "   ab", 2, false, 0, 0, 3, 5);
+    LINES("C5", "abcde", 2, true, 0, 2, 2, 4, 4, 5);
+    LINES("C5 unbroken", "abcde", 2, false, 0, 5);
+    LINES("C6", "ab c", 0, true, 0, 2, 3, 4);
+    LINES("C7", "\xE6\x9C\xA8" "a", 1, true, 0, 3, 3, 4);
+    ruszvedok_wrap_bytes(BYTES("ab c"), 0, true, lines, 3, res);
+    refused("line list", RUSZVEDOK_LINE_LIST_TOO_SHORT);
+}
+
+static void layout(void)
+{
+    const uint32_t replacements[] = {1, 3, 0, 1, 6, 6, 1, 2};
+    ruszvedok_write_truncated_end(PLAIN("spruce"), PLAIN(".."), 4, BUFFERS, res);
+    left("C9", "sp..", 4);
+    ruszvedok_write_truncated_start(PLAIN("spruce"), PLAIN(".."), 4, BUFFERS, res);
+    left("C10", "..ce", 4);
+    ruszvedok_write_truncated_end(PLAIN("spruce"), PLAIN(".."), 1, BUFFERS, res);
+    left("C11", ".", 1);
+    ruszvedok_write_padded_centered(PLAIN("fir"), PLAIN("."), 6, BUFFERS, res);
+    left("C12", ".fir..", 0);
+    ruszvedok_write_padded_start(PLAIN("fir"), PLAIN("."), 6, BUFFERS, res);
+    left("padded at its start", "...fir", 0);
+    ruszvedok_write_padded_end(PLAIN("fir"), PLAIN("."), 6, BUFFERS, res);
+    left("padded at its end", "fir...", 0);
+    ruszvedok_write_indented(PLAIN("a\n\nb"), PLAIN("> "), BUFFERS, res);
+    left("C13", "> a\n\n> b", 0);
+    ruszvedok_write_replaced(PLAIN("abcdef"), replacements, COUNT(replacements), BYTES("XY"), BUFFERS, res);
+    left("C14", "aXdefY", 0);
+    ruszvedok_elide_end(BYTES("spruce"), BYTES(".."), 4, data, COUNT(data), res);
+    left("C15", "sp..", 4);
+    ruszvedok_elide_start(BYTES("spruce"), BYTES(".."), 4, data, COUNT(data), res);
+    left("elided at its start", "..ce", 4);
+    ruszvedok_complete_newline(BYTES("fir"), data, COUNT(data), res);
+    left("newline", "fir\n", 0);
+    ruszvedok_complete_newline(BYTES("fir"), data, 3, res);
+    refused("data buffer", RUSZVEDOK_DATA_BUFFER_TOO_SHORT);
+    ruszvedok_complete_newline(BYTES("\xFF"), data, COUNT(data), res);
+    refused("ill-formed text", RUSZVEDOK_TEXT_ILL_FORMED);
+}
+
+/* C16, recorded by the adding calls, with a raw sequence at its end. */
+static void labels(void)
+{
+    uint8_t row[8], row_text[4] = {0};
+    uint32_t row_entries[12];
+    const uint32_t wanted[] = {0, 0, 0, 1, 2, 1, 0, 0, 5, 2, 1, 2};
+    memset(row, 0, sizeof row);
+    memset(row_entries, 0, sizeof row_entries);
+    ruszvedok_push_label(row, 8, 0, row_entries, 12, 0, row_text, 4, 0, BYTES("x"), res);
+    ruszvedok_write(row, 8, res[1], row_entries, 12, res[2], row_text, 4, res[3], BYTES("ab"), res);
+    ruszvedok_pop_label(row, 8, res[1], row_entries, 12, res[2], row_text, 4, res[3], res);
+    ruszvedok_write(row, 8, res[1], row_entries, 12, res[2], row_text, 4, res[3], BYTES(" cd"), res);
+    ruszvedok_raw(row, 8, res[1], row_entries, 12, res[2], row_text, 4, res[3], BYTES("\x1B["), res);
+    expect("recorded", res[0] == 0 && res[1] == 5 && res[2] == 12 && res[3] == 3 && res[4] == 0);
+    ruszvedok_write_wrapped(row, 5, row_entries, 12, row_text, 3, 2, false, BUFFERS, lines, COUNT(lines), res);
+    expect("C16 entries", res[2] == 12 && memcmp(entries, wanted, sizeof wanted) == 0 && res[3] == 3 && memcmp(text, "x\x1B[", 3) == 0);
+    expect("C16 lines", lines[0] == 0 && lines[1] == 2 && lines[2] == 3 && lines[3] == 5);
+    left("C16", "ab\ncd", 2);
+    ruszvedok_replay(row, 5, row_entries, 12, row_text, 3, BUFFERS, res);
+    left("replayed", "ab cd", 0);
+    ruszvedok_replay(row, 5, row_entries, 12, row_text, 3, data, COUNT(data), entries, 11, text, COUNT(text), res);
+    refused("entry buffer", RUSZVEDOK_ENTRY_BUFFER_TOO_SHORT);
+    ruszvedok_replay(row, 5, row_entries, 12, row_text, 3, data, COUNT(data), entries, COUNT(entries), text, 2, res);
+    refused("text buffer", RUSZVEDOK_TEXT_BUFFER_TOO_SHORT);
+    ruszvedok_pop_label(row, 8, 9, row_entries, 12, 0, row_text, 4, 0, res);
+    refused("length over its buffer", RUSZVEDOK_LENGTH_OVER_BUFFER);
+}
+
+int main(void)
+{
+    memset(data, 0xEE, sizeof data);
+    texts();
+    wrapping();
+    layout();
+    labels();
+    return failed;
+}

@@ -1,0 +1,47 @@
+//! Recorded text and its layout: text with labels is cut, padded, indented, wrapped and replaced, and the labels stay in step.
+//!
+//! The work is done by a library whose every function is proved to meet its contract (`crates/capi` and what is below it). This crate
+//! is three layers over its C names, none of which is proved:
+//!
+//! * the type [`FormatRecorder`] and the functions of [`text_util`], with the names and the order of parameters that jj-cli has;
+//!   they own their buffers and lengthen them as needed;
+//! * [`lent`]: one safe function for each call, over buffers that the caller lends; nothing is allocated;
+//! * `sys`: the declarations.
+//!
+//! ```
+//! use ruszvedok::{write_truncated_end, FormatRecorder, Refusal};
+//!
+//! let mut row = FormatRecorder::new();
+//! row.push_label("grade")?;
+//! row.write_data(b"spruce")?;
+//! row.pop_label()?;
+//! let ellipsis = FormatRecorder::with_data("..")?;
+//! let mut out = FormatRecorder::new();
+//! assert_eq!(write_truncated_end(&mut out, &row, &ellipsis, 4)?, 4);
+//! assert_eq!(out.data(), b"sp..");
+//! # Ok::<(), Refusal>(())
+//! ```
+#![deny(missing_docs, unsafe_code, unsafe_op_in_unsafe_fn)]
+
+#[allow(unsafe_code)]
+pub mod lent;
+mod recorder;
+mod refusal;
+#[allow(missing_docs)]
+mod sys;
+pub mod text_util;
+
+pub use recorder::{FormatOp, FormatRecorder};
+pub use refusal::Refusal;
+pub use text_util::{
+    complete_newline, elide_end, elide_start, text_width, trim_start_zero_width_chars, wrap_bytes, write_indented,
+    write_padded_centered, write_padded_end, write_padded_start, write_replaced, write_truncated_end, write_truncated_start,
+    write_wrapped,
+};
+
+/// The most data bytes of a recording; a plain text has the same limit.
+pub const MAX_DATA: usize = 1_048_576;
+/// The most entries of a recording.
+pub const MAX_ENTRIES: usize = 4_096;
+/// The most text bytes of a recording: labels and raw sequences.
+pub const MAX_TEXT: usize = 65_536;

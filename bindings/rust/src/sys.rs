@@ -1,0 +1,103 @@
+//! The exported functions as they are: a slice is a pointer and its number of elements, `res` five numbers.
+//! `bindings/check_signatures.py` compares them with the signatures in `crates/capi`.
+
+/// A place in a text, and the width of the part that is kept.
+#[derive(Clone, Copy, Debug, PartialEq, Eq)]
+#[repr(C)]
+pub struct Place {
+    pub pos: usize,
+    pub width: u64,
+}
+
+extern "C" {
+    pub fn ruszvedok_text_width(s: *const u8, s_len: usize) -> u64;
+    pub fn ruszvedok_well_formed(s: *const u8, s_len: usize) -> bool;
+    pub fn ruszvedok_truncate_end_pos(s: *const u8, s_len: usize, max: u64) -> Place;
+    pub fn ruszvedok_truncate_start_pos(s: *const u8, s_len: usize, max: u64) -> Place;
+    pub fn ruszvedok_zero_width_len(s: *const u8, s_len: usize) -> usize;
+    pub fn ruszvedok_replay(
+        content: *const u8, content_len: usize, entries: *const u32, entries_len: usize, text: *const u8,
+        text_len: usize, out_data: *mut u8, out_data_len: usize, out_entries: *mut u32, out_entries_len: usize,
+        out_text: *mut u8, out_text_len: usize, res: *mut [u64; 5],
+    );
+    pub fn ruszvedok_write_truncated_start(
+        content: *const u8, content_len: usize, entries: *const u32, entries_len: usize, text: *const u8,
+        text_len: usize, ellipsis: *const u8, ellipsis_len: usize, ellipsis_entries: *const u32,
+        ellipsis_entries_len: usize, ellipsis_text: *const u8, ellipsis_text_len: usize, max_width: u32, bytes: *mut u8,
+        bytes_len: usize, numbers: *mut u32, numbers_len: usize, texts: *mut u8, texts_len: usize, res: *mut [u64; 5],
+    );
+    pub fn ruszvedok_write_truncated_end(
+        content: *const u8, content_len: usize, entries: *const u32, entries_len: usize, text: *const u8,
+        text_len: usize, ellipsis: *const u8, ellipsis_len: usize, ellipsis_entries: *const u32,
+        ellipsis_entries_len: usize, ellipsis_text: *const u8, ellipsis_text_len: usize, max_width: u32, bytes: *mut u8,
+        bytes_len: usize, numbers: *mut u32, numbers_len: usize, texts: *mut u8, texts_len: usize, res: *mut [u64; 5],
+    );
+    pub fn ruszvedok_write_padded_start(
+        content: *const u8, content_len: usize, entries: *const u32, entries_len: usize, text: *const u8,
+        text_len: usize, fill: *const u8, fill_len: usize, fill_entries: *const u32, fill_entries_len: usize,
+        fill_text: *const u8, fill_text_len: usize, min_width: u32, bytes: *mut u8, bytes_len: usize, numbers: *mut u32,
+        numbers_len: usize, texts: *mut u8, texts_len: usize, res: *mut [u64; 5],
+    );
+    pub fn ruszvedok_write_padded_end(
+        content: *const u8, content_len: usize, entries: *const u32, entries_len: usize, text: *const u8,
+        text_len: usize, fill: *const u8, fill_len: usize, fill_entries: *const u32, fill_entries_len: usize,
+        fill_text: *const u8, fill_text_len: usize, min_width: u32, bytes: *mut u8, bytes_len: usize, numbers: *mut u32,
+        numbers_len: usize, texts: *mut u8, texts_len: usize, res: *mut [u64; 5],
+    );
+    pub fn ruszvedok_write_padded_centered(
+        content: *const u8, content_len: usize, entries: *const u32, entries_len: usize, text: *const u8,
+        text_len: usize, fill: *const u8, fill_len: usize, fill_entries: *const u32, fill_entries_len: usize,
+        fill_text: *const u8, fill_text_len: usize, min_width: u32, bytes: *mut u8, bytes_len: usize, numbers: *mut u32,
+        numbers_len: usize, texts: *mut u8, texts_len: usize, res: *mut [u64; 5],
+    );
+    pub fn ruszvedok_write_indented(
+        content: *const u8, content_len: usize, entries: *const u32, entries_len: usize, text: *const u8,
+        text_len: usize, prefix: *const u8, prefix_len: usize, prefix_entries: *const u32, prefix_entries_len: usize,
+        prefix_text: *const u8, prefix_text_len: usize, bytes: *mut u8, bytes_len: usize, numbers: *mut u32,
+        numbers_len: usize, texts: *mut u8, texts_len: usize, res: *mut [u64; 5],
+    );
+    pub fn ruszvedok_wrap_bytes(
+        data: *const u8, data_len: usize, width: u32, break_words: bool, lines: *mut u32, lines_len: usize,
+        res: *mut [u64; 5],
+    );
+    pub fn ruszvedok_write_wrapped(
+        content: *const u8, content_len: usize, entries: *const u32, entries_len: usize, text: *const u8,
+        text_len: usize, width: u32, break_words: bool, bytes: *mut u8, bytes_len: usize, numbers: *mut u32,
+        numbers_len: usize, texts: *mut u8, texts_len: usize, lines: *mut u32, lines_len: usize, res: *mut [u64; 5],
+    );
+    pub fn ruszvedok_write_replaced(
+        content: *const u8, content_len: usize, entries: *const u32, entries_len: usize, text: *const u8,
+        text_len: usize, records: *const u32, records_len: usize, new: *const u8, new_len: usize, bytes: *mut u8,
+        bytes_len: usize, numbers: *mut u32, numbers_len: usize, texts: *mut u8, texts_len: usize, res: *mut [u64; 5],
+    );
+    pub fn ruszvedok_elide_start(
+        text: *const u8, text_len: usize, ellipsis: *const u8, ellipsis_len: usize, max_width: u32, out: *mut u8,
+        out_len: usize, res: *mut [u64; 5],
+    );
+    pub fn ruszvedok_elide_end(
+        text: *const u8, text_len: usize, ellipsis: *const u8, ellipsis_len: usize, max_width: u32, out: *mut u8,
+        out_len: usize, res: *mut [u64; 5],
+    );
+    pub fn ruszvedok_complete_newline(
+        text: *const u8, text_len: usize, out: *mut u8, out_len: usize, res: *mut [u64; 5],
+    );
+    pub fn ruszvedok_write(
+        content: *mut u8, content_room: usize, content_len: usize, entries: *const u32, entries_room: usize,
+        entries_len: usize, text: *const u8, text_room: usize, text_len: usize, added: *const u8, added_len: usize,
+        res: *mut [u64; 5],
+    );
+    pub fn ruszvedok_push_label(
+        content: *const u8, content_room: usize, content_len: usize, entries: *mut u32, entries_room: usize,
+        entries_len: usize, text: *mut u8, text_room: usize, text_len: usize, label: *const u8, label_len: usize,
+        res: *mut [u64; 5],
+    );
+    pub fn ruszvedok_pop_label(
+        content: *const u8, content_room: usize, content_len: usize, entries: *mut u32, entries_room: usize,
+        entries_len: usize, text: *const u8, text_room: usize, text_len: usize, res: *mut [u64; 5],
+    );
+    pub fn ruszvedok_raw(
+        content: *const u8, content_room: usize, content_len: usize, entries: *mut u32, entries_room: usize,
+        entries_len: usize, text: *mut u8, text_room: usize, text_len: usize, sequence: *const u8, sequence_len: usize,
+        res: *mut [u64; 5],
+    );
+}

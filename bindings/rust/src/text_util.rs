@@ -1,0 +1,285 @@
+//! The layout calls and the calls on plain texts, with the original's names and order of parameters.
+//!
+//! What a layout call leaves TAKES THE PLACE of what `out` held; the original appends. After a refusal `out` holds what it held.
+//! Of all refusals these can come: [`Refusal::ResultOverLimit`], [`Refusal::ReplacementRange`] (`write_replaced`) and, for texts that
+//! are no recordings, [`Refusal::DataTooLong`].
+use std::borrow::Cow;
+
+use crate::lent::{self, Answer, Replacement};
+use crate::recorder::{grow, FormatRecorder};
+use crate::refusal::Refusal;
+use crate::MAX_DATA;
+
+/// A width as the library takes it. No text within the limits is wider than `u32::MAX`, so a larger number does the same.
+fn columns(width: usize) -> u32 {
+    width.try_into().unwrap_or(u32::MAX)
+}
+
+/// A layout call over a content and a second recording.
+macro_rules! with_second {
+    ($out:ident, $call:ident, $content:ident, $second:ident $(, $width:expr)?) => {{
+        let (content, second) = ($content.view(), $second.view());
+        $out.lend(content.used().and(second.used()), |out, _| lent::$call(content, second, $($width,)? out))
+    }};
+}
+
+/// Writes the content truncated to `max_width` by removing leading characters, the ellipsis before it. Returns the width kept.
+///
+/// ```
+/// use ruszvedok::{write_truncated_start, FormatRecorder, Refusal};
+///
+/// let (row, ellipsis) = (FormatRecorder::with_data("spruce")?, FormatRecorder::with_data("..")?);
+/// let mut out = FormatRecorder::new();
+/// assert_eq!(write_truncated_start(&mut out, &row, &ellipsis, 4)?, 4);
+/// assert_eq!(out.data(), b"..ce");
+/// # Ok::<(), Refusal>(())
+/// ```
+pub fn write_truncated_start(
+    out: &mut FormatRecorder,
+    recorded_content: &FormatRecorder,
+    recorded_ellipsis: &FormatRecorder,
+    max_width: usize,
+) -> Result<usize, Refusal> {
+    with_second!(out, write_truncated_start, recorded_content, recorded_ellipsis, columns(max_width))
+}
+
+/// Writes the content truncated to `max_width` by removing trailing characters, the ellipsis behind it. Returns the width kept.
+///
+/// ```
+/// use ruszvedok::{write_truncated_end, FormatRecorder, Refusal};
+///
+/// let (row, ellipsis) = (FormatRecorder::with_data("spruce")?, FormatRecorder::with_data("..")?);
+/// let mut out = FormatRecorder::new();
+/// assert_eq!(write_truncated_end(&mut out, &row, &ellipsis, 4)?, 4);
+/// assert_eq!(out.data(), b"sp..");
+/// # Ok::<(), Refusal>(())
+/// ```
+pub fn write_truncated_end(
+    out: &mut FormatRecorder,
+    recorded_content: &FormatRecorder,
+    recorded_ellipsis: &FormatRecorder,
+    max_width: usize,
+) -> Result<usize, Refusal> {
+    with_second!(out, write_truncated_end, recorded_content, recorded_ellipsis, columns(max_width))
+}
+
+/// Writes the content padded to `min_width` by leading fill characters. The fill should be a character of width 1.
+///
+/// ```
+/// use ruszvedok::{write_padded_start, FormatRecorder, Refusal};
+///
+/// let (row, fill) = (FormatRecorder::with_data("fir")?, FormatRecorder::with_data(".")?);
+/// let mut out = FormatRecorder::new();
+/// write_padded_start(&mut out, &row, &fill, 6)?;
+/// assert_eq!(out.data(), b"...fir");
+/// # Ok::<(), Refusal>(())
+/// ```
+pub fn write_padded_start(
+    out: &mut FormatRecorder,
+    recorded_content: &FormatRecorder,
+    recorded_fill_char: &FormatRecorder,
+    min_width: usize,
+) -> Result<(), Refusal> {
+    with_second!(out, write_padded_start, recorded_content, recorded_fill_char, columns(min_width)).map(drop)
+}
+
+/// Writes the content padded to `min_width` by trailing fill characters. The fill should be a character of width 1.
+///
+/// ```
+/// use ruszvedok::{write_padded_end, FormatRecorder, Refusal};
+///
+/// let (row, fill) = (FormatRecorder::with_data("fir")?, FormatRecorder::with_data(".")?);
+/// let mut out = FormatRecorder::new();
+/// write_padded_end(&mut out, &row, &fill, 6)?;
+/// assert_eq!(out.data(), b"fir...");
+/// # Ok::<(), Refusal>(())
+/// ```
+pub fn write_padded_end(
+    out: &mut FormatRecorder,
+    recorded_content: &FormatRecorder,
+    recorded_fill_char: &FormatRecorder,
+    min_width: usize,
+) -> Result<(), Refusal> {
+    with_second!(out, write_padded_end, recorded_content, recorded_fill_char, columns(min_width)).map(drop)
+}
+
+/// Writes the content padded to `min_width` on both sides, on the left by half of the fill, rounded down.
+///
+/// ```
+/// use ruszvedok::{write_padded_centered, FormatRecorder, Refusal};
+///
+/// let (row, fill) = (FormatRecorder::with_data("fir")?, FormatRecorder::with_data(".")?);
+/// let mut out = FormatRecorder::new();
+/// write_padded_centered(&mut out, &row, &fill, 6)?;
+/// assert_eq!(out.data(), b".fir..");
+/// # Ok::<(), Refusal>(())
+/// ```
+pub fn write_padded_centered(
+    out: &mut FormatRecorder,
+    recorded_content: &FormatRecorder,
+    recorded_fill_char: &FormatRecorder,
+    min_width: usize,
+) -> Result<(), Refusal> {
+    with_second!(out, write_padded_centered, recorded_content, recorded_fill_char, columns(min_width)).map(drop)
+}
+
+/// Writes the content with the prefix before every line that is not empty, under the labels of that line's first byte. (The original
+/// takes a closure that writes the prefix.)
+///
+/// ```
+/// use ruszvedok::{write_indented, FormatRecorder, Refusal};
+///
+/// let (rows, prefix) = (FormatRecorder::with_data("a\n\nb")?, FormatRecorder::with_data("> ")?);
+/// let mut out = FormatRecorder::new();
+/// write_indented(&mut out, &rows, &prefix)?;
+/// assert_eq!(out.data(), b"> a\n\n> b");
+/// # Ok::<(), Refusal>(())
+/// ```
+pub fn write_indented(
+    out: &mut FormatRecorder,
+    recorded_content: &FormatRecorder,
+    recorded_prefix: &FormatRecorder,
+) -> Result<(), Refusal> {
+    with_second!(out, write_indented, recorded_content, recorded_prefix).map(drop)
+}
+
+/// Writes the content wrapped at the width, and inside of words that are wider if `break_words`. Returns the number of lines.
+///
+/// ```
+/// use ruszvedok::{write_wrapped, FormatRecorder, Refusal};
+///
+/// let row = FormatRecorder::with_data("oak 12 ft b")?;
+/// let mut out = FormatRecorder::new();
+/// assert_eq!(write_wrapped(&mut out, &row, 5, false)?, 3);
+/// assert_eq!(out.data(), b"oak\n12 ft\nb");
+/// # Ok::<(), Refusal>(())
+/// ```
+pub fn write_wrapped(
+    out: &mut FormatRecorder,
+    recorded_content: &FormatRecorder,
+    width: usize,
+    break_words: bool,
+) -> Result<usize, Refusal> {
+    let content = recorded_content.view();
+    out.lend(content.used(), |out, lines| lent::write_wrapped(content, columns(width), break_words, out, lines))
+}
+
+/// Writes the content with each record's stretch replaced by its part of `text`, under the labels of the byte at its start. Records are
+/// in order and do not overlap. (The original takes a closure that writes each replacement.)
+///
+/// ```
+/// use ruszvedok::lent::Replacement;
+/// use ruszvedok::{write_replaced, FormatRecorder, Refusal};
+///
+/// let row = FormatRecorder::with_data("abcdef")?;
+/// let records = [Replacement { start: 1, end: 3, from: 0, to: 1 }, Replacement { start: 6, end: 6, from: 1, to: 2 }];
+/// let mut out = FormatRecorder::new();
+/// write_replaced(&mut out, &row, &records, b"XY")?;
+/// assert_eq!(out.data(), b"aXdefY");
+/// # Ok::<(), Refusal>(())
+/// ```
+pub fn write_replaced(
+    out: &mut FormatRecorder,
+    recorded_content: &FormatRecorder,
+    replacements: &[Replacement],
+    text: &[u8],
+) -> Result<(), Refusal> {
+    let content = recorded_content.view();
+    let mut least = content.used();
+    least.data += text.len();
+    out.lend(least, |out, _| lent::write_replaced(content, replacements, text, out)).map(drop)
+}
+
+/// Wraps lines at the given width: the lines without their newlines, each a part of `text`.
+///
+/// ```
+/// # use ruszvedok::{wrap_bytes, Refusal};
+/// assert_eq!(wrap_bytes(b"oak 12 ft b", 5, false)?, [&b"oak"[..], b"12 ft", b"b"]);
+/// # Ok::<(), Refusal>(())
+/// ```
+pub fn wrap_bytes(text: &[u8], width: usize, break_words: bool) -> Result<Vec<&[u8]>, Refusal> {
+    let mut lines = vec![0; text.len() / 8 + 16];
+    loop {
+        match lent::wrap_bytes(text, columns(width), break_words, &mut lines).done() {
+            Ok(answer) => {
+                let line = |ends: &[u32]| &text[ends[0] as usize..ends[1] as usize];
+                return Ok(lines.chunks_exact(2).take(answer.number as usize).map(line).collect());
+            }
+            Err(Refusal::LineListTooShort) => grow(&mut lines, 0, 2 * (MAX_DATA + 1)),
+            Err(refusal) => return Err(refusal),
+        }
+    }
+}
+
+/// A text of one of the calls on plain texts, in a buffer of the most bytes that it can take.
+fn plain(most: usize, call: impl FnOnce(&mut [u8]) -> Answer) -> Result<(String, usize), Refusal> {
+    let mut out = vec![0; most.min(MAX_DATA)];
+    let answer = call(&mut out).done()?;
+    out.truncate(answer.used().data);
+    Ok((String::from_utf8(out).expect("cut between characters"), answer.number as usize))
+}
+
+/// The text itself if it is the result.
+fn borrowed<'a>(text: &'a str, (made, width): (String, usize)) -> (Cow<'a, str>, usize) {
+    if made == text {
+        (Cow::Borrowed(text), width)
+    } else {
+        (Cow::Owned(made), width)
+    }
+}
+
+/// Shortens `text` to `max_width` by removing leading characters; the ellipsis is added if it gets truncated. Returns the width too.
+///
+/// ```
+/// # use ruszvedok::{elide_start, Refusal};
+/// assert_eq!(elide_start("spruce", "..", 4)?, ("..ce".into(), 4));
+/// # Ok::<(), Refusal>(())
+/// ```
+pub fn elide_start<'a>(text: &'a str, ellipsis: &str, max_width: usize) -> Result<(Cow<'a, str>, usize), Refusal> {
+    let call = |out: &mut [u8]| lent::elide_start(text.as_bytes(), ellipsis.as_bytes(), columns(max_width), out);
+    Ok(borrowed(text, plain(text.len() + ellipsis.len(), call)?))
+}
+
+/// Shortens `text` to `max_width` by removing trailing characters; the ellipsis is added if it gets truncated. Returns the width too.
+///
+/// ```
+/// # use ruszvedok::{elide_end, Refusal};
+/// assert_eq!(elide_end("spruce", "..", 4)?, ("sp..".into(), 4));
+/// # Ok::<(), Refusal>(())
+/// ```
+pub fn elide_end<'a>(text: &'a str, ellipsis: &str, max_width: usize) -> Result<(Cow<'a, str>, usize), Refusal> {
+    let call = |out: &mut [u8]| lent::elide_end(text.as_bytes(), ellipsis.as_bytes(), columns(max_width), out);
+    Ok(borrowed(text, plain(text.len() + ellipsis.len(), call)?))
+}
+
+/// Appends a newline unless the text is empty or ends in one.
+///
+/// ```
+/// # use ruszvedok::{complete_newline, Refusal};
+/// assert_eq!(complete_newline("oak")?, "oak\n");
+/// # Ok::<(), Refusal>(())
+/// ```
+pub fn complete_newline(s: impl AsRef<str>) -> Result<String, Refusal> {
+    let s = s.as_ref();
+    Ok(plain(s.len() + 1, |out| lent::complete_newline(s.as_bytes(), out))?.0)
+}
+
+/// Removes leading characters of width 0.
+///
+/// ```
+/// # use ruszvedok::trim_start_zero_width_chars;
+/// assert_eq!(trim_start_zero_width_chars("\u{301}a\u{301}"), "a\u{301}");
+/// ```
+pub fn trim_start_zero_width_chars(text: &str) -> &str {
+    &text[lent::zero_width_len(text.as_bytes())..]
+}
+
+/// The width of a text of any bytes: the sum over its characters.
+///
+/// ```
+/// # use ruszvedok::text_width;
+/// assert_eq!(text_width("木x".as_bytes()), 3);
+/// ```
+pub fn text_width(text: &[u8]) -> usize {
+    lent::text_width(text) as usize
+}

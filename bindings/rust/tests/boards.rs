@@ -1,0 +1,149 @@
+//! Document 01's cases C1 to C16, and the rest of the calls.
+use std::borrow::Cow;
+
+use ruszvedok::lent::Replacement;
+use ruszvedok::*;
+
+fn plain(data: &str) -> FormatRecorder {
+    FormatRecorder::with_data(data).unwrap()
+}
+
+/// First byte and end of each line.
+fn lines(text: &[u8], width: usize, break_words: bool) -> Vec<(usize, usize)> {
+    let start = |line: &[u8]| line.as_ptr() as usize - text.as_ptr() as usize;
+    wrap_bytes(text, width, break_words).unwrap().into_iter().map(|line| (start(line), start(line) + line.len())).collect()
+}
+
+type Left = Result<(String, usize), Refusal>;
+
+/// What a call leaves in a recorder that held something else, and its number.
+fn left(call: impl FnOnce(&mut FormatRecorder) -> Result<usize, Refusal>) -> Left {
+    let mut out = plain("something else");
+    out.push_label("old").unwrap();
+    let number = call(&mut out)?;
+    assert_eq!(out.ops().count(), 0);
+    Ok((String::from_utf8(out.data().to_vec()).unwrap(), number))
+}
+
+#[test]
+fn c1_to_c7_wrapping() {
+    assert_eq!(lines(b"oak 12 ft b", 5, false), [(0, 3), (4, 9), (10, 11)]); // C1
+    assert_eq!(lines(b"", 5, false), [(0, 0)]); // C2
+    assert_eq!(lines(b"ab\n", 5, false), [(0, 2), (3, 3)]); // C3
+    assert_eq!(lines(b"   ab", 2, false), [(0, 0), (3, 5)]); // C4
+    assert_eq!(lines(b"abcde", 2, true), [(0, 2), (2, 4), (4, 5)]); // C5
+    assert_eq!(lines(b"abcde", 2, false), [(0, 5)]);
+    assert_eq!(lines(b"ab c", 0, true), [(0, 2), (3, 4)]); // C6
+    assert_eq!(lines(b"\xE6\x9C\xA8a", 1, true), [(0, 3), (3, 4)]); // C7
+    assert_eq!(left(|out| write_wrapped(out, &plain("oak 12 ft b"), 5, false)), Ok(("oak\n12 ft\nb".into(), 3)));
+    assert_eq!(left(|out| write_wrapped(out, &plain("abcde"), 2, true)), Ok(("ab\ncd\ne".into(), 3)));
+}
+
+#[test]
+fn c8_to_c11_cutting() {
+    assert_eq!(text_width(b"\xE6\x9CA"), 2); // C8
+    let (row, dots) = (plain("spruce"), plain(".."));
+    assert_eq!(left(|out| write_truncated_end(out, &row, &dots, 4)), Ok(("sp..".into(), 4))); // C9
+    assert_eq!(left(|out| write_truncated_start(out, &row, &dots, 4)), Ok(("..ce".into(), 4))); // C10
+    assert_eq!(left(|out| write_truncated_end(out, &row, &dots, 1)), Ok((".".into(), 1))); // C11
+    // A width over 32 bits is as the largest.
+    assert_eq!(left(|out| write_truncated_end(out, &row, &dots, usize::MAX)), Ok(("spruce".into(), 6)));
+}
+
+#[test]
+fn c12_and_c13_filling() {
+    let (row, dot) = (plain("fir"), plain("."));
+    let nothing = |done: Result<(), Refusal>| done.map(|()| 0);
+    assert_eq!(left(|out| nothing(write_padded_centered(out, &row, &dot, 6))), Ok((".fir..".into(), 0))); // C12
+    assert_eq!(left(|out| nothing(write_padded_start(out, &row, &dot, 6))), Ok(("...fir".into(), 0)));
+    assert_eq!(left(|out| nothing(write_padded_end(out, &row, &dot, 6))), Ok(("fir...".into(), 0)));
+    assert_eq!(left(|out| nothing(write_indented(out, &plain("a\n\nb"), &plain("> ")))), Ok(("> a\n\n> b".into(), 0))); // C13
+    // A width over 32 bits: an empty fill fits, any other does not.
+    assert_eq!(left(|out| nothing(write_padded_end(out, &row, &plain(""), usize::MAX))), Ok(("fir".into(), 0)));
+    assert_eq!(left(|out| nothing(write_padded_end(out, &row, &dot, usize::MAX))), Err(Refusal::ResultOverLimit));
+    // Outside demand 3: each piece of the fill is repeated by itself.
+    let mut fill = plain("a");
+    fill.push_label("x").unwrap();
+    fill.write_data(b"b").unwrap();
+    let mut out = FormatRecorder::new();
+    write_padded_start(&mut out, &plain(""), &fill, 2).unwrap();
+    assert_eq!(out.data(), b"aabb");
+    assert!(out.ops().eq([(2, FormatOp::PushLabel("x"))]));
+}
+
+#[test]
+fn c14_replacing() {
+    let records = [Replacement { start: 1, end: 3, from: 0, to: 1 }, Replacement { start: 6, end: 6, from: 1, to: 2 }];
+    assert_eq!(left(|out| write_replaced(out, &plain("abcdef"), &records, b"XY").map(|()| 0)), Ok(("aXdefY".into(), 0)));
+}
+
+#[test]
+fn c15_plain_texts() {
+    assert_eq!(elide_end("spruce", "..", 4), Ok(("sp..".into(), 4))); // C15
+    assert_eq!(elide_start("spruce", "..", 4), Ok(("..ce".into(), 4)));
+    assert_eq!(elide_end("spruce", "..", 1), Ok((".".into(), 1)));
+    assert!(matches!(elide_end("fir", "..", 3), Ok((Cow::Borrowed("fir"), 3))));
+    assert!(matches!(elide_start("fir", "..", 3), Ok((Cow::Borrowed("fir"), 3))));
+    assert_eq!(elide_start("木\u{301}木", "…", 3), Ok(("…木".into(), 3)));
+    assert_eq!(complete_newline(""), Ok("".into()));
+    assert_eq!(complete_newline("a"), Ok("a\n".into()));
+    assert_eq!(complete_newline(String::from("a\n")), Ok("a\n".into()));
+    assert_eq!(trim_start_zero_width_chars("\n\u{301}a\n"), "a\n");
+    assert_eq!(trim_start_zero_width_chars("\u{301}"), "");
+}
+
+#[test]
+fn c16_labels() {
+    let mut row = FormatRecorder::new();
+    row.push_label("x").unwrap();
+    row.write_data(b"ab").unwrap();
+    row.pop_label().unwrap();
+    row.write_data(b" cd").unwrap();
+    let mut out = FormatRecorder::new();
+    assert_eq!(write_wrapped(&mut out, &row, 2, false), Ok(2));
+    assert_eq!(out.data(), b"ab\ncd");
+    assert!(out.ops().eq([(0, FormatOp::PushLabel("x")), (2, FormatOp::PopLabel)]));
+}
+
+/// Labels, a raw sequence and data; replayed as they were recorded.
+#[test]
+fn recording() {
+    use std::io::Write as _;
+    let mut row = FormatRecorder::new();
+    row.push_label("").unwrap();
+    write!(row, "a{}", 1).unwrap();
+    row.raw(b"\x1b[1m").unwrap();
+    row.push_label("ä").unwrap();
+    row.write_all(b"\xFF").unwrap();
+    row.pop_label().unwrap();
+    row.flush().unwrap();
+    assert_eq!(row.data(), b"a1\xFF");
+    let ops = [
+        (0, FormatOp::PushLabel("")),
+        (2, FormatOp::RawEscapeSequence(b"\x1b[1m")),
+        (2, FormatOp::PushLabel("ä")),
+        (3, FormatOp::PopLabel),
+    ];
+    assert!(row.ops().eq(ops));
+    let mut out = plain("something else");
+    row.replay(&mut out).unwrap();
+    assert_eq!((&out, &out.clone(), out.view().text), (&row, &row, "\x1b[1mä".as_bytes()));
+    assert_ne!(row, plain("a1"));
+    assert_eq!(FormatRecorder::try_from(row.view()), Ok(row.clone()));
+    assert_eq!(format!("{:?}", plain("a")), "FormatRecorder { data: \"a\", ops: [] }");
+    // Entries and data in order; an error ends the replay.
+    use std::fmt::Write as _;
+    let mut parts = String::new();
+    row.replay_with(&mut parts, |to, op| write!(to, "{op:?} "), |to, range| write!(to, "{range:?} ")).unwrap();
+    assert_eq!(parts, "PushLabel(\"\") 0..2 RawEscapeSequence([27, 91, 49, 109]) PushLabel(\"ä\") 2..3 PopLabel ");
+    assert_eq!(row.replay_with(&mut (), |_, _| Err(1), |_, _| Ok(())), Err(1));
+}
+
+#[test]
+fn positions_in_texts() {
+    use ruszvedok::lent::{truncate_end_pos, truncate_start_pos, well_formed, zero_width_len, Place};
+    assert_eq!(truncate_end_pos(b"\xE6\x9CA", 1), Place { pos: 2, width: 1 });
+    assert_eq!(truncate_start_pos(b"\xE6\x9CA", 1), Place { pos: 2, width: 1 });
+    assert_eq!(zero_width_len(b"\t\xCC\x81\xFF\n"), 3);
+    assert!(well_formed("木".as_bytes()) && !well_formed(b"\xE6\x9C"));
+}

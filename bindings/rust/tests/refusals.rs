@@ -1,0 +1,110 @@
+//! Every refusal over lent buffers, and those that can be reached through the type; nothing is touched by any of them.
+use std::io;
+use std::io::Write as _;
+
+use ruszvedok::lent::{self, Answer, Buffers, Replacement, Used, View};
+use ruszvedok::*;
+
+/// Runs a call over buffers of these lengths; after a refusal they must hold what they held.
+fn refused(sizes: (usize, usize, usize), call: impl FnOnce(Buffers) -> Answer) -> u64 {
+    let (mut data, mut entries, mut text) = (vec![0xA5; sizes.0], vec![7; sizes.1], vec![0xA5; sizes.2]);
+    let answer = call(Buffers { data: &mut data, entries: &mut entries, text: &mut text });
+    if answer.refusal != 0 {
+        assert_eq!(answer, Answer { refusal: answer.refusal, ..Answer::default() });
+        assert_eq!((data, entries, text), (vec![0xA5; sizes.0], vec![7; sizes.1], vec![0xA5; sizes.2]));
+    }
+    answer.refusal
+}
+
+const ENOUGH: (usize, usize, usize) = (64, 64, 64);
+
+#[test]
+fn of_a_recording() {
+    let long = vec![b'a'; MAX_DATA + 1];
+    let many = vec![0; 4 * MAX_ENTRIES + 4];
+    let of = |data, entries, text| refused(ENOUGH, |out| lent::replay(View { data, entries, text }, out));
+    assert_eq!(of(&long, &[], b""), 1);
+    assert_eq!(of(b"", &[0, 1, 0], b""), 2);
+    assert_eq!(of(b"", &many, b""), 2);
+    assert_eq!(of(b"", &[0, 3, 0, 0], b""), 3);
+    assert_eq!(of(b"", &[0, 1, 0, 1], b"a"), 3);
+    assert_eq!(of(b"", &[0, 2, 0, 0], b"a"), 3);
+    assert_eq!(of(b"ab", &[1, 1, 0, 0, 0, 1, 0, 0], b""), 4);
+    assert_eq!(of(b"ab", &[3, 1, 0, 0], b""), 4);
+    assert_eq!(of(b"", &[], &long[..MAX_TEXT + 1]), 5);
+    assert_eq!(of(b"", &[0, 0, 1, 1], b"a"), 5);
+    assert_eq!(of(b"", &[0, 0, 0, 1], b"\xFF"), 6);
+    assert_eq!(of(b"", &[0, 2, 0, 1], b"\xFF"), 0);
+    // The same through the type.
+    let made = FormatRecorder::try_from(View { data: b"", entries: &[0, 0, 0, 1], text: b"\xFF" });
+    assert_eq!(made, Err(Refusal::LabelIllFormed));
+}
+
+#[test]
+fn of_the_buffers() {
+    let row = View { data: b"ab cd", entries: &[0, 0, 0, 1, 5, 1, 0, 0], text: b"x" };
+    let of = |sizes, lines: usize| refused(sizes, |out| lent::write_wrapped(row, 2, false, out, &mut vec![0; lines]));
+    assert_eq!(of((4, 8, 1), 4), 21);
+    assert_eq!(of((5, 7, 1), 4), 22);
+    assert_eq!(of((5, 8, 0), 4), 23);
+    assert_eq!(of((5, 8, 1), 3), 24);
+    assert_eq!(of((5, 8, 1), 4), 0);
+    let mut lines = [7; 3];
+    assert_eq!((lent::wrap_bytes(b"ab cd", 2, false, &mut lines).refusal, lines), (24, [7; 3]));
+    let mut out = [7; 3];
+    assert_eq!((lent::elide_end(b"spruce", b"..", 4, &mut out).refusal, out), (21, [7; 3]));
+    assert_eq!((lent::elide_start(b"spruce", b"..", 4, &mut out).refusal, out), (21, [7; 3]));
+    assert_eq!((lent::complete_newline(b"fir", &mut out).refusal, out), (21, [7; 3]));
+}
+
+#[test]
+fn of_the_recorder() {
+    let used = |data| Used { data, ..Used::default() };
+    assert_eq!(refused(ENOUGH, |to| lent::write(to, used(65), b"")), 10);
+    assert_eq!(refused(ENOUGH, |to| lent::push_label(to, used(65), b"")), 10);
+    assert_eq!(refused(ENOUGH, |to| lent::push_label(to, used(0), b"\xFF")), 6);
+    assert_eq!(refused((0, 3, 0), |to| lent::pop_label(to, used(0))), 22);
+    assert_eq!(refused(ENOUGH, |to| lent::raw(to, used(0), b"")), 3);
+    assert_eq!(refused((0, 4, 0), |to| lent::raw(to, used(0), b"x")), 23);
+    let mut row = FormatRecorder::with_data("ab").unwrap();
+    assert_eq!(row.raw(b""), Err(Refusal::EntryShape));
+    assert_eq!(row, FormatRecorder::with_data("ab").unwrap());
+}
+
+#[test]
+fn of_replacements() {
+    let row = FormatRecorder::with_data("abc").unwrap();
+    let at = |start, end, from, to| Replacement { start, end, from, to };
+    let bad = [[at(2, 1, 0, 0), at(2, 2, 0, 0)], [at(0, 2, 0, 0), at(1, 2, 0, 0)], [at(0, 0, 0, 0), at(3, 4, 0, 0)], [at(0, 0, 1, 0), at(0, 0, 0, 0)], [at(0, 0, 0, 2), at(0, 0, 0, 0)]];
+    for records in bad {
+        let mut out = FormatRecorder::with_data("held").unwrap();
+        assert_eq!(write_replaced(&mut out, &row, &records, b"X"), Err(Refusal::ReplacementRange), "{records:?}");
+        assert_eq!(out.data(), b"held");
+    }
+}
+
+#[test]
+fn of_plain_texts() {
+    let long = "a".repeat(MAX_DATA + 1);
+    let mut out = [7; 3];
+    assert_eq!((lent::elide_end(b"\xFF", b"", 1, &mut out).refusal, out), (7, [7; 3]));
+    assert_eq!((lent::complete_newline(b"\xFF", &mut out).refusal, out), (7, [7; 3]));
+    assert_eq!(elide_end(&long, "", 1), Err(Refusal::DataTooLong));
+    assert_eq!(elide_start("", &long, 1), Err(Refusal::DataTooLong));
+    assert_eq!(wrap_bytes(long.as_bytes(), 1, false), Err(Refusal::DataTooLong));
+    assert_eq!(complete_newline(&long), Err(Refusal::DataTooLong));
+    assert_eq!(complete_newline(&long[1..]), Err(Refusal::ResultOverLimit));
+    assert_eq!(elide_end(&long[1..], "", MAX_DATA).unwrap().1, MAX_DATA);
+}
+
+#[test]
+fn names_and_numbers() {
+    let numbers: Vec<_> = Refusal::ALL.iter().map(|refusal| refusal.number()).collect();
+    assert_eq!(numbers, [1, 2, 3, 4, 5, 6, 7, 8, 9, 10, 21, 22, 23, 24]);
+    assert!(Refusal::ALL.iter().all(|refusal| Refusal::from_number(refusal.number()) == Some(*refusal)));
+    assert_eq!((Refusal::from_number(0), Refusal::from_number(11)), (None, None));
+    assert_eq!(Refusal::ResultOverLimit.to_string(), "the result is over a limit (refusal 9)");
+    // As an error of writing it can be taken out again.
+    let error: io::Error = FormatRecorder::new().write_all(&vec![0; MAX_DATA + 1]).unwrap_err();
+    assert_eq!(error.get_ref().unwrap().downcast_ref(), Some(&Refusal::ResultOverLimit));
+}
