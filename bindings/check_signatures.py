@@ -99,7 +99,7 @@ def main():
     c_place = [f"{C_TYPES[kind]} {name}" for name, kind in (f.removeprefix("pub ").split(":") for f in place)]
     compare("ruszvedok_place", c_place, fields(header, r"typedef struct ruszvedok_place", ";"))
 
-    numbers = re.findall(r"Refusal::(\w+) => (\d+)", capi)
+    numbers = re.findall(r"Refusal::(\w+) => (\d+)", read("crates/recording/src/lib.rt"))
     compare("enum Refusal", [f"{name} = {n}" for name, n in numbers], fields(refusals, r"pub enum Refusal", ","))
     c_name = lambda name: "RUSZVEDOK" + re.sub(r"([A-Z])", r"_\1", name).upper()
     compare("enum ruszvedok_refusal", [f"{c_name(name)} = {n}" for name, n in numbers], fields(header, r"enum ruszvedok_refusal", ","))
