@@ -39,11 +39,18 @@ fn seen_in_word(t: &[u16; 256], s: &[u8], i: usize) -> Seen
         return Seen { len: 0, width: 0 };
     }
     let b = s[i];
-    if b == 0x20 {
-        return Seen { len: 0, width: 0 };
+    // Most bytes are printable ASCII, which takes two tests here.
+    if b <= 0x20 {
+        if b == 0x20 {
+            return Seen { len: 0, width: 0 };
+        }
+        if b == 0x0A {
+            return Seen { len: 0, width: 0 };
+        }
+        return seen_at(t, s, i);
     }
-    if b == 0x0A {
-        return Seen { len: 0, width: 0 };
+    if b < 0x7F {
+        return Seen { len: 1, width: 1 };
     }
     seen_at(t, s, i)
 }

@@ -1,6 +1,6 @@
 -- The lines counted and the line list written, one line further.
 -- The idea: what is done, and the lines from `at` on, make all lines of the data (`restLines` at 0 is `wrapLines`).
-use Prim.Native.Nat.{ℕ, _+_, _-_, _*_, _≤_, _<_}
+use Prim.Native.Nat.{ℕ, _+_, _-_, _*_, _/_, _≤_, _<_}
 use native.Mathlib.Omega.{arith}
 use native.Mathlib.Numerals.{add-one}
 use mathlib.Core.Bool.{Bool, true, false}
@@ -12,7 +12,7 @@ use borrow.Author.Tests.{lt-ltb, le-ltb}
 use Rattle.buffer.specs.Place.{over, overAt}
 use Rattle.buffer.proofs.Laws.{put-over}
 use Rattle.recording.specs.Refusals.{dataLimit}
-use Rattle.recording.specs.Outcome.{Outcome, refused, done, overLimit, noRoom, refusalOf, settle}
+use Rattle.recording.specs.Outcome.{refused, done, overLimit, noRoom, refusalOf, settle}
 use Rattle.layout.specs.Wrap.{Line, lineOf, lineNumbers, wrapLines}
 use Rattle.line.specs.Rest.{restLines}
 use Rattle.line.specs.Line.{following}
@@ -104,11 +104,15 @@ module _ (w : ℕ) (b : Bool) (d old lines : List ℕ) (k at : ℕ) (S : Written
   next lines′ k′ p q l m n =
       record { done = S .done ++ one; holds = put lines′ q; end = omega (arith, p, S .end, length-append (S .done) one); rest = rw m at more; within = n; long = l ∙ S .long }
 
-  pub last : (lines′ : List ℕ) → lines′ ≡ overAt k one lines → r .more ≡ false → lines′ ≡ over (lineNumbers (wrapLines w b d)) old
+  whole : r .more ≡ false → S .done ++ one ≡ lineNumbers (wrapLines w b d)
   unfolding following
-  last lines′ q m =
-      let z : S .done ++ one ≡ lineNumbers (wrapLines w b d) = sym (append-nil (S .done ++ one)) ∙ rw m at more in
-      put lines′ q ∙ ap (λ (l : List ℕ). over l old) z
+  whole m = sym (append-nil (S .done ++ one)) ∙ rw m at more
+
+  pub last : (lines′ : List ℕ) → lines′ ≡ overAt k one lines → r .more ≡ false → lines′ ≡ over (lineNumbers (wrapLines w b d)) old
+  last lines′ q m = put lines′ q ∙ ap (λ (l : List ℕ). over l old) (whole m)
+
+  pub last-count : (k′ : ℕ) → k′ ≡ k + lineSize → r .more ≡ false → k′ / lineSize ≡ length (wrapLines w b d)
+  last-count k′ p m = omega (arith, p, S .end, ap length (whole m), length-append (S .done) one, numbers-length (wrapLines w b d))
 
 -- ── the outcome: refusal 1, refusal 24, or the lines
 module _ (w : ℕ) (b : Bool) (d : List ℕ) (room : ℕ) where

@@ -1,6 +1,6 @@
 // Wrapping data bytes: the lines, first byte and end of each, in a lent line list.
 // `wrap_bytes` answers and leaves what `wrapBytesOutcome` of `specs/WrapBytes.antt` says, refusals included.
-// The lines are counted first, so that a refused call touches nothing.
+// A refused call touches nothing: the lines are counted first, unless the list takes as many as the data can have.
 use line::Next;
 use line::next_line;
 use recording::Answer;
@@ -8,6 +8,7 @@ use recording::Refusal;
 ghost use mathlib.Core.Path.{_≡_};
 ghost use mathlib.Core.List.{[], _∷_};
 ghost use Prim.Native.Nat.{_+_, _*_, _≤_};
+ghost use lib.Dec.{leb};
 ghost use lib.ListN.{length};
 ghost use Rattle.chars.specs.Leads.{leadTable};
 ghost use Rattle.buffer.specs.Place.{over, overAt};
@@ -19,7 +20,7 @@ ghost use Rattle.wrap.specs.WrapBytes.{lineSize, linesOf, lentLines, wra
 const DATA_LIMIT: usize = 1048576;
 
 // The numbers of a line in the line list: first byte and end.
-const LINE_NUMBERS: usize = 2;
+pub const LINE_NUMBERS: usize = 2;
 
 // How many lines there are, and how many bytes of the data they show.
 pub struct Lines {
@@ -53,7 +54,7 @@ pub fn count_lines(t: &[u16; 256], data: &[u8], width: u32, break_words: bool) -
 }
 
 // Puts the numbers of one line at k, and returns the place after them.
-fn set_line(lines: &mut [u32], k: usize, first: u32, end: u32) -> usize
+pub fn set_line(lines: &mut [u32], k: usize, first: u32, end: u32) -> usize
     requires { ⌜ k + lineSize ≤ length (now lines) ⌝ }
     ensures { λ r. ⌜ (r ≡ k + lineSize) × (now (lines .exit) ≡ overAt k (lineNumbers (lineOf first end ∷ [])) (now (lines .entry))) ⌝ }
 {
@@ -62,12 +63,19 @@ fn set_line(lines: &mut [u32], k: usize, first: u32, end: u32) -> usize
     k + LINE_NUMBERS
 }
 
-// The lines that the data is wrapped into, written.
-pub fn write_lines(t: &[u16; 256], data: &[u8], width: u32, break_words: bool, lines: &mut [u32])
+// The lines that the data is wrapped into, written; returns how many they are.
+fn write_lines(
+    t: &[u16; 256],
+    data: &[u8],
+    width: u32,
+    break_words: bool,
+    lines: &mut [u32],
+) -> usize
     requires { ⌜ now t ≡ leadTable ⌝ }
     requires { ⌜ length (now «data») ≤ dataLimit ⌝ }
     requires { ⌜ length (lineNumbers (wrapLines width «break_words» (now «data»))) ≤ length (now lines) ⌝ }
     ensures { λ _. ⌜ now (lines .exit) ≡ over (lineNumbers (wrapLines width «break_words» (now («data» .entry)))) (now (lines .entry)) ⌝ }
+    ensures { λ r. ⌜ r ≡ length (wrapLines width «break_words» (now («data» .entry))) ⌝ }
 {
     let mut k = 0;
     let mut at = 0;
@@ -80,6 +88,7 @@ pub fn write_lines(t: &[u16; 256], data: &[u8], width: u32, break_words: bool, l
         }
         at = l.next;
     }
+    k / LINE_NUMBERS
 }
 
 // How many numbers so many lines take in the line list.
@@ -90,8 +99,20 @@ pub fn numbers_of(count: usize) -> usize
     count * LINE_NUMBERS
 }
 
+// Whether the lines fit in a list of so many numbers. There is at most one line a byte and one more, so that they need not be counted for a list that takes these.
+fn lines_fit(t: &[u16; 256], data: &[u8], width: u32, break_words: bool, room: usize) -> bool
+    requires { ⌜ now t ≡ leadTable ⌝ }
+    requires { ⌜ length (now «data») ≤ dataLimit ⌝ }
+    ensures { λ r. ⌜ r ≡ leb (length (lineNumbers (wrapLines width «break_words» (now («data» .entry))))) room ⌝ }
+{
+    if numbers_of(data.len() + 1) <= room {
+        return true;
+    }
+    let found = count_lines(t, data, width, break_words);
+    numbers_of(found.count) <= room
+}
+
 // The lines that the data is wrapped into, in `lines`; the number that comes back is their count.
-// There is at most one line a byte and one more.
 pub fn wrap_bytes(data: &[u8], width: u32, break_words: bool, lines: &mut [u32]) -> Answer
     ensures { λ r. ⌜ answerOf r ≡ returned (wrapBytesOutcome width «break_words» (now («data» .entry)) (length (now (lines .entry)))) ⌝ }
     ensures { λ _. ⌜ now (lines .exit) ≡ lentAfter (wrapBytesOutcome width «break_words» (now («data» .entry)) (length (now (lines .entry)))) (lentLines (now (lines .entry))) .lines ⌝ }
@@ -101,12 +122,10 @@ pub fn wrap_bytes(data: &[u8], width: u32, break_words: bool, lines: &mut [u32])
         return Answer::Refused(Refusal::DataTooLong);
     }
     let t = chars::LEADS;
-    let found = count_lines(&t, data, width, break_words);
-    let count = found.count;
-    if lines.len() < numbers_of(count) {
+    if !lines_fit(&t, data, width, break_words, lines.len()) {
         return Answer::Refused(Refusal::LineListTooShort);
     }
-    write_lines(&t, data, width, break_words, lines);
+    let count = write_lines(&t, data, width, break_words, lines);
     Answer::Done {
         data: 0,
         entries: 0,

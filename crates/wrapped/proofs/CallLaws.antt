@@ -1,7 +1,6 @@
 -- What `write_wrapped` has answered and left where it stops, and where nothing refuses: the outcome of the call, from what its parts found.
 -- The idea: the sizes that were settled are those of the plan (`SizeLaws`), so the laws of `OutcomeLaws` apply.
-use Prim.Native.Nat.{ℕ, _+_, _-_, _*_, _≤_}
-use native.Mathlib.Omega.{arith}
+use Prim.Native.Nat.{ℕ, _≤_}
 use mathlib.Core.Bool.{Bool}
 use mathlib.Core.Path.{_≡_, refl, sym, ap, _∙_}
 use mathlib.Core.List.{List}
@@ -11,7 +10,7 @@ use Rattle.recording.specs.declared.Refusal.{Refusal}
 use Rattle.recording.specs.declared.Checked.{Checked}
 use Rattle.recording.specs.declared.Checked.the-variants as C
 use Rattle.recording.specs.declared.Answer.the-variants.{Refused, Done}
-use Rattle.recording.specs.Recording.{Recording, recording, Item, items, dataOf, textOf}
+use Rattle.recording.specs.Recording.{Recording, recording, Item, items, textOf}
 use Rattle.recording.specs.Refusals.{recordingFault}
 use Rattle.recording.specs.Check.{faultOf, Counted}
 use Rattle.recording.specs.Outcome.{Room, Outcome, done, answerOf, returned, lentAfter}
@@ -25,11 +24,8 @@ use Rattle.writer.proofs.Steps.{sound}
 use Rattle.layout.specs.Wrap.{lineNumbers, wrapLines}
 use Rattle.layout.specs.Layout.{wrap, outcome, resultItems, resultOf, linesLeft, number, secondFault, replacementFault}
 use Rattle.outcomes.proofs.OutcomeLaws.{content-stops, sizes-stop, accepted, has-room, refused-call, done-answer, done-lent}
-use Rattle.wrap.specs.declared.Lines.{Lines}
-use Rattle.wrap.specs.WrapBytes.{lineSize, shownBytes, linesOf}
-use Rattle.wrap.proofs.WrapLaws.{numbers-length}
-use Rattle.wrapped.specs.Plan.{lentLined, callLined}
-use Rattle.wrapped.proofs.SizeLaws.{data-size, entry-size, text-size, line-room}
+use Rattle.wrapped.specs.Plan.{joinedLen, lentLined, callLined}
+use Rattle.wrapped.proofs.SizeLaws.{data-size, entry-size, text-size, within}
 
 module _ (w : ℕ) (b : Bool) (ds ns ts od oe ot ol : List ℕ) where
   abbrev content : Recording
@@ -65,58 +61,44 @@ module _ (w : ℕ) (b : Bool) (ds ns ts od oe ot ol : List ℕ) where
       no-records = refl
 
       -- the sizes that are settled
-      module _ (k : Counted v (length (textOf (items content)))) (x : Lines) (ex : x ≡ linesOf (wrapLines w b ds)) (l : ℕ) (el : l ≡ x .count * lineSize) (s : Settled)
-          (g : settledFault s ≡ sizesFault (x .bytes + (x .count - 1)) (length ns) n l room) where
-        count-is : x .count ≡ length (wrapLines w b ds)
-        unfolding linesOf
-        count-is = ap (λ (y : Lines). y .count) ex
-
-        bytes-is : x .bytes ≡ shownBytes (wrapLines w b ds)
-        unfolding linesOf
-        bytes-is = ap (λ (y : Lines). y .bytes) ex
-
+      module _ (k : Counted v (length (textOf (items content)))) (s : Settled)
+          (g : settledFault s ≡ sizesFault (joinedLen (wrapLines w b ds)) (length ns) n (length (lineNumbers (wrapLines w b ds))) room) where
         abbrev all : List Item
         all = resultItems (wrap w b) content
-
-        data-is : x .bytes + (x .count - 1) ≡ length (dataOf all)
-        data-is = omega (arith, bytes-is, count-is, data-size w b ds ns ts)
 
         text-is : n ≡ length (textOf all)
         text-is = fine-count v n (length (textOf (items content))) q k ∙ text-size w b ds ns ts
 
-        numbers-are : l ≡ length (lineNumbers (wrapLines w b ds))
-        numbers-are = el ∙ ap (λ (m : ℕ). m * lineSize) count-is ∙ sym (numbers-length (wrapLines w b ds))
-
-        lines-are : l ≡ length (lineNumbers (linesLeft (wrap w b) content))
+        lines-are : length (lineNumbers (wrapLines w b ds)) ≡ length (lineNumbers (linesLeft (wrap w b) content))
         unfolding linesLeft
-        lines-are = numbers-are
+        lines-are = refl
 
         pub sizes-refused : (f : Refusal) → s ≡ S.Refused f → Stops f
         sizes-refused f z =
             refused-call (callLined (wrap w b) od oe ot ol) content f (lentLined od oe ot ol)
-            (sizes-stop (wrap w b) room content fine no-second no-records all refl (x .bytes + (x .count - 1)) (length ns) n l data-is (entry-size w b ds ns ts fine) text-is lines-are s g f z)
+            (sizes-stop (wrap w b) room content fine no-second no-records all refl (joinedLen (wrapLines w b ds)) (length ns) n (length (lineNumbers (wrapLines w b ds))) (sym (data-size w b ds ns ts))
+            (entry-size w b ds ns ts fine) text-is lines-are s g f z)
 
         module _ (z : s ≡ S.Room) where
           goes : told ≡ done (resultOf (wrap w b) content)
           goes =
-              accepted (wrap w b) room content fine no-second no-records all refl (x .bytes + (x .count - 1)) (length ns) n l data-is (entry-size w b ds ns ts fine) text-is lines-are s g z
+              accepted (wrap w b) room content fine no-second no-records all refl (joinedLen (wrapLines w b ds)) (length ns) n (length (lineNumbers (wrapLines w b ds))) (sym (data-size w b ds ns ts))
+              (entry-size w b ds ns ts fine) text-is lines-are s g z
 
           pub room-all : Fits all (blank od oe ot)
           room-all =
-              has-room (wrap w b) room content fine no-second no-records all refl (x .bytes + (x .count - 1)) (length ns) n l data-is (entry-size w b ds ns ts fine) text-is lines-are s g z od oe ot refl refl
-              refl
+              has-room (wrap w b) room content fine no-second no-records all refl (joinedLen (wrapLines w b ds)) (length ns) n (length (lineNumbers (wrapLines w b ds))) (sym (data-size w b ds ns ts))
+              (entry-size w b ds ns ts fine) text-is lines-are s g z od oe ot refl refl refl
 
           pub room-lines : length (lineNumbers (wrapLines w b ds)) ≤ length ol
           unfolding settledFault
-          room-lines =
-              let h : sizesFault (x .bytes + (x .count - 1)) (length ns) n l room ≡ 0 = sym g ∙ ap settledFault z in
-              omega (arith, numbers-are, line-room (x .bytes + (x .count - 1)) (length ns) n l room h)
+          room-lines = within (joinedLen (wrapLines w b ds)) (length ns) n (length (lineNumbers (wrapLines w b ds))) room (sym g ∙ ap settledFault z) .line-room
 
           -- and it answers and leaves the result
-          pub finished : (od′ oe′ ot′ ol′ : List ℕ) (c : Cursor) → out od′ oe′ ot′ c ≡ add all (blank od oe ot) → ol′ ≡ over (lineNumbers (wrapLines w b ds)) ol
-              → (answerOf (Done (c .d) (c .e) (c .t) (x .count)) ≡ returned told) × (lentLined od′ oe′ ot′ ol′ ≡ lentAfter told (lentLined od oe ot ol))
+          pub finished : (od′ oe′ ot′ ol′ : List ℕ) (c : Cursor) (count : ℕ) → out od′ oe′ ot′ c ≡ add all (blank od oe ot) → ol′ ≡ over (lineNumbers (wrapLines w b ds)) ol → count ≡ length (wrapLines w b ds)
+              → (answerOf (Done (c .d) (c .e) (c .t) count) ≡ returned told) × (lentLined od′ oe′ ot′ ol′ ≡ lentAfter told (lentLined od oe ot ol))
           unfolding number linesLeft
-          finished od′ oe′ ot′ ol′ c v₁ v₂ = (
-            done-answer (callLined (wrap w b) od oe ot ol) content all (x .count) od oe ot od′ oe′ ot′ c goes refl (sym count-is) v₁,
-            done-lent (callLined (wrap w b) od oe ot ol) content all (x .count) od oe ot od′ oe′ ot′ c goes refl (sym count-is) v₁ ol ol′ v₂,
+          finished od′ oe′ ot′ ol′ c count v₁ v₂ v₃ = (
+            done-answer (callLined (wrap w b) od oe ot ol) content all count od oe ot od′ oe′ ot′ c goes refl (sym v₃) v₁,
+            done-lent (callLined (wrap w b) od oe ot ol) content all count od oe ot od′ oe′ ot′ c goes refl (sym v₃) v₁ ol ol′ v₂,
           )

@@ -13,18 +13,19 @@ use Rattle.recording.specs.Recording.{recording, Item, items, dataOf, textOf}
 use Rattle.recording.specs.Edit.{editData}
 use Rattle.recording.specs.Refusals.{recordingFault, firstOf, refuseIf, dataLimit, entryLimit, textLimit}
 use Rattle.recording.specs.Outcome.{Room}
-use Rattle.recording.proofs.Lists.{AllOf, all-append}
+use Rattle.recording.proofs.Lists.{AllOf, all-append, or-left, or-right}
 use Rattle.recording.proofs.FaultLaws.{firstOf-zero, refuseIf-zero}
 use Rattle.recording.proofs.ItemsLaws.{data-items}
 use Rattle.recording.proofs.EditLaws.{edit-data}
 use Rattle.recording.proofs.SizeLaws.{entryCount, count-numbers, putCount, edit-count, putText, edit-text}
 use Rattle.writer.specs.Sizes.{sizesFault}
-use Rattle.writer.proofs.Sizes.{numbers-items, quads-of}
+use Rattle.writer.proofs.Sizes.{all-fit, numbers-items, quads-of}
 use Rattle.layout.specs.Wrap.{ontoFirst, splitLines, Word, Line, wholeLen, groupLines, wrappedLine, linesFrom, wrapLines}
 use Rattle.layout.specs.Layout.{wrapOps, wrap, resultItems}
 use Rattle.layout.proofs.StepLaws.{Ordered}
 use Rattle.layout.proofs.WordLaws.{shown-whole, wholes, wholes-fitted, wrap-ordered}
 use Rattle.wrap.specs.WrapBytes.{shownBytes}
+use Rattle.wrapped.specs.Plan.{joinedLen}
 
 -- ── no line ends past the data
 abbrev Before : ℕ → Line → Type 0
@@ -89,7 +90,7 @@ plan-data n at l (m ∷ ms) d e o h =
     let rest : List ℕ = drop (l .end - l .first) (drop (l .first - at) d) in
     omega (arith, k .0, length-append line (0x0A ∷ editData (wrapOps n (l .end) (m ∷ ms)) rest), plan-data n (l .end) m ms rest (k .1) (o .2) (h .1))
 
-lines-data : (n : ℕ) (ls : List Line) (d : List ℕ) → length d ≡ n → 0 < length ls → Ordered 0 ls → AllOf (Before n) ls → length (editData (wrapOps n 0 ls) d) ≡ shownBytes ls + (length ls - 1)
+lines-data : (n : ℕ) (ls : List Line) (d : List ℕ) → length d ≡ n → 0 < length ls → Ordered 0 ls → AllOf (Before n) ls → length (editData (wrapOps n 0 ls) d) ≡ joinedLen ls
 lines-data n [] d e s o h = absurd (omega arith)
 lines-data n (l ∷ ls) d e s o h = omega (arith, plan-data n 0 l ls d (omega (arith, e)) o h)
 
@@ -101,7 +102,7 @@ no-entries n at (l ∷ m ∷ ls) = let k = no-entries n (l .end) (m ∷ ls) in (
 
 -- ── the sizes of the result
 module _ (w : ℕ) (b : Bool) (ds ns ts : List ℕ) where
-  pub data-size : length (dataOf (resultItems (wrap w b) (recording ds ns ts))) ≡ shownBytes (wrapLines w b ds) + (length (wrapLines w b ds) - 1)
+  pub data-size : length (dataOf (resultItems (wrap w b) (recording ds ns ts))) ≡ joinedLen (wrapLines w b ds)
   unfolding resultItems
   data-size =
       let ls : List Line = wrapLines w b ds in
@@ -120,17 +121,44 @@ module _ (w : ℕ) (b : Bool) (ds ns ts : List ℕ) where
   unfolding resultItems
   text-size = omega (arith, edit-text (wrapOps (length ds) 0 (wrapLines w b ds)) (items (recording ds ns ts)), no-entries (length ds) 0 (wrapLines w b ds) .1)
 
--- ── the line list has room where nothing is refused
-pub line-room : (d e t l : ℕ) (o : Room) → sizesFault d e t l o ≡ 0 → l ≤ o .lines
+-- ── sizes that nothing refuses
+pub record Within (d e t l : ℕ) (o : Room) : Type 0 where
+  pub data-limit : d ≤ dataLimit
+  pub entry-limit : e ≤ entryLimit
+  pub text-limit : t ≤ textLimit
+  pub data-room : d ≤ o .dataBytes
+  pub entry-room : e ≤ o .entryNumbers
+  pub text-room : t ≤ o .text
+  pub line-room : l ≤ o .lines
+
+pub within : (d e t l : ℕ) (o : Room) → sizesFault d e t l o ≡ 0 → Within d e t l o
 unfolding sizesFault
-line-room d e t l o h =
-    let a = firstOf-zero (refuseIf (ltb dataLimit d || ltb entryLimit e || ltb textLimit t) 9) (noRoomOf ∷ []) h in
-    let b = firstOf-zero noRoomOf [] (a .1) in
-    let c = firstOf-zero (refuseIf (ltb (o .dataBytes) d) 21) (refuseIf (ltb (o .entryNumbers) e) 22 ∷ refuseIf (ltb (o .text) t) 23 ∷ refuseIf (ltb (o .lines) l) 24 ∷ []) (b .0) in
-    let f = firstOf-zero (refuseIf (ltb (o .entryNumbers) e) 22) (refuseIf (ltb (o .text) t) 23 ∷ refuseIf (ltb (o .lines) l) 24 ∷ []) (c .1) in
-    let g = firstOf-zero (refuseIf (ltb (o .text) t) 23) (refuseIf (ltb (o .lines) l) 24 ∷ []) (f .1) in
-    let k = firstOf-zero (refuseIf (ltb (o .lines) l) 24) [] (g .1) in
-    ltb-false (o .lines) l (refuseIf-zero (ltb (o .lines) l) 23 (k .0))
-  where
-    noRoomOf : ℕ
-    noRoomOf = firstOf (refuseIf (ltb (o .dataBytes) d) 21 ∷ refuseIf (ltb (o .entryNumbers) e) 22 ∷ refuseIf (ltb (o .text) t) 23 ∷ refuseIf (ltb (o .lines) l) 24 ∷ [])
+within d e t l o h =
+    let n₉ : Bool = ltb dataLimit d || ltb entryLimit e || ltb textLimit t in
+    let n₂₄ : ℕ = refuseIf (ltb (o .lines) l) 24 in
+    let n₂₃ : ℕ = refuseIf (ltb (o .text) t) 23 in
+    let n₂₂ : ℕ = refuseIf (ltb (o .entryNumbers) e) 22 in
+    let n₂₁ : ℕ = refuseIf (ltb (o .dataBytes) d) 21 in
+    let a = firstOf-zero (refuseIf n₉ 9) (firstOf (n₂₁ ∷ n₂₂ ∷ n₂₃ ∷ n₂₄ ∷ []) ∷ []) h in
+    let b = firstOf-zero (firstOf (n₂₁ ∷ n₂₂ ∷ n₂₃ ∷ n₂₄ ∷ [])) [] (a .1) in
+    let c = firstOf-zero n₂₁ (n₂₂ ∷ n₂₃ ∷ n₂₄ ∷ []) (b .0) in
+    let f = firstOf-zero n₂₂ (n₂₃ ∷ n₂₄ ∷ []) (c .1) in
+    let g = firstOf-zero n₂₃ (n₂₄ ∷ []) (f .1) in
+    let k = firstOf-zero n₂₄ [] (g .1) in
+    let z = refuseIf-zero n₉ 8 (a .0) in
+    let y = or-left (ltb dataLimit d || ltb entryLimit e) (ltb textLimit t) z in
+    record {
+      data-limit = ltb-false dataLimit d (or-left (ltb dataLimit d) (ltb entryLimit e) y);
+      entry-limit = ltb-false entryLimit e (or-right (ltb dataLimit d) (ltb entryLimit e) y);
+      text-limit = ltb-false textLimit t (or-right (ltb dataLimit d || ltb entryLimit e) (ltb textLimit t) z);
+      data-room = ltb-false (o .dataBytes) d (refuseIf-zero (ltb (o .dataBytes) d) 20 (c .0));
+      entry-room = ltb-false (o .entryNumbers) e (refuseIf-zero (ltb (o .entryNumbers) e) 21 (f .0));
+      text-room = ltb-false (o .text) t (refuseIf-zero (ltb (o .text) t) 22 (g .0));
+      line-room = ltb-false (o .lines) l (refuseIf-zero (ltb (o .lines) l) 23 (k .0));
+    }
+
+-- where a larger result has room, so has a smaller one
+pub smaller-fits : (d d′ e t l l′ : ℕ) (o : Room) → sizesFault d′ e t l′ o ≡ 0 → d ≤ d′ → l ≤ l′ → sizesFault d e t l o ≡ 0
+smaller-fits d d′ e t l l′ o h p q =
+    let w = within d′ e t l′ o h in
+    all-fit d e t l o (omega (arith, w .data-limit)) (omega (arith, w .entry-limit)) (omega (arith, w .text-limit)) (omega (arith, w .data-room)) (w .entry-room) (w .text-room) (omega (arith, w .line-room))

@@ -1,5 +1,5 @@
 // `write_wrapped` (document 01, module 4): a recording whose lines are wrapped and joined by 0A, and the lines in a lent line list.
-// The call checks the content, counts its lines, asks whether the result fits, and only then writes. No entry is dropped.
+// The call checks the content, asks whether the result fits, and only then writes. No entry is dropped.
 // An added 0A comes after the entries at the finished line's end, so it has the labels of the content byte there.
 // `bytes`, `numbers` and `texts` are the lent buffers; `content`, `entries` and `text` the recording that is wrapped.
 use chars::LEADS;
@@ -7,9 +7,10 @@ use line::next_line;
 use recording::Answer;
 use recording::Checked;
 use recording::check;
+use wrap::LINE_NUMBERS;
 use wrap::count_lines;
 use wrap::numbers_of;
-use wrap::write_lines;
+use wrap::set_line;
 use writer::Cursor;
 use writer::Settled;
 use writer::keep;
@@ -21,12 +22,21 @@ ghost use Prim.Native.Nat.{_+_, _-_, _≤_};
 ghost use mathlib.Core.List.{[], _∷_};
 ghost use lib.ListN.{length};
 ghost use Rattle.chars.specs.Leads.{leadTable};
-ghost use Rattle.buffer.specs.Place.{overAt};
+ghost use Rattle.buffer.specs.Place.{over, overAt};
 ghost use Rattle.recording.specs.Recording.{recording};
+ghost use Rattle.recording.specs.Refusals.{dataLimit};
 ghost use Rattle.recording.specs.Outcome.{answerOf, returned, lentAfter};
+ghost use Rattle.writer.specs.Sizes.{sizesFault, roomOf, settledFault};
 ghost use Rattle.writer.specs.Write.{out, add, Fits, Ready, Sound, left, blank};
+ghost use Rattle.layout.specs.Wrap.{lineNumbers, wrapLines};
 ghost use Rattle.layout.specs.Layout as layout;
-ghost use Rattle.wrapped.specs.Plan.{lineItems, lineLeft, lentLined, callLined};
+ghost use Rattle.wrapped.specs.Plan.{lineItems, lineLeft, joinedLen, lentLined, callLined};
+
+// Where the writing has come to, and how many lines it has listed.
+pub struct Wrapped {
+    pub cursor: Cursor,
+    pub count: usize,
+}
 
 // One line: leaves the bytes up to `first` out and carries those up to `end` on.
 fn put_line(
@@ -60,22 +70,25 @@ fn put_newline(bytes: &mut [u8], c: Cursor) -> Cursor
     put_bytes(bytes, b"\n", 0, 1, c)
 }
 
-// All lines, joined by 0A, and the entries after the last one.
+// All lines, joined by 0A, and the entries after the last one; and the lines in the line list.
 fn put_wrapped(
     t: &[u16; 256],
     bytes: &mut [u8],
     numbers: &mut [u32],
     texts: &mut [u8],
+    lines: &mut [u32],
     content: &[u8],
     entries: &[u32],
     text: &[u8],
     width: u32,
     break_words: bool,
-) -> Cursor
+) -> Wrapped
     requires { ⌜ now t ≡ leadTable ⌝ }
     requires { ⌜ Sound (now content) (now entries) (now text) ⌝ }
     requires { ⌜ Fits (layout.resultItems (layout.wrap width «break_words») (recording (now content) (now entries) (now text))) (blank (now bytes) (now numbers) (now texts)) ⌝ }
-    ensures { λ r. ⌜ out (now (bytes .exit)) (now (numbers .exit)) (now (texts .exit)) r ≡ add (layout.resultItems (layout.wrap width «break_words») (recording (now (content .entry)) (now (entries .entry)) (now (text .entry)))) (blank (now (bytes .entry)) (now (numbers .entry)) (now (texts .entry))) ⌝ }
+    requires { ⌜ length (lineNumbers (wrapLines width «break_words» (now content))) ≤ length (now lines) ⌝ }
+    ensures { λ r. ⌜ out (now (bytes .exit)) (now (numbers .exit)) (now (texts .exit)) (r .cursor) ≡ add (layout.resultItems (layout.wrap width «break_words») (recording (now (content .entry)) (now (entries .entry)) (now (text .entry)))) (blank (now (bytes .entry)) (now (numbers .entry)) (now (texts .entry))) ⌝ }
+    ensures { λ r. ⌜ (now (lines .exit) ≡ over (lineNumbers (wrapLines width «break_words» (now (content .entry)))) (now (lines .entry))) × (r .count ≡ length (wrapLines width «break_words» (now (content .entry)))) ⌝ }
 {
     let mut c = Cursor {
         at: 0,
@@ -85,16 +98,19 @@ fn put_wrapped(
         t: 0,
     };
     let mut at = 0;
+    let mut k = 0;
     loop {
         let l = next_line(t, content, at, width, break_words);
-        c = put_line(bytes, numbers, texts, content, entries, text, c, at, l.end);
+        let end = l.end;
+        k = set_line(lines, k, at as u32, end as u32);
+        c = put_line(bytes, numbers, texts, content, entries, text, c, at, end);
         if !l.more {
             break;
         }
         c = put_newline(bytes, c);
         at = l.next;
     }
-    skip(
+    let last = skip(
         bytes,
         numbers,
         texts,
@@ -103,6 +119,72 @@ fn put_wrapped(
         text,
         c,
         content.len(),
+    );
+    Wrapped {
+        cursor: last,
+        count: k / LINE_NUMBERS,
+    }
+}
+
+// The most bytes that the lines joined by 0A can take. Without breaking, each added 0A stands in the place of at least one byte.
+fn most_bytes(content: &[u8], width: u32, break_words: bool) -> usize
+    requires { ⌜ length (now content) ≤ dataLimit ⌝ }
+    ensures { λ r. ⌜ joinedLen (wrapLines width «break_words» (now (content .entry))) ≤ r ⌝ }
+{
+    if !break_words {
+        return content.len();
+    }
+    if width == 0 {
+        return content.len();
+    }
+    2 * content.len()
+}
+
+// Refusals 9 and 21 to 24 of the result, which has e entry numbers and t text bytes, in buffers of these lengths.
+// Where the largest result has room, the lines need not be counted.
+fn settle_wrapped(
+    leads: &[u16; 256],
+    content: &[u8],
+    width: u32,
+    break_words: bool,
+    e: usize,
+    t: usize,
+    bytes: usize,
+    numbers: usize,
+    texts: usize,
+    lines: usize,
+) -> Settled
+    requires { ⌜ now leads ≡ leadTable ⌝ }
+    requires { ⌜ length (now content) ≤ dataLimit ⌝ }
+    ensures { λ r. ⌜ settledFault r ≡ sizesFault (joinedLen (wrapLines width «break_words» (now (content .entry)))) e t (length (lineNumbers (wrapLines width «break_words» (now (content .entry))))) (roomOf bytes numbers texts lines) ⌝ }
+{
+    let largest = settle(
+        most_bytes(content, width, break_words),
+        e,
+        t,
+        numbers_of(content.len() + 1),
+        bytes,
+        numbers,
+        texts,
+        lines,
+    );
+    match largest {
+        Settled::Room => {
+            return Settled::Room;
+        }
+        Settled::Refused(_) => {}
+    }
+    let found = count_lines(leads, content, width, break_words);
+    let count = found.count;
+    settle(
+        found.bytes + (count - 1),
+        e,
+        t,
+        numbers_of(count),
+        bytes,
+        numbers,
+        texts,
+        lines,
     )
 }
 
@@ -129,13 +211,13 @@ pub fn write_wrapped(
         }
         Checked::Fine(n) => n,
     };
-    let found = count_lines(&t, content, width, break_words);
-    let count = found.count;
-    let verdict = settle(
-        found.bytes + (count - 1),
+    let verdict = settle_wrapped(
+        &t,
+        content,
+        width,
+        break_words,
         entries.len(),
         size,
-        numbers_of(count),
         bytes.len(),
         numbers.len(),
         texts.len(),
@@ -147,22 +229,23 @@ pub fn write_wrapped(
         }
         Settled::Room => {}
     }
-    let c = put_wrapped(
+    let w = put_wrapped(
         &t,
         bytes,
         numbers,
         texts,
+        lines,
         content,
         entries,
         text,
         width,
         break_words,
     );
-    write_lines(&t, content, width, break_words, lines);
+    let c = w.cursor;
     Answer::Done {
         data: c.d,
         entries: c.e,
         text: c.t,
-        number: count as u64,
+        number: w.count as u64,
     }
 }

@@ -55,8 +55,11 @@ same-length c =
 
 returns : tie.Need-returns Inv-loop μ-loop
 returns c =
+    let S = c .before .before .before .before .before .before .before .loop .inv in
     let l = c .before .before .before .before .before .before .next-line in
-    laws.last _ _ _ _ _ _ _ (c .before .before .before .before .before .before .before .loop .inv) (l .result) (l .ensures .0) _ (c .before .before .before .before .set-line .ensures .1) (not-true (l .result .more) (c .if1 .taken))
+    let s = c .before .before .before .before .set-line in
+    let m = not-true (l .result .more) (c .if1 .taken) in
+    (laws.last _ _ _ _ _ _ _ S (l .result) (l .ensures .0) _ (s .ensures .1) m, laws.last-count _ _ _ _ _ _ _ S (l .result) (l .ensures .0) (s .result) (s .ensures .0) m)
 
 pub write-lines-spec : {M : Type 1} → statement M
 write-lines-spec =

@@ -1,19 +1,14 @@
 -- Where the call stops, its outcome is that refusal, and else the plan with the lines: each need is one law of `CallLaws`.
-use native.Mathlib.Omega.{arith}
 use borrow.Author.Needs.{needs}
 use Rattle.wrapped.proofs.CallLaws as call
 use Rattle.chars.specs.Leads.{leadTable}
-use Prim.Native.Nat.{_-_}
 use Rattle.wrapped.proofs.write_wrapped.Statement.{statement}
 use Rattle.wrapped.proofs.write_wrapped.Tie as tie
 use Rattle.wrapped.proofs.write_wrapped.Reads as reads
 use Rattle.wrapped.proofs.write_wrapped.Lts as lts
 use Rattle.recording.proofs.check.Reads as check-reads
-use Rattle.wrap.proofs.count_lines.Reads as count-lines-reads
-use Rattle.wrap.proofs.numbers_of.Reads as numbers-of-reads
-use Rattle.wrap.proofs.write_lines.Reads as write-lines-reads
 use Rattle.wrapped.proofs.put_wrapped.Reads as put-wrapped-reads
-use Rattle.writer.proofs.settle.Reads as settle-reads
+use Rattle.wrapped.proofs.settle_wrapped.Reads as settle-wrapped-reads
 
 check-requires : tie.Need-check-requires
 unfolding leadTable
@@ -33,43 +28,25 @@ returns c =
 enum-known-checked-2 : tie.Need-enum-known-checked-2
 enum-known-checked-2 c = search needs
 
-count-lines-requires : tie.Need-count-lines-requires
+settle-wrapped-requires : tie.Need-settle-wrapped-requires
 unfolding leadTable
-count-lines-requires c κs =
+settle-wrapped-requires c κs =
     let a = c .before .before .before .before .before .before .before .before .before .before .before .before .before .args in
     let k = c .before .before .before .before .check in
     let n = c .before .before .checked2 .given in
     (search needs, call.sound-content (a .width) (a .break-words) (a .content .now) (a .entries .now) (a .text .now) (a .bytes .now) (a .numbers .now) (a .texts .now) (a .lines .now) (k .result) (k .ensures .0) (n .0 .0) (n .1) .short)
-
-sub-settle : tie.Need-sub-settle
-sub-settle c = search needs
-
-add-settle : tie.Need-add-settle
-add-settle c = search needs
-
-numbers-of-requires : tie.Need-numbers-of-requires
-numbers-of-requires c κs =
-    let a = c .before .before .before .before .before .before .before .before .before .before .before .before .before .before .before .args in
-    let k = c .before .before .before .before .before .before .check in
-    let n = c .before .before .before .before .checked2 .given in
-    omega (arith, call.sound-content (a .width) (a .break-words) (a .content .now) (a .entries .now) (a .text .now) (a .bytes .now) (a .numbers .now) (a .texts .now) (a .lines .now) (k .result) (k .ensures .0) (n .0 .0) (n .1) .short, c .before .count-lines .ensures .1 .1)
-
-settle-requires : tie.Need-settle-requires
-settle-requires c κs = search needs
 
 enum-known-verdict : tie.Need-enum-known-verdict
 enum-known-verdict c = search needs
 
 returns-2 : tie.Need-returns-2
 returns-2 c =
-    let a = c .before .before .before .before .before .before .before .before .before .before .before .before .before .before .before .before .before .before .before .before .args in
-    let k = c .before .before .before .before .before .before .before .before .before .before .before .check in
-    let n = c .before .before .before .before .before .before .before .before .before .checked2 .given in
-    let x = c .before .before .before .before .before .before .count-lines in
-    let l = c .before .before .before .before .numbers-of in
-    let s = c .before .before .before .settle in
+    let a = c .before .before .before .before .before .before .before .before .before .before .before .before .before .before .before .before .before .args in
+    let k = c .before .before .before .before .before .before .before .before .check in
+    let n = c .before .before .before .before .before .before .checked2 .given in
+    let s = c .before .before .before .settle-wrapped in
     let f = c .before .verdict .given in
-    call.sizes-refused (a .width) (a .break-words) (a .content .now) (a .entries .now) (a .text .now) (a .bytes .now) (a .numbers .now) (a .texts .now) (a .lines .now) (k .result) (k .ensures .0) (n .0 .0) (n .1) (k .ensures .1 .0) (x .result) (x .ensures .0) (l .result) (l .ensures) (s .result) (s .ensures) (f .0 .0) (f .1)
+    call.sizes-refused (a .width) (a .break-words) (a .content .now) (a .entries .now) (a .text .now) (a .bytes .now) (a .numbers .now) (a .texts .now) (a .lines .now) (k .result) (k .ensures .0) (n .0 .0) (n .1) (k .ensures .1 .0) (s .result) (s .ensures) (f .0 .0) (f .1)
 
 enum-told : tie.Need-enum-told
 enum-told c = search needs
@@ -77,26 +54,20 @@ enum-told c = search needs
 put-wrapped-requires : tie.Need-put-wrapped-requires
 unfolding leadTable
 put-wrapped-requires c κs =
-    let a = c .before .before .before .before .before .before .before .before .before .before .before .before .before .before .before .before .before .before .before .before .before .before .before .args in
-    let k = c .before .before .before .before .before .before .before .before .before .before .before .before .before .before .check in
-    let n = c .before .before .before .before .before .before .before .before .before .before .before .before .checked2 .given in
-    let x = c .before .before .before .before .before .before .before .before .before .count-lines in
-    let l = c .before .before .before .before .before .before .before .numbers-of in
-    let s = c .before .before .before .before .before .before .settle in
-    let z = c .before .before .before .before .enum-told .given in
-    (search needs, (call.sound-content (a .width) (a .break-words) (a .content .now) (a .entries .now) (a .text .now) (a .bytes .now) (a .numbers .now) (a .texts .now) (a .lines .now) (k .result) (k .ensures .0) (n .0 .0) (n .1), call.room-all (a .width) (a .break-words) (a .content .now) (a .entries .now) (a .text .now) (a .bytes .now) (a .numbers .now) (a .texts .now) (a .lines .now) (k .result) (k .ensures .0) (n .0 .0) (n .1) (k .ensures .1 .0) (x .result) (x .ensures .0) (l .result) (l .ensures) (s .result) (s .ensures) (z .1)))
-
-write-lines-requires : tie.Need-write-lines-requires
-unfolding leadTable
-write-lines-requires c κs =
-    let a = c .before .before .before .before .before .before .before .before .before .before .before .before .before .before .before .before .before .before .before .before .before .before .before .before .before .before .before .before .before .before .before .before .args in
-    let k = c .before .before .before .before .before .before .before .before .before .before .before .before .before .before .before .before .before .before .before .before .before .before .before .check in
-    let n = c .before .before .before .before .before .before .before .before .before .before .before .before .before .before .before .before .before .before .before .before .before .checked2 .given in
-    let x = c .before .before .before .before .before .before .before .before .before .before .before .before .before .before .before .before .before .before .count-lines in
-    let l = c .before .before .before .before .before .before .before .before .before .before .before .before .before .before .before .before .numbers-of in
-    let s = c .before .before .before .before .before .before .before .before .before .before .before .before .before .before .before .settle in
-    let z = c .before .before .before .before .before .before .before .before .before .before .before .before .before .enum-told .given in
-    (search needs, (call.sound-content (a .width) (a .break-words) (a .content .now) (a .entries .now) (a .text .now) (a .bytes .now) (a .numbers .now) (a .texts .now) (a .lines .now) (k .result) (k .ensures .0) (n .0 .0) (n .1) .short, call.room-lines (a .width) (a .break-words) (a .content .now) (a .entries .now) (a .text .now) (a .bytes .now) (a .numbers .now) (a .texts .now) (a .lines .now) (k .result) (k .ensures .0) (n .0 .0) (n .1) (k .ensures .1 .0) (x .result) (x .ensures .0) (l .result) (l .ensures) (s .result) (s .ensures) (z .1)))
+    let a = c .before .before .before .before .before .before .before .before .before .before .before .before .before .before .before .before .before .before .before .before .before .args in
+    let k = c .before .before .before .before .before .before .before .before .before .before .before .before .check in
+    let n = c .before .before .before .before .before .before .before .before .before .before .checked2 .given in
+    let s = c .before .before .before .before .before .before .before .settle-wrapped in
+    let z = c .before .before .before .before .before .enum-told .given in (
+      search needs,
+      (
+        call.sound-content (a .width) (a .break-words) (a .content .now) (a .entries .now) (a .text .now) (a .bytes .now) (a .numbers .now) (a .texts .now) (a .lines .now) (k .result) (k .ensures .0) (n .0 .0) (n .1),
+        (
+          call.room-all (a .width) (a .break-words) (a .content .now) (a .entries .now) (a .text .now) (a .bytes .now) (a .numbers .now) (a .texts .now) (a .lines .now) (k .result) (k .ensures .0) (n .0 .0) (n .1) (k .ensures .1 .0) (s .result) (s .ensures) (z .1),
+          call.room-lines (a .width) (a .break-words) (a .content .now) (a .entries .now) (a .text .now) (a .bytes .now) (a .numbers .now) (a .texts .now) (a .lines .now) (k .result) (k .ensures .0) (n .0 .0) (n .1) (k .ensures .1 .0) (s .result) (s .ensures) (z .1),
+        ),
+      ),
+    )
 
 same-length : tie.Need-same-length
 same-length c = search needs
@@ -112,14 +83,13 @@ same-length-4 c = search needs
 
 returns-3 : tie.Need-returns-3
 returns-3 c =
-    let a = c .before .before .before .before .before .before .before .before .before .before .before .before .before .before .before .before .before .before .before .before .before .before .before .before .before .before .before .before .before .before .before .before .before .before .before .args in
-    let k = c .before .before .before .before .before .before .before .before .before .before .before .before .before .before .before .before .before .before .before .before .before .before .before .before .before .before .check in
-    let n = c .before .before .before .before .before .before .before .before .before .before .before .before .before .before .before .before .before .before .before .before .before .before .before .before .checked2 .given in
-    let x = c .before .before .before .before .before .before .before .before .before .before .before .before .before .before .before .before .before .before .before .before .before .count-lines in
-    let l = c .before .before .before .before .before .before .before .before .before .before .before .before .before .before .before .before .before .before .before .numbers-of in
-    let s = c .before .before .before .before .before .before .before .before .before .before .before .before .before .before .before .before .before .before .settle in
-    let z = c .before .before .before .before .before .before .before .before .before .before .before .before .before .before .before .before .enum-told .given in
-    call.finished (a .width) (a .break-words) (a .content .now) (a .entries .now) (a .text .now) (a .bytes .now) (a .numbers .now) (a .texts .now) (a .lines .now) (k .result) (k .ensures .0) (n .0 .0) (n .1) (k .ensures .1 .0) (x .result) (x .ensures .0) (l .result) (l .ensures) (s .result) (s .ensures) (z .1) _ _ _ _ (c .before .before .before .before .before .before .before .before .before .before .before .put-wrapped .result) (c .before .before .before .before .before .before .before .before .before .before .before .put-wrapped .ensures) (c .before .before .write-lines .ensures)
+    let a = c .before .before .before .before .before .before .before .before .before .before .before .before .before .before .before .before .before .before .before .before .before .before .before .before .before .before .before .before .before .before .before .args in
+    let k = c .before .before .before .before .before .before .before .before .before .before .before .before .before .before .before .before .before .before .before .before .before .before .check in
+    let n = c .before .before .before .before .before .before .before .before .before .before .before .before .before .before .before .before .before .before .before .before .checked2 .given in
+    let s = c .before .before .before .before .before .before .before .before .before .before .before .before .before .before .before .before .before .settle-wrapped in
+    let z = c .before .before .before .before .before .before .before .before .before .before .before .before .before .before .before .enum-told .given in
+    let w = c .before .before .before .before .before .before .before .before .before .put-wrapped in
+    call.finished (a .width) (a .break-words) (a .content .now) (a .entries .now) (a .text .now) (a .bytes .now) (a .numbers .now) (a .texts .now) (a .lines .now) (k .result) (k .ensures .0) (n .0 .0) (n .1) (k .ensures .1 .0) (s .result) (s .ensures) (z .1) _ _ _ _ (w .result .cursor) (w .result .count) (w .ensures .0) (w .ensures .1 .0) (w .ensures .1 .1)
 
 pub write-wrapped-spec : {M : Type 1} → statement M
 write-wrapped-spec =
@@ -129,16 +99,11 @@ write-wrapped-spec =
     enum-known-checked
     returns
     enum-known-checked-2
-    count-lines-requires
-    sub-settle
-    add-settle
-    numbers-of-requires
-    settle-requires
+    settle-wrapped-requires
     enum-known-verdict
     returns-2
     enum-told
     put-wrapped-requires
-    write-lines-requires
     same-length
     same-length-2
     same-length-3
