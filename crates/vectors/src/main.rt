@@ -1,0 +1,869 @@
+// Replays the vectors of the file `stdin`, which `bench/vectors` made from the Rust originals, and prints for each call how many there are and how many agree.
+// What is proved of a program is that it is safe; what it should print stands in the file `stdout`.
+//
+// A line is a vector, nineteen fields with one space between them; a line that starts with # says nothing:
+//   0 the call's number, its place in NAMES; 1 whether what is expected is right (1), or wrong in one place (0), so that the program must find a difference
+//   2 3 4 the content: data, entry numbers, text; 5 6 7 the second recording; 8 a width; 9 break_words
+//   10 to 14 the five numbers that the call answers; 15 16 17 18 the buffers that it is lent, in full, as it leaves them: data, entry numbers, text, line list
+// Bytes are two hexadecimal digits each, entry numbers and lines eight digits a number, - for none; all else is decimal. Lent buffers hold A5 before the call.
+// Calls on a text have it in 2 and their one or two results in 10 and 11; `write_replaced` has its records in 6 and its text in 5.
+// The calls that add have the lent buffers as they are before in 2 3 4, how much of them is used as three numbers in 6, and what is added in 5.
+use capi::ruszvedok_complete_newline;
+use capi::ruszvedok_elide_end;
+use capi::ruszvedok_elide_start;
+use capi::ruszvedok_pop_label;
+use capi::ruszvedok_push_label;
+use capi::ruszvedok_raw;
+use capi::ruszvedok_replay;
+use capi::ruszvedok_text_width;
+use capi::ruszvedok_truncate_end_pos;
+use capi::ruszvedok_truncate_start_pos;
+use capi::ruszvedok_well_formed;
+use capi::ruszvedok_wrap_bytes;
+use capi::ruszvedok_write;
+use capi::ruszvedok_write_indented;
+use capi::ruszvedok_write_padded_centered;
+use capi::ruszvedok_write_padded_end;
+use capi::ruszvedok_write_padded_start;
+use capi::ruszvedok_write_replaced;
+use capi::ruszvedok_write_truncated_end;
+use capi::ruszvedok_write_truncated_start;
+use capi::ruszvedok_write_wrapped;
+use capi::ruszvedok_zero_width_len;
+use sheet::decimal_in;
+use sheet::find;
+use sheet::unhex;
+ghost use mathlib.Core.Path.{_≡_};
+ghost use Prim.Native.Nat.{_≤_};
+ghost use lib.ListN.{length};
+
+// ── fields
+
+// Where the field after the one at `at` starts, or the end.
+fn next_field(line: &[u8], at: usize) -> usize
+    requires { ⌜ at ≤ length (now line) ⌝ }
+    ensures { λ r. ⌜ r ≤ length (now (line .entry)) ⌝ }
+{
+    let e = find(line, at, 0x20);
+    if e == line.len() {
+        return e;
+    }
+    e + 1
+}
+
+// Where the k-th field starts, or the end.
+fn field_start(line: &[u8], k: usize) -> usize
+    ensures { λ r. ⌜ r ≤ length (now (line .entry)) ⌝ }
+{
+    let mut at = 0;
+    let mut i = 0;
+    while i < k {
+        at = next_field(line, at);
+        i += 1;
+    }
+    at
+}
+
+fn field(line: &[u8], k: usize) -> &[u8] {
+    let a = field_start(line, k);
+    let e = find(line, a, 0x20);
+    &line[a..e]
+}
+
+fn number_in(line: &[u8], k: usize) -> u64 {
+    decimal_in(field(line, k))
+}
+
+// The bytes of a field, in `out`, and how many they are; none if they are too many.
+fn bytes_in(digits: &[u8], out: &mut [u8]) -> usize
+    ensures { λ r. ⌜ r ≤ length (now (out .exit)) ⌝ }
+{
+    if out.len() < digits.len() / 2 {
+        return 0;
+    }
+    unhex(digits, out)
+}
+
+fn word(a: u8, b: u8, c: u8, d: u8) -> u32 {
+    a as u32 * 16777216 + b as u32 * 65536 + c as u32 * 256 + d as u32
+}
+
+// The numbers of four bytes each, in `out`, and how many they are.
+fn join(raw: &[u8], out: &mut [u32]) -> usize
+    ensures { λ r. ⌜ r ≤ length (now (out .exit)) ⌝ }
+{
+    let mut k = 0;
+    let mut p = 0;
+    while k < out.len() {
+        if raw.len() < 4 {
+            return k;
+        }
+        if raw.len() - 4 < p {
+            return k;
+        }
+        out[k] = word(raw[p], raw[p + 1], raw[p + 2], raw[p + 3]);
+        k += 1;
+        p += 4;
+    }
+    k
+}
+
+fn numbers_in(digits: &[u8], out: &mut [u32]) -> usize
+    ensures { λ r. ⌜ r ≤ length (now (out .exit)) ⌝ }
+{
+    let mut raw: [u8; 512] = [0; 512];
+    let n = bytes_in(digits, &mut raw);
+    join(&raw[0..n], out)
+}
+
+// ── comparing with what is expected
+
+fn same_bytes(digits: &[u8], got: &[u8]) -> bool {
+    let mut want: [u8; 256] = [0; 256];
+    let n = bytes_in(digits, &mut want);
+    check::same(&want[0..n], got)
+}
+
+fn equal(a: &[u32], b: &[u32]) -> bool {
+    if a.len() != b.len() {
+        return false;
+    }
+    let mut i = 0;
+    while i < a.len() {
+        if a[i] != b[i] {
+            return false;
+        }
+        i += 1;
+    }
+    true
+}
+
+fn same_numbers(digits: &[u8], got: &[u32]) -> bool {
+    let mut want: [u32; 128] = [0; 128];
+    let n = numbers_in(digits, &mut want);
+    equal(&want[0..n], got)
+}
+
+fn same_answer(line: &[u8], res: &[u64; 5]) -> bool {
+    let mut k = 0;
+    while k < 5 {
+        if number_in(line, 10 + k) != res[k] {
+            return false;
+        }
+        k += 1;
+    }
+    true
+}
+
+// Whether the answer and all that was left in the buffers are as expected.
+fn agrees(
+    line: &[u8],
+    res: &[u64; 5],
+    data: &[u8],
+    entries: &[u32],
+    text: &[u8],
+    lines: &[u32],
+) -> bool {
+    if !same_answer(line, res) {
+        return false;
+    }
+    if !same_bytes(field(line, 15), data) {
+        return false;
+    }
+    if !same_numbers(field(line, 16), entries) {
+        return false;
+    }
+    if !same_bytes(field(line, 17), text) {
+        return false;
+    }
+    same_numbers(field(line, 18), lines)
+}
+
+// ── the calls, by their numbers
+
+fn text_call(call: u64, s: &[u8], max: u64, res: &mut [u64; 5]) {
+    if call == 0 {
+        res[0] = ruszvedok_text_width(s);
+        return;
+    }
+    if call == 1 {
+        res[0] = ruszvedok_well_formed(s) as u64;
+        return;
+    }
+    if call == 4 {
+        res[0] = ruszvedok_zero_width_len(s) as u64;
+        return;
+    }
+    place_call(call, s, max, res);
+}
+
+fn place_call(call: u64, s: &[u8], max: u64, res: &mut [u64; 5]) {
+    let place = if call == 2 {
+        ruszvedok_truncate_end_pos(s, max)
+    } else {
+        ruszvedok_truncate_start_pos(s, max)
+    };
+    res[0] = place.pos as u64;
+    res[1] = place.width;
+}
+
+fn plain_call(
+    call: u64,
+    text: &[u8],
+    ellipsis: &[u8],
+    width: u32,
+    breaks: bool,
+    out: &mut [u8],
+    lines: &mut [u32],
+    res: &mut [u64; 5],
+) {
+    if call == 12 {
+        ruszvedok_wrap_bytes(text, width, breaks, lines, res);
+        return;
+    }
+    if call == 15 {
+        ruszvedok_elide_start(text, ellipsis, width, out, res);
+        return;
+    }
+    if call == 16 {
+        ruszvedok_elide_end(text, ellipsis, width, out, res);
+        return;
+    }
+    ruszvedok_complete_newline(text, out, res);
+}
+
+fn content_call(
+    call: u64,
+    content: &[u8],
+    entries: &[u32],
+    text: &[u8],
+    new: &[u8],
+    records: &[u32],
+    width: u32,
+    breaks: bool,
+    bytes: &mut [u8],
+    numbers: &mut [u32],
+    texts: &mut [u8],
+    lines: &mut [u32],
+    res: &mut [u64; 5],
+) {
+    if call == 5 {
+        ruszvedok_replay(content, entries, text, bytes, numbers, texts, res);
+        return;
+    }
+    if call == 13 {
+        ruszvedok_write_wrapped(
+            content,
+            entries,
+            text,
+            width,
+            breaks,
+            bytes,
+            numbers,
+            texts,
+            lines,
+            res,
+        );
+        return;
+    }
+    ruszvedok_write_replaced(
+        content,
+        entries,
+        text,
+        records,
+        new,
+        bytes,
+        numbers,
+        texts,
+        res,
+    );
+}
+
+fn padding_call(
+    call: u64,
+    content: &[u8],
+    entries: &[u32],
+    text: &[u8],
+    second: &[u8],
+    second_entries: &[u32],
+    second_text: &[u8],
+    width: u32,
+    bytes: &mut [u8],
+    numbers: &mut [u32],
+    texts: &mut [u8],
+    res: &mut [u64; 5],
+) {
+    if call == 8 {
+        ruszvedok_write_padded_start(
+            content,
+            entries,
+            text,
+            second,
+            second_entries,
+            second_text,
+            width,
+            bytes,
+            numbers,
+            texts,
+            res,
+        );
+        return;
+    }
+    if call == 9 {
+        ruszvedok_write_padded_end(
+            content,
+            entries,
+            text,
+            second,
+            second_entries,
+            second_text,
+            width,
+            bytes,
+            numbers,
+            texts,
+            res,
+        );
+        return;
+    }
+    ruszvedok_write_padded_centered(
+        content,
+        entries,
+        text,
+        second,
+        second_entries,
+        second_text,
+        width,
+        bytes,
+        numbers,
+        texts,
+        res,
+    );
+}
+
+fn second_call(
+    call: u64,
+    content: &[u8],
+    entries: &[u32],
+    text: &[u8],
+    second: &[u8],
+    second_entries: &[u32],
+    second_text: &[u8],
+    width: u32,
+    bytes: &mut [u8],
+    numbers: &mut [u32],
+    texts: &mut [u8],
+    res: &mut [u64; 5],
+) {
+    if call == 6 {
+        ruszvedok_write_truncated_start(
+            content,
+            entries,
+            text,
+            second,
+            second_entries,
+            second_text,
+            width,
+            bytes,
+            numbers,
+            texts,
+            res,
+        );
+        return;
+    }
+    if call == 7 {
+        ruszvedok_write_truncated_end(
+            content,
+            entries,
+            text,
+            second,
+            second_entries,
+            second_text,
+            width,
+            bytes,
+            numbers,
+            texts,
+            res,
+        );
+        return;
+    }
+    if call == 11 {
+        ruszvedok_write_indented(
+            content,
+            entries,
+            text,
+            second,
+            second_entries,
+            second_text,
+            bytes,
+            numbers,
+            texts,
+            res,
+        );
+        return;
+    }
+    padding_call(
+        call,
+        content,
+        entries,
+        text,
+        second,
+        second_entries,
+        second_text,
+        width,
+        bytes,
+        numbers,
+        texts,
+        res,
+    );
+}
+
+fn layout_call(
+    call: u64,
+    content: &[u8],
+    entries: &[u32],
+    text: &[u8],
+    second: &[u8],
+    second_entries: &[u32],
+    second_text: &[u8],
+    width: u32,
+    breaks: bool,
+    bytes: &mut [u8],
+    numbers: &mut [u32],
+    texts: &mut [u8],
+    lines: &mut [u32],
+    res: &mut [u64; 5],
+) {
+    if call == 5 || call == 13 || call == 14 {
+        content_call(
+            call,
+            content,
+            entries,
+            text,
+            second,
+            second_entries,
+            width,
+            breaks,
+            bytes,
+            numbers,
+            texts,
+            lines,
+            res,
+        );
+        return;
+    }
+    if call < 12 {
+        second_call(
+            call,
+            content,
+            entries,
+            text,
+            second,
+            second_entries,
+            second_text,
+            width,
+            bytes,
+            numbers,
+            texts,
+            res,
+        );
+        return;
+    }
+    plain_call(call, content, second, width, breaks, bytes, lines, res);
+}
+
+fn adding_call(
+    call: u64,
+    content: &mut [u8],
+    content_len: usize,
+    entries: &mut [u32],
+    entries_len: usize,
+    text: &mut [u8],
+    text_len: usize,
+    added: &[u8],
+    res: &mut [u64; 5],
+) {
+    if call == 18 {
+        ruszvedok_write(
+            content,
+            content_len,
+            entries,
+            entries_len,
+            text,
+            text_len,
+            added,
+            res,
+        );
+        return;
+    }
+    if call == 19 {
+        ruszvedok_push_label(
+            content,
+            content_len,
+            entries,
+            entries_len,
+            text,
+            text_len,
+            added,
+            res,
+        );
+        return;
+    }
+    if call == 20 {
+        ruszvedok_pop_label(
+            content,
+            content_len,
+            entries,
+            entries_len,
+            text,
+            text_len,
+            res,
+        );
+        return;
+    }
+    ruszvedok_raw(
+        content,
+        content_len,
+        entries,
+        entries_len,
+        text,
+        text_len,
+        added,
+        res,
+    );
+}
+
+// ── a vector: whether what is expected came
+
+fn text_agrees(line: &[u8], call: u64, s: &[u8]) -> bool {
+    let mut res: [u64; 5] = [0; 5];
+    text_call(call, s, number_in(line, 8), &mut res);
+    same_answer(line, &res)
+}
+
+fn length_of(n: u32) -> usize {
+    n as usize
+}
+
+fn adding_agrees(
+    line: &[u8],
+    call: u64,
+    content: &mut [u8],
+    entries: &mut [u32],
+    text: &mut [u8],
+    added: &[u8],
+    used: &[u32],
+) -> bool {
+    if used.len() != 3 {
+        return false;
+    }
+    let mut res: [u64; 5] = [0; 5];
+    adding_call(
+        call,
+        content,
+        length_of(used[0]),
+        entries,
+        length_of(used[1]),
+        text,
+        length_of(used[2]),
+        added,
+        &mut res,
+    );
+    agrees(line, &res, content, entries, text, &used[0..0])
+}
+
+fn width_in(line: &[u8]) -> u32 {
+    let n = number_in(line, 8);
+    if 4294967295 < n {
+        return 0;
+    }
+    n as u32
+}
+
+fn layout_agrees(
+    line: &[u8],
+    call: u64,
+    content: &[u8],
+    entries: &[u32],
+    text: &[u8],
+    second: &[u8],
+    second_entries: &[u32],
+    second_text: &[u8],
+    bytes: &mut [u8],
+    numbers: &mut [u32],
+    texts: &mut [u8],
+    lines: &mut [u32],
+) -> bool {
+    let mut res: [u64; 5] = [0; 5];
+    let breaks = number_in(line, 9) == 1;
+    let width = width_in(line);
+    layout_call(
+        call,
+        content,
+        entries,
+        text,
+        second,
+        second_entries,
+        second_text,
+        width,
+        breaks,
+        bytes,
+        numbers,
+        texts,
+        lines,
+        &mut res,
+    );
+    agrees(line, &res, bytes, numbers, texts, lines)
+}
+
+fn least(a: usize, b: usize) -> usize
+    ensures { λ r. ⌜ r ≤ b ⌝ }
+{
+    if a < b { a } else { b }
+}
+
+// How long the lent buffer of a field is.
+fn bytes_room(line: &[u8], k: usize, most: usize) -> usize
+    ensures { λ r. ⌜ r ≤ most ⌝ }
+{
+    let digits = field(line, k);
+    least(digits.len() / 2, most)
+}
+
+fn numbers_room(line: &[u8], k: usize, most: usize) -> usize
+    ensures { λ r. ⌜ r ≤ most ⌝ }
+{
+    let digits = field(line, k);
+    least(digits.len() / 8, most)
+}
+
+// Lends parts as long as the buffers that are expected.
+fn parts_agree(
+    line: &[u8],
+    call: u64,
+    content: &[u8],
+    entries: &[u32],
+    text: &[u8],
+    second: &[u8],
+    second_entries: &[u32],
+    second_text: &[u8],
+    bytes: &mut [u8],
+    numbers: &mut [u32],
+    texts: &mut [u8],
+    lines: &mut [u32],
+) -> bool {
+    let a = bytes_room(line, 15, bytes.len());
+    let b = numbers_room(line, 16, numbers.len());
+    let c = bytes_room(line, 17, texts.len());
+    let d = numbers_room(line, 18, lines.len());
+    layout_agrees(
+        line,
+        call,
+        content,
+        entries,
+        text,
+        second,
+        second_entries,
+        second_text,
+        &mut bytes[0..a],
+        &mut numbers[0..b],
+        &mut texts[0..c],
+        &mut lines[0..d],
+    )
+}
+
+// Lends buffers that hold A5.
+fn filled_agree(
+    line: &[u8],
+    call: u64,
+    content: &[u8],
+    entries: &[u32],
+    text: &[u8],
+    second: &[u8],
+    second_entries: &[u32],
+    second_text: &[u8],
+) -> bool {
+    let mut bytes: [u8; 256] = [0xA5; 256];
+    let mut numbers: [u32; 128] = [0xA5A5A5A5; 128];
+    let mut texts: [u8; 256] = [0xA5; 256];
+    let mut lines: [u32; 128] = [0xA5A5A5A5; 128];
+    parts_agree(
+        line,
+        call,
+        content,
+        entries,
+        text,
+        second,
+        second_entries,
+        second_text,
+        &mut bytes,
+        &mut numbers,
+        &mut texts,
+        &mut lines,
+    )
+}
+
+// Reads the second recording.
+fn content_agrees(
+    line: &[u8],
+    call: u64,
+    content: &mut [u8],
+    entries: &mut [u32],
+    text: &mut [u8],
+) -> bool {
+    let mut second: [u8; 256] = [0; 256];
+    let mut second_entries: [u32; 128] = [0; 128];
+    let mut second_text: [u8; 256] = [0; 256];
+    let d = bytes_in(field(line, 5), &mut second);
+    let e = numbers_in(field(line, 6), &mut second_entries);
+    let t = bytes_in(field(line, 7), &mut second_text);
+    if 18 <= call {
+        return adding_agrees(
+            line,
+            call,
+            content,
+            entries,
+            text,
+            &second[0..d],
+            &second_entries[0..e],
+        );
+    }
+    filled_agree(
+        line,
+        call,
+        content,
+        entries,
+        text,
+        &second[0..d],
+        &second_entries[0..e],
+        &second_text[0..t],
+    )
+}
+
+// Reads the content.
+fn vector_agrees(line: &[u8], call: u64) -> bool {
+    let mut content: [u8; 256] = [0; 256];
+    let mut entries: [u32; 128] = [0; 128];
+    let mut text: [u8; 256] = [0; 256];
+    let d = bytes_in(field(line, 2), &mut content);
+    if call < 5 {
+        return text_agrees(line, call, &content[0..d]);
+    }
+    let e = numbers_in(field(line, 3), &mut entries);
+    let t = bytes_in(field(line, 4), &mut text);
+    content_agrees(
+        line,
+        call,
+        &mut content[0..d],
+        &mut entries[0..e],
+        &mut text[0..t],
+    )
+}
+
+// ── counting
+
+// One more at k.
+fn count(counts: &mut [u64; 23], k: usize) {
+    if k < 23 {
+        counts[k] = std::num::wrapping_add_u64(counts[k], 1);
+    }
+}
+
+fn tell(number: u64) {
+    io::write_all(1, b"line ");
+    io::print_decimal(1, number);
+    io::write_all(1, b" differs\n");
+}
+
+// A vector of the call at k, or at 22 where what is expected is wrong.
+fn count_vector(
+    line: &[u8],
+    number: u64,
+    k: usize,
+    due: bool,
+    found: bool,
+    total: &mut [u64; 23],
+    agreed: &mut [u64; 23],
+) {
+    count(total, k);
+    if due == found {
+        count(agreed, k);
+        return;
+    }
+    tell(number);
+}
+
+fn is_comment(line: &[u8]) -> bool {
+    if line.len() == 0 {
+        return false;
+    }
+    line[0] == 0x23
+}
+
+fn replay_line(line: &[u8], number: u64, total: &mut [u64; 23], agreed: &mut [u64; 23]) {
+    if is_comment(line) {
+        return;
+    }
+    let call = number_in(line, 0);
+    if 22 <= call {
+        tell(number);
+        return;
+    }
+    let found = vector_agrees(line, call);
+    if number_in(line, 1) == 0 {
+        count_vector(line, number, 22, false, found, total, agreed);
+        return;
+    }
+    count_vector(line, number, call as usize, true, found, total, agreed);
+}
+
+fn replay_lines(list: &[u8], total: &mut [u64; 23], agreed: &mut [u64; 23]) {
+    let mut p = 0;
+    let mut number: u64 = 0;
+    while p < list.len() {
+        let e = find(list, p, 0x0A);
+        number += 1;
+        replay_line(&list[p..e], number, total, agreed);
+        p = e + 1;
+    }
+}
+
+// The k-th name; what is wrong on purpose comes after the calls.
+fn name(k: usize) {
+    io::write_all(
+        1,
+        field(
+            b"text_width well_formed truncate_end_pos truncate_start_pos zero_width_len replay write_truncated_start write_truncated_end write_padded_start write_padded_end write_padded_centered write_indented wrap_bytes write_wrapped write_replaced elide_start elide_end complete_newline write push_label pop_label raw wrong",
+            k,
+        ),
+    );
+}
+
+fn row(k: usize, total: u64, agreed: u64) {
+    name(k);
+    io::write_all(1, b" ");
+    io::print_decimal(1, total);
+    io::write_all(1, b" ");
+    io::print_decimal(1, agreed);
+    io::write_all(1, b"\n");
+}
+
+fn rows(total: &[u64; 23], agreed: &[u64; 23]) {
+    let mut k = 0;
+    while k < 23 {
+        row(k, total[k], agreed[k]);
+        k += 1;
+    }
+}
+
+fn list_buffer() -> [u8; 1048576] {
+    [0; 1048576]
+}
+
+fn main() {
+    let mut list = list_buffer();
+    let n = io::read_full(0, &mut list);
+    let mut total: [u64; 23] = [0; 23];
+    let mut agreed: [u64; 23] = [0; 23];
+    replay_lines(&list[..n], &mut total, &mut agreed);
+    rows(&total, &agreed);
+}
