@@ -1,7 +1,7 @@
 // Replays the vectors of the file `stdin`, which `bench/vectors` made from the Rust originals, and prints for each call how many there are and how many agree.
 // What is proved of a program is that it is safe; what it should print stands in the file `stdout`.
 //
-// A line is a vector, nineteen fields with one space between them; a line that starts with # says nothing:
+// A line is a vector, nineteen fields with one space between them; a line that starts otherwise says nothing:
 //   0 the call's number, its place in NAMES; 1 whether what is expected is right (1), or wrong in one place (0), so that the program must find a difference
 //   2 3 4 the content: data, entry numbers, text; 5 6 7 the second recording; 8 a width; 9 break_words
 //   10 to 14 the five numbers that the call answers; 15 16 17 18 the buffers that it is lent, in full, as it leaves them: data, entry numbers, text, line list
@@ -70,14 +70,17 @@ fn field(line: &[u8], k: usize) -> &[u8] {
     &line[a..e]
 }
 
-fn number_in(line: &[u8], k: usize) -> u64 {
+fn number_in(line: &[u8], k: usize) -> u64
+    ensures { λ r. ⌜ r ≤ 4294967296 ⌝ }
+{
     decimal_in(field(line, k))
 }
 
 // The bytes of a field, in `out`, and how many they are; none if they are too many.
-fn bytes_in(digits: &[u8], out: &mut [u8]) -> usize
+fn bytes_in(line: &[u8], k: usize, out: &mut [u8]) -> usize
     ensures { λ r. ⌜ r ≤ length (now (out .exit)) ⌝ }
 {
+    let digits = field(line, k);
     if out.len() < digits.len() / 2 {
         return 0;
     }
@@ -108,20 +111,29 @@ fn join(raw: &[u8], out: &mut [u32]) -> usize
     k
 }
 
-fn numbers_in(digits: &[u8], out: &mut [u32]) -> usize
+// The numbers of a field, in `out`, and how many they are.
+fn numbers_in(line: &[u8], k: usize, out: &mut [u32]) -> usize
     ensures { λ r. ⌜ r ≤ length (now (out .exit)) ⌝ }
 {
     let mut raw: [u8; 512] = [0; 512];
-    let n = bytes_in(digits, &mut raw);
+    let n = bytes_in(line, k, &mut raw);
     join(&raw[0..n], out)
 }
 
 // ── comparing with what is expected
 
-fn same_bytes(digits: &[u8], got: &[u8]) -> bool {
-    let mut want: [u8; 256] = [0; 256];
-    let n = bytes_in(digits, &mut want);
-    check::same(&want[0..n], got)
+// Whether a buffer holds the bytes of a field, and A5 beyond them.
+fn same_bytes(line: &[u8], k: usize, got: &[u8]) -> bool {
+    let mut want: [u8; 256] = [0xA5; 256];
+    let n = bytes_in(line, k, &mut want);
+    let m = got.len();
+    if m < n {
+        return false;
+    }
+    if 256 < m {
+        return false;
+    }
+    check::same(&want[0..m], got)
 }
 
 fn equal(a: &[u32], b: &[u32]) -> bool {
@@ -138,10 +150,17 @@ fn equal(a: &[u32], b: &[u32]) -> bool {
     true
 }
 
-fn same_numbers(digits: &[u8], got: &[u32]) -> bool {
-    let mut want: [u32; 128] = [0; 128];
-    let n = numbers_in(digits, &mut want);
-    equal(&want[0..n], got)
+fn same_numbers(line: &[u8], k: usize, got: &[u32]) -> bool {
+    let mut want: [u32; 128] = [0xA5A5A5A5; 128];
+    let n = numbers_in(line, k, &mut want);
+    let m = got.len();
+    if m < n {
+        return false;
+    }
+    if 128 < m {
+        return false;
+    }
+    equal(&want[0..m], got)
 }
 
 fn same_answer(line: &[u8], res: &[u64; 5]) -> bool {
@@ -155,7 +174,7 @@ fn same_answer(line: &[u8], res: &[u64; 5]) -> bool {
     true
 }
 
-// Whether the answer and all that was left in the buffers are as expected.
+// Whether the answer and the lent buffers are as expected.
 fn agrees(
     line: &[u8],
     res: &[u64; 5],
@@ -167,254 +186,57 @@ fn agrees(
     if !same_answer(line, res) {
         return false;
     }
-    if !same_bytes(field(line, 15), data) {
+    if !same_bytes(line, 15, data) {
         return false;
     }
-    if !same_numbers(field(line, 16), entries) {
+    if !same_numbers(line, 16, entries) {
         return false;
     }
-    if !same_bytes(field(line, 17), text) {
+    if !same_bytes(line, 17, text) {
         return false;
     }
-    same_numbers(field(line, 18), lines)
+    same_numbers(line, 18, lines)
+}
+
+// The same of whole arrays, whose lengths their types say.
+fn arrays_agree(
+    line: &[u8],
+    res: &[u64; 5],
+    data: &[u8; 256],
+    entries: &[u32; 128],
+    text: &[u8; 256],
+    lines: &[u32; 128],
+) -> bool {
+    agrees(line, res, data, entries, text, lines)
 }
 
 // ── the calls, by their numbers
 
-fn text_call(call: u64, s: &[u8], max: u64, res: &mut [u64; 5]) {
-    if call == 0 {
-        res[0] = ruszvedok_text_width(s);
-        return;
+fn text_agrees(line: &[u8], call: u64, s: &[u8]) -> bool {
+    let mut res: [u64; 5] = [0; 5];
+    let max = number_in(line, 8);
+    match call {
+        0 => {
+            res[0] = ruszvedok_text_width(s);
+        }
+        1 => {
+            res[0] = ruszvedok_well_formed(s) as u64;
+        }
+        2 => {
+            let place = ruszvedok_truncate_end_pos(s, max);
+            res[0] = place.pos as u64;
+            res[1] = place.width;
+        }
+        3 => {
+            let place = ruszvedok_truncate_start_pos(s, max);
+            res[0] = place.pos as u64;
+            res[1] = place.width;
+        }
+        _ => {
+            res[0] = ruszvedok_zero_width_len(s) as u64;
+        }
     }
-    if call == 1 {
-        res[0] = ruszvedok_well_formed(s) as u64;
-        return;
-    }
-    if call == 4 {
-        res[0] = ruszvedok_zero_width_len(s) as u64;
-        return;
-    }
-    place_call(call, s, max, res);
-}
-
-fn place_call(call: u64, s: &[u8], max: u64, res: &mut [u64; 5]) {
-    let place = if call == 2 {
-        ruszvedok_truncate_end_pos(s, max)
-    } else {
-        ruszvedok_truncate_start_pos(s, max)
-    };
-    res[0] = place.pos as u64;
-    res[1] = place.width;
-}
-
-fn plain_call(
-    call: u64,
-    text: &[u8],
-    ellipsis: &[u8],
-    width: u32,
-    breaks: bool,
-    out: &mut [u8],
-    lines: &mut [u32],
-    res: &mut [u64; 5],
-) {
-    if call == 12 {
-        ruszvedok_wrap_bytes(text, width, breaks, lines, res);
-        return;
-    }
-    if call == 15 {
-        ruszvedok_elide_start(text, ellipsis, width, out, res);
-        return;
-    }
-    if call == 16 {
-        ruszvedok_elide_end(text, ellipsis, width, out, res);
-        return;
-    }
-    ruszvedok_complete_newline(text, out, res);
-}
-
-fn content_call(
-    call: u64,
-    content: &[u8],
-    entries: &[u32],
-    text: &[u8],
-    new: &[u8],
-    records: &[u32],
-    width: u32,
-    breaks: bool,
-    bytes: &mut [u8],
-    numbers: &mut [u32],
-    texts: &mut [u8],
-    lines: &mut [u32],
-    res: &mut [u64; 5],
-) {
-    if call == 5 {
-        ruszvedok_replay(content, entries, text, bytes, numbers, texts, res);
-        return;
-    }
-    if call == 13 {
-        ruszvedok_write_wrapped(
-            content,
-            entries,
-            text,
-            width,
-            breaks,
-            bytes,
-            numbers,
-            texts,
-            lines,
-            res,
-        );
-        return;
-    }
-    ruszvedok_write_replaced(
-        content,
-        entries,
-        text,
-        records,
-        new,
-        bytes,
-        numbers,
-        texts,
-        res,
-    );
-}
-
-fn padding_call(
-    call: u64,
-    content: &[u8],
-    entries: &[u32],
-    text: &[u8],
-    second: &[u8],
-    second_entries: &[u32],
-    second_text: &[u8],
-    width: u32,
-    bytes: &mut [u8],
-    numbers: &mut [u32],
-    texts: &mut [u8],
-    res: &mut [u64; 5],
-) {
-    if call == 8 {
-        ruszvedok_write_padded_start(
-            content,
-            entries,
-            text,
-            second,
-            second_entries,
-            second_text,
-            width,
-            bytes,
-            numbers,
-            texts,
-            res,
-        );
-        return;
-    }
-    if call == 9 {
-        ruszvedok_write_padded_end(
-            content,
-            entries,
-            text,
-            second,
-            second_entries,
-            second_text,
-            width,
-            bytes,
-            numbers,
-            texts,
-            res,
-        );
-        return;
-    }
-    ruszvedok_write_padded_centered(
-        content,
-        entries,
-        text,
-        second,
-        second_entries,
-        second_text,
-        width,
-        bytes,
-        numbers,
-        texts,
-        res,
-    );
-}
-
-fn second_call(
-    call: u64,
-    content: &[u8],
-    entries: &[u32],
-    text: &[u8],
-    second: &[u8],
-    second_entries: &[u32],
-    second_text: &[u8],
-    width: u32,
-    bytes: &mut [u8],
-    numbers: &mut [u32],
-    texts: &mut [u8],
-    res: &mut [u64; 5],
-) {
-    if call == 6 {
-        ruszvedok_write_truncated_start(
-            content,
-            entries,
-            text,
-            second,
-            second_entries,
-            second_text,
-            width,
-            bytes,
-            numbers,
-            texts,
-            res,
-        );
-        return;
-    }
-    if call == 7 {
-        ruszvedok_write_truncated_end(
-            content,
-            entries,
-            text,
-            second,
-            second_entries,
-            second_text,
-            width,
-            bytes,
-            numbers,
-            texts,
-            res,
-        );
-        return;
-    }
-    if call == 11 {
-        ruszvedok_write_indented(
-            content,
-            entries,
-            text,
-            second,
-            second_entries,
-            second_text,
-            bytes,
-            numbers,
-            texts,
-            res,
-        );
-        return;
-    }
-    padding_call(
-        call,
-        content,
-        entries,
-        text,
-        second,
-        second_entries,
-        second_text,
-        width,
-        bytes,
-        numbers,
-        texts,
-        res,
-    );
+    same_answer(line, &res)
 }
 
 fn layout_call(
@@ -433,27 +255,9 @@ fn layout_call(
     lines: &mut [u32],
     res: &mut [u64; 5],
 ) {
-    if call == 5 || call == 13 || call == 14 {
-        content_call(
-            call,
-            content,
-            entries,
-            text,
-            second,
-            second_entries,
-            width,
-            breaks,
-            bytes,
-            numbers,
-            texts,
-            lines,
-            res,
-        );
-        return;
-    }
-    if call < 12 {
-        second_call(
-            call,
+    match call {
+        5 => ruszvedok_replay(content, entries, text, bytes, numbers, texts, res),
+        6 => ruszvedok_write_truncated_start(
             content,
             entries,
             text,
@@ -465,110 +269,99 @@ fn layout_call(
             numbers,
             texts,
             res,
-        );
-        return;
-    }
-    plain_call(call, content, second, width, breaks, bytes, lines, res);
-}
-
-fn adding_call(
-    call: u64,
-    content: &mut [u8],
-    content_len: usize,
-    entries: &mut [u32],
-    entries_len: usize,
-    text: &mut [u8],
-    text_len: usize,
-    added: &[u8],
-    res: &mut [u64; 5],
-) {
-    if call == 18 {
-        ruszvedok_write(
+        ),
+        7 => ruszvedok_write_truncated_end(
             content,
-            content_len,
             entries,
-            entries_len,
             text,
-            text_len,
-            added,
+            second,
+            second_entries,
+            second_text,
+            width,
+            bytes,
+            numbers,
+            texts,
             res,
-        );
-        return;
-    }
-    if call == 19 {
-        ruszvedok_push_label(
+        ),
+        8 => ruszvedok_write_padded_start(
             content,
-            content_len,
             entries,
-            entries_len,
             text,
-            text_len,
-            added,
+            second,
+            second_entries,
+            second_text,
+            width,
+            bytes,
+            numbers,
+            texts,
             res,
-        );
-        return;
-    }
-    if call == 20 {
-        ruszvedok_pop_label(
+        ),
+        9 => ruszvedok_write_padded_end(
             content,
-            content_len,
             entries,
-            entries_len,
             text,
-            text_len,
+            second,
+            second_entries,
+            second_text,
+            width,
+            bytes,
+            numbers,
+            texts,
             res,
-        );
-        return;
+        ),
+        10 => ruszvedok_write_padded_centered(
+            content,
+            entries,
+            text,
+            second,
+            second_entries,
+            second_text,
+            width,
+            bytes,
+            numbers,
+            texts,
+            res,
+        ),
+        11 => ruszvedok_write_indented(
+            content,
+            entries,
+            text,
+            second,
+            second_entries,
+            second_text,
+            bytes,
+            numbers,
+            texts,
+            res,
+        ),
+        12 => ruszvedok_wrap_bytes(content, width, breaks, lines, res),
+        13 => ruszvedok_write_wrapped(
+            content,
+            entries,
+            text,
+            width,
+            breaks,
+            bytes,
+            numbers,
+            texts,
+            lines,
+            res,
+        ),
+        14 => ruszvedok_write_replaced(
+            content,
+            entries,
+            text,
+            second_entries,
+            second,
+            bytes,
+            numbers,
+            texts,
+            res,
+        ),
+        15 => ruszvedok_elide_start(content, second, width, bytes, res),
+        16 => ruszvedok_elide_end(content, second, width, bytes, res),
+        _ => ruszvedok_complete_newline(content, bytes, res),
     }
-    ruszvedok_raw(
-        content,
-        content_len,
-        entries,
-        entries_len,
-        text,
-        text_len,
-        added,
-        res,
-    );
-}
-
-// ── a vector: whether what is expected came
-
-fn text_agrees(line: &[u8], call: u64, s: &[u8]) -> bool {
-    let mut res: [u64; 5] = [0; 5];
-    text_call(call, s, number_in(line, 8), &mut res);
-    same_answer(line, &res)
-}
-
-fn length_of(n: u32) -> usize {
-    n as usize
-}
-
-fn adding_agrees(
-    line: &[u8],
-    call: u64,
-    content: &mut [u8],
-    entries: &mut [u32],
-    text: &mut [u8],
-    added: &[u8],
-    used: &[u32],
-) -> bool {
-    if used.len() != 3 {
-        return false;
-    }
-    let mut res: [u64; 5] = [0; 5];
-    adding_call(
-        call,
-        content,
-        length_of(used[0]),
-        entries,
-        length_of(used[1]),
-        text,
-        length_of(used[2]),
-        added,
-        &mut res,
-    );
-    agrees(line, &res, content, entries, text, &used[0..0])
 }
 
 fn width_in(line: &[u8]) -> u32 {
@@ -579,100 +372,31 @@ fn width_in(line: &[u8]) -> u32 {
     n as u32
 }
 
-fn layout_agrees(
-    line: &[u8],
-    call: u64,
-    content: &[u8],
-    entries: &[u32],
-    text: &[u8],
-    second: &[u8],
-    second_entries: &[u32],
-    second_text: &[u8],
-    bytes: &mut [u8],
-    numbers: &mut [u32],
-    texts: &mut [u8],
-    lines: &mut [u32],
-) -> bool {
-    let mut res: [u64; 5] = [0; 5];
-    let breaks = number_in(line, 9) == 1;
-    let width = width_in(line);
-    layout_call(
-        call,
-        content,
-        entries,
-        text,
-        second,
-        second_entries,
-        second_text,
-        width,
-        breaks,
-        bytes,
-        numbers,
-        texts,
-        lines,
-        &mut res,
-    );
-    agrees(line, &res, bytes, numbers, texts, lines)
-}
-
-fn least(a: usize, b: usize) -> usize
-    ensures { λ r. ⌜ r ≤ b ⌝ }
-{
-    if a < b { a } else { b }
-}
-
 // How long the lent buffer of a field is.
-fn bytes_room(line: &[u8], k: usize, most: usize) -> usize
-    ensures { λ r. ⌜ r ≤ most ⌝ }
+fn bytes_room(line: &[u8], k: usize) -> usize
+    ensures { λ r. ⌜ r ≤ 256 ⌝ }
 {
     let digits = field(line, k);
-    least(digits.len() / 2, most)
+    if digits.len() < 513 {
+        digits.len() / 2
+    } else {
+        0
+    }
 }
 
-fn numbers_room(line: &[u8], k: usize, most: usize) -> usize
-    ensures { λ r. ⌜ r ≤ most ⌝ }
+fn numbers_room(line: &[u8], k: usize) -> usize
+    ensures { λ r. ⌜ r ≤ 128 ⌝ }
 {
     let digits = field(line, k);
-    least(digits.len() / 8, most)
+    if digits.len() < 1025 {
+        digits.len() / 8
+    } else {
+        0
+    }
 }
 
-// Lends parts as long as the buffers that are expected.
-fn parts_agree(
-    line: &[u8],
-    call: u64,
-    content: &[u8],
-    entries: &[u32],
-    text: &[u8],
-    second: &[u8],
-    second_entries: &[u32],
-    second_text: &[u8],
-    bytes: &mut [u8],
-    numbers: &mut [u32],
-    texts: &mut [u8],
-    lines: &mut [u32],
-) -> bool {
-    let a = bytes_room(line, 15, bytes.len());
-    let b = numbers_room(line, 16, numbers.len());
-    let c = bytes_room(line, 17, texts.len());
-    let d = numbers_room(line, 18, lines.len());
-    layout_agrees(
-        line,
-        call,
-        content,
-        entries,
-        text,
-        second,
-        second_entries,
-        second_text,
-        &mut bytes[0..a],
-        &mut numbers[0..b],
-        &mut texts[0..c],
-        &mut lines[0..d],
-    )
-}
-
-// Lends buffers that hold A5.
-fn filled_agree(
+// Lends parts as long as the buffers that are expected, of buffers that hold A5.
+fn layout_agrees(
     line: &[u8],
     call: u64,
     content: &[u8],
@@ -686,8 +410,14 @@ fn filled_agree(
     let mut numbers: [u32; 128] = [0xA5A5A5A5; 128];
     let mut texts: [u8; 256] = [0xA5; 256];
     let mut lines: [u32; 128] = [0xA5A5A5A5; 128];
-    parts_agree(
-        line,
+    let mut res: [u64; 5] = [0; 5];
+    let a = bytes_room(line, 15);
+    let b = numbers_room(line, 16);
+    let c = bytes_room(line, 17);
+    let d = numbers_room(line, 18);
+    let width = width_in(line);
+    let breaks = number_in(line, 9) == 1;
+    layout_call(
         call,
         content,
         entries,
@@ -695,39 +425,114 @@ fn filled_agree(
         second,
         second_entries,
         second_text,
-        &mut bytes,
-        &mut numbers,
-        &mut texts,
-        &mut lines,
-    )
+        width,
+        breaks,
+        &mut bytes[0..a],
+        &mut numbers[0..b],
+        &mut texts[0..c],
+        &mut lines[0..d],
+        &mut res,
+    );
+    arrays_agree(line, &res, &bytes, &numbers, &texts, &lines)
 }
 
-// Reads the second recording.
-fn content_agrees(
+fn length_of(n: u32) -> usize {
+    n as usize
+}
+
+fn adding_call(
+    call: u64,
+    content: &mut [u8],
+    content_len: usize,
+    entries: &mut [u32],
+    entries_len: usize,
+    text: &mut [u8],
+    text_len: usize,
+    added: &[u8],
+    res: &mut [u64; 5],
+) {
+    match call {
+        18 => ruszvedok_write(
+            content,
+            content_len,
+            entries,
+            entries_len,
+            text,
+            text_len,
+            added,
+            res,
+        ),
+        19 => ruszvedok_push_label(
+            content,
+            content_len,
+            entries,
+            entries_len,
+            text,
+            text_len,
+            added,
+            res,
+        ),
+        20 => ruszvedok_pop_label(
+            content,
+            content_len,
+            entries,
+            entries_len,
+            text,
+            text_len,
+            res,
+        ),
+        _ => ruszvedok_raw(
+            content,
+            content_len,
+            entries,
+            entries_len,
+            text,
+            text_len,
+            added,
+            res,
+        ),
+    }
+}
+
+// Reads what is added and how much of the buffers is used.
+fn adding_agrees(
     line: &[u8],
     call: u64,
     content: &mut [u8],
     entries: &mut [u32],
     text: &mut [u8],
 ) -> bool {
+    let mut added: [u8; 256] = [0; 256];
+    let mut used: [u32; 3] = [0; 3];
+    let mut res: [u64; 5] = [0; 5];
+    let n = bytes_in(line, 5, &mut added);
+    numbers_in(line, 6, &mut used);
+    let d = length_of(used[0]);
+    let e = length_of(used[1]);
+    let t = length_of(used[2]);
+    adding_call(
+        call,
+        content,
+        d,
+        entries,
+        e,
+        text,
+        t,
+        &added[0..n],
+        &mut res,
+    );
+    agrees(line, &res, content, entries, text, &used[0..0])
+}
+
+// Reads the second recording.
+fn content_agrees(line: &[u8], call: u64, content: &[u8], entries: &[u32], text: &[u8]) -> bool {
     let mut second: [u8; 256] = [0; 256];
     let mut second_entries: [u32; 128] = [0; 128];
     let mut second_text: [u8; 256] = [0; 256];
-    let d = bytes_in(field(line, 5), &mut second);
-    let e = numbers_in(field(line, 6), &mut second_entries);
-    let t = bytes_in(field(line, 7), &mut second_text);
-    if 18 <= call {
-        return adding_agrees(
-            line,
-            call,
-            content,
-            entries,
-            text,
-            &second[0..d],
-            &second_entries[0..e],
-        );
-    }
-    filled_agree(
+    let d = bytes_in(line, 5, &mut second);
+    let e = numbers_in(line, 6, &mut second_entries);
+    let t = bytes_in(line, 7, &mut second_text);
+    layout_agrees(
         line,
         call,
         content,
@@ -739,18 +544,21 @@ fn content_agrees(
     )
 }
 
-// Reads the content.
+// Reads the content; whether what is expected came.
 fn vector_agrees(line: &[u8], call: u64) -> bool {
     let mut content: [u8; 256] = [0; 256];
     let mut entries: [u32; 128] = [0; 128];
     let mut text: [u8; 256] = [0; 256];
-    let d = bytes_in(field(line, 2), &mut content);
+    let d = bytes_in(line, 2, &mut content);
+    let e = numbers_in(line, 3, &mut entries);
+    let t = bytes_in(line, 4, &mut text);
     if call < 5 {
         return text_agrees(line, call, &content[0..d]);
     }
-    let e = numbers_in(field(line, 3), &mut entries);
-    let t = bytes_in(field(line, 4), &mut text);
-    content_agrees(
+    if call < 18 {
+        return content_agrees(line, call, &content[0..d], &entries[0..e], &text[0..t]);
+    }
+    adding_agrees(
         line,
         call,
         &mut content[0..d],
@@ -774,46 +582,20 @@ fn tell(number: u64) {
     io::write_all(1, b" differs\n");
 }
 
-// A vector of the call at k, or at 22 where what is expected is wrong.
-fn count_vector(
-    line: &[u8],
-    number: u64,
-    k: usize,
-    due: bool,
-    found: bool,
-    total: &mut [u64; 23],
-    agreed: &mut [u64; 23],
-) {
-    count(total, k);
-    if due == found {
-        count(agreed, k);
-        return;
-    }
-    tell(number);
-}
-
-fn is_comment(line: &[u8]) -> bool {
-    if line.len() == 0 {
-        return false;
-    }
-    line[0] == 0x23
-}
-
+// Counts a vector at its call, or at 22 where what is expected is wrong.
 fn replay_line(line: &[u8], number: u64, total: &mut [u64; 23], agreed: &mut [u64; 23]) {
-    if is_comment(line) {
-        return;
-    }
     let call = number_in(line, 0);
     if 22 <= call {
+        return;
+    }
+    let right = number_in(line, 1) == 1;
+    let k = if right { call as usize } else { 22 };
+    count(total, k);
+    if vector_agrees(line, call) == right {
+        count(agreed, k);
+    } else {
         tell(number);
-        return;
     }
-    let found = vector_agrees(line, call);
-    if number_in(line, 1) == 0 {
-        count_vector(line, number, 22, false, found, total, agreed);
-        return;
-    }
-    count_vector(line, number, call as usize, true, found, total, agreed);
 }
 
 fn replay_lines(list: &[u8], total: &mut [u64; 23], agreed: &mut [u64; 23]) {
@@ -827,8 +609,8 @@ fn replay_lines(list: &[u8], total: &mut [u64; 23], agreed: &mut [u64; 23]) {
     }
 }
 
-// The k-th name; what is wrong on purpose comes after the calls.
-fn name(k: usize) {
+// The k-th name with its counts; what is wrong on purpose comes after the calls.
+fn row(k: usize, total: u64, agreed: u64) {
     io::write_all(
         1,
         field(
@@ -836,10 +618,6 @@ fn name(k: usize) {
             k,
         ),
     );
-}
-
-fn row(k: usize, total: u64, agreed: u64) {
-    name(k);
     io::write_all(1, b" ");
     io::print_decimal(1, total);
     io::write_all(1, b" ");
