@@ -43,9 +43,10 @@ const TEXTS: usize = 5;
 /// How many vectors a call has, and how many of them are refused if it refuses at all.
 const COUNT: usize = 200;
 const REFUSED: usize = 40;
-/// The longest field: the program's buffers are as long.
+/// The longest fields and list: the program's buffers are as long.
 const MOST_BYTES: usize = 256;
 const MOST_NUMBERS: usize = 128;
+const MOST_LIST: usize = 1 << 20;
 
 /// What a line holds but for its first two fields.
 #[derive(Clone, Default)]
@@ -187,14 +188,14 @@ fn filled<T: Clone>(mut front: Vec<T>, len: usize, beyond: T) -> Vec<T> {
 }
 
 fn replay(numbers: &mut Numbers) -> Vector {
-    let (lists, fault, content) = input(numbers, 5);
+    let (lists, fault, content) = input(numbers, 4);
     let result = oracle::replay(&content).to_lists();
     let expected = Expected { faults: vec![fault], result, lines: vec![], number: 0 };
     lend(Lent::Recording, Vector { content: lists, ..Vector::default() }, expected, numbers)
 }
 
 fn truncated(numbers: &mut Numbers, rust: fn(&Recording, &Recording, usize) -> (Recording, usize)) -> Vector {
-    let (lists, fault, content) = input(numbers, 5);
+    let (lists, fault, content) = input(numbers, 4);
     let (second_lists, second_fault, second) = input(numbers, 3);
     let width = width_about(&lists.data, 3, numbers);
     let (result, number) = if (fault, second_fault) == (0, 0) { rust(&content, &second, width) } else { Default::default() };
@@ -203,7 +204,7 @@ fn truncated(numbers: &mut Numbers, rust: fn(&Recording, &Recording, usize) -> (
 }
 
 fn padded(numbers: &mut Numbers, rust: fn(&Recording, &Recording, usize) -> Recording) -> Vector {
-    let (lists, fault, content) = input(numbers, 5);
+    let (lists, fault, content) = input(numbers, 4);
     let (second_lists, second_fault, second) = input(numbers, 3);
     let width = width_about(&lists.data, 6, numbers);
     // Padding to the largest width passes the limit, or writes an empty fill four thousand million times, which is as twice.
@@ -216,7 +217,7 @@ fn padded(numbers: &mut Numbers, rust: fn(&Recording, &Recording, usize) -> Reco
 }
 
 fn write_indented(numbers: &mut Numbers) -> Vector {
-    let (lists, fault, content) = input(numbers, 5);
+    let (lists, fault, content) = input(numbers, 4);
     let (second_lists, second_fault, second) = input(numbers, 3);
     let result = if (fault, second_fault) == (0, 0) { oracle::write_indented(&content, &second) } else { Default::default() };
     let expected = Expected { faults: vec![fault, second_fault], result: result.to_lists(), lines: vec![], number: 0 };
@@ -242,7 +243,7 @@ fn wrap_bytes(numbers: &mut Numbers) -> Vector {
 }
 
 fn write_wrapped(numbers: &mut Numbers) -> Vector {
-    let (lists, fault, content) = input(numbers, 5);
+    let (lists, fault, content) = input(numbers, 4);
     let (width, flag) = (wrap_width(&lists.data, numbers), numbers.within(0, 1) == 0);
     let lines = numbers_of(oracle::wrap_bytes(&content.data, width, flag));
     let result = oracle::write_wrapped(&content, width, flag).to_lists();
@@ -264,7 +265,7 @@ fn records_fault(records: &[Replacement], data: usize, text: usize) -> u64 {
 }
 
 fn write_replaced(numbers: &mut Numbers) -> Vector {
-    let (lists, fault, content) = input(numbers, 5);
+    let (lists, fault, content) = input(numbers, 4);
     let new = text(numbers);
     let (count, mut at) = (numbers.within(0, 4), 0);
     let mut records = vec![];
@@ -321,7 +322,7 @@ fn complete_newline(numbers: &mut Numbers) -> Vector {
 
 /// The calls that add: 0 data, 1 a label, 2 a pop, 3 a raw sequence. The content is the lent buffers in full.
 fn adding(numbers: &mut Numbers, kind: u64) -> Vector {
-    let (lists, content_fault, content) = input(numbers, 5);
+    let (lists, content_fault, content) = input(numbers, 4);
     let added = text(numbers);
     let added = if kind == 1 && numbers.within(0, 7) != 0 { String::from_utf8_lossy(&added).into_owned().into_bytes() } else { added };
     let added = if kind == 2 || kind == 3 && numbers.within(0, 9) == 0 { vec![] } else { added };
@@ -386,10 +387,10 @@ fn chosen(call: usize, numbers: &mut Numbers) -> Vec<Vector> {
     let refused = if call < TEXTS { 0 } else { REFUSED };
     let (mut kept, mut lines, mut each) = (vec![], HashSet::new(), HashMap::<u64, usize>::new());
     for tries in 0.. {
-        let count = |due: bool| kept.iter().filter(|v| due == (refusal(call, v) != 0)).count();
         if kept.len() == COUNT {
             break;
         }
+        let count = |due: bool| kept.iter().filter(|v| due == (refusal(call, v) != 0)).count();
         let made = CALLS[call].1(numbers);
         let seen = each.entry(refusal(call, &made)).or_default();
         let wanted = match refusal(call, &made) {
@@ -434,6 +435,8 @@ fn main() -> std::io::Result<()> {
         println!("{name}: {} vectors, {} refused: {each:?}", made.len(), each.len());
     }
     writeln!(table, "wrong {} {}", CALLS.len(), CALLS.len()).unwrap();
-    std::fs::write(format!("{folder}/stdin"), list + &spoilt)?;
+    let list = list + &spoilt;
+    assert!(list.len() <= MOST_LIST, "the program reads no more");
+    std::fs::write(format!("{folder}/stdin"), list)?;
     std::fs::write(format!("{folder}/stdout"), table)
 }

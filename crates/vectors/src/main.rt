@@ -1,13 +1,18 @@
-// Replays the vectors of the file `stdin`, which `bench/vectors` made from the Rust originals, and prints for each call how many there are and how many agree.
+// Replays the vectors of the file `stdin`, which `bench/vectors` made from the Rust originals, and prints for each call how many there are and how many agree;
+// last, of those that expect something wrong, how many there are and how many were found. A line that does not do as it should is told by its number.
 // What is proved of a program is that it is safe; what it should print stands in the file `stdout`.
 //
-// A line is a vector, nineteen fields with one space between them; a line that starts otherwise says nothing:
-//   0 the call's number, its place in NAMES; 1 whether what is expected is right (1), or wrong in one place (0), so that the program must find a difference
-//   2 3 4 the content: data, entry numbers, text; 5 6 7 the second recording; 8 a width; 9 break_words
-//   10 to 14 the five numbers that the call answers; 15 16 17 18 the buffers that it is lent, in full, as it leaves them: data, entry numbers, text, line list
-// Bytes are two hexadecimal digits each, entry numbers and lines eight digits a number, - for none; all else is decimal. Lent buffers hold A5 before the call.
-// Calls on a text have it in 2 and their one or two results in 10 and 11; `write_replaced` has its records in 6 and its text in 5.
-// The calls that add have the lent buffers as they are before in 2 3 4, how much of them is used as three numbers in 6, and what is added in 5.
+// A line is a vector, nineteen fields with one space between them; a line that starts with no call's number says nothing.
+//   0         the call's number: its place among the names in `row`
+//   1         1, or 0 if what is expected is wrong in one place, which must be found
+//   2 3 4     the content: data, entry numbers, text
+//   5 6 7     the second recording (ellipsis, fill, prefix)
+//   8 9       the width; break_words, 0 or 1
+//   10 to 14  the answer: refusal, lengths of data, entry numbers and text, number
+//   15 to 18  the lent buffers in full as the call leaves them: data, entry numbers, text, line list. Before the call they hold A5
+// Bytes are two hexadecimal digits each, entry numbers and lines eight digits a number, `-` is none; all else is decimal.
+// What differs: the calls on a text have it in 2 and their one or two results in 10 and 11; plain texts stand in 2 and 5; `write_replaced` has its records in 6
+// and its text in 5; the calls that add have the lent buffers as they are before in 2 3 4, how much of each is used as three numbers in 6, and what is added in 5.
 use capi::ruszvedok_complete_newline;
 use capi::ruszvedok_elide_end;
 use capi::ruszvedok_elide_start;
