@@ -38,7 +38,6 @@ use capi::ruszvedok_zero_width_len;
 use sheet::decimal_in;
 use sheet::find;
 use sheet::unhex;
-ghost use mathlib.Core.Path.{_≡_};
 ghost use Prim.Native.Nat.{_≤_};
 ghost use lib.ListN.{length};
 
