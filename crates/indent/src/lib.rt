@@ -102,10 +102,10 @@ fn filled_lines(content: &[u8]) -> usize
     ensures { λ r. ⌜ (r ≡ filledLines true (now (content .entry))) × (r ≤ length (now (content .entry))) ⌝ }
 {
     let mut n = 0;
-    let mut p = next_line(content, 0, true);
-    while p < content.len() {
+    let mut at = next_line(content, 0, true);
+    while at < content.len() {
         n += 1;
-        p = next_line(content, p, false);
+        at = next_line(content, at, false);
     }
     n
 }

@@ -41,12 +41,12 @@ module _ (d : List ℕ) (n p : ℕ) (s : Counted d n p) where
   all past = omega (arith, s .rest, filled-none (s .start) left (omega (arith, s .next, length-drop (s .from) d)))
 
 abbrev Inv-loop : tie.InvT-loop
-Inv-loop content n₀ p₀ n p =
-    Counted content n p
+Inv-loop content n₀ at₀ n at =
+    Counted content n at
 
 abbrev μ-loop : tie.MeasureT-loop
-μ-loop content n₀ p₀ n p =
-    length content - p
+μ-loop content n₀ at₀ n at =
+    length content - at
 
 -- src/lib.rt:105:9
 next-line-requires : tie.Need-next-line-requires Inv-loop μ-loop
@@ -69,7 +69,7 @@ next-line-requires-2 c κs = c .before .loop .inv .within
 loop-less : tie.Need-loop-less Inv-loop μ-loop
 loop-less c =
     let l = c .before .before in
-    omega (arith, c .next-line2 .ensures .0, c .before .loop-test .taken, next-past (l .loop .p) (l .before .before .before .args .content .now) (c .before .loop-test .taken))
+    omega (arith, c .next-line2 .ensures .0, c .before .loop-test .taken, next-past (l .loop .at) (l .before .before .before .args .content .now) (c .before .loop-test .taken))
 
 -- src/lib.rt:106:5
 loop-again : tie.Need-loop-again Inv-loop μ-loop
