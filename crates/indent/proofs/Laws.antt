@@ -1,18 +1,20 @@
--- The plan of an indenting, which goes byte by byte, as the code goes through it: from one line that gets a prefix to the next (`plan-next`, `plan-last`); and how much it writes (`sized`).
+-- The plan of an indenting, which goes byte by byte, as the code goes through it: from one line that gets a prefix to the next (`plan-next`, `plan-last`); how much it writes (`sized`);
+-- and the passes over the data that find the lines: how far it is to the next 0A (`toBreak`) and to the next line that is not empty (`toNext`).
 use mathlib.Core.Path.{_≡_, refl, sym, ap, _∙_}
-use mathlib.Core.Bool.{Bool, true, false, cond, _&&_, not}
+use mathlib.Core.Bool.{Bool, true, false, cond, _&&_, _||_, not}
 use mathlib.Core.List.{List, [], _∷_, _++_, append-assoc}
 use Prim.Native.Nat.{ℕ, zero, suc, _+_, _-_, _*_, _≤_, _<_}
 use native.Mathlib.Nat.{zero-mul, one-mul, add-mul}
 use native.Mathlib.Numerals.{add-one}
 use native.Mathlib.Omega.{arith}
-use lib.Dec.{eqb}
+use borrow.Author.Tests.{eq-eqb, ne-eqb, eqb-true, eqb-false, lt-ltb, le-ltb, ltb-true, ltb-false}
+use lib.Dec.{eqb, ltb}
 use lib.ListN.{length, drop, getD, drop-of-length-le}
-use lib.Seq.{drop-cons}
+use lib.Seq.{drop-cons, drop-drop}
 use Rattle.recording.specs.Recording.{Item, byte, push, pop, raw}
 use Rattle.recording.specs.Edit.{keep, put, front, back, edit}
 use Rattle.layout.specs.Layout.{indentOps}
-use Rattle.indent.specs.Lines.{firstByte, filledLines, toNext}
+use Rattle.indent.specs.Lines.{filledLines, toNext, toBreak}
 
 -- ── one byte at a time
 front-zero : (m : ℕ) (is : List Item) → front m is ≡ front 0 is ++ front m (back 0 is)
@@ -107,41 +109,105 @@ module _ (size : List Item → ℕ) (size-append : (a b : List Item) → size (a
           omega (arith, size-append (front 0 is) (p ++ x), size-append p x, split 0 is, kept f (back 0 is), add-mul 1 n (size p), one-mul (size p))
       go false f = kept f is ∙ ap (λ (k : ℕ). size is + k * size p) (omega arith)
 
--- ── one byte of a pass over the data
-module _ (start : Bool) (at : ℕ) (d : List ℕ) (more : at < length d) where
-  pub filled-next : filledLines start (drop at d) ≡ firstByte start (getD d at 0) + filledLines (eqb (getD d at 0) 0x0A) (drop (at + 1) d)
-  unfolding filledLines
-  filled-next = rw (add-one, drop-cons d at 0 more)
+-- ── the count, from line to line
+pub filled-next : (start : Bool) (d : List ℕ) → toNext start d < length d → filledLines start d ≡ suc (filledLines false (drop (toNext start d) d))
+unfolding filledLines toNext
+filled-next start [] h = absurd (omega arith)
+filled-next start (b ∷ bs) h = go (start && not (eqb b 0x0A)) (λ g. filled-next (eqb b 0x0A) bs g) h
+  where
+    m : ℕ
+    m = toNext (eqb b 0x0A) bs
 
+    go : (t : Bool) → (m < length bs → filledLines (eqb b 0x0A) bs ≡ suc (filledLines false (drop m bs))) → cond t 0 (suc m) < suc (length bs)
+        → cond t 1 0 + filledLines (eqb b 0x0A) bs ≡ suc (filledLines false (drop (cond t 0 (suc m)) (b ∷ bs)))
+    go true f g = omega arith
+    go false f g = omega (arith, f (omega arith))
+
+pub filled-none : (start : Bool) (d : List ℕ) → length d ≤ toNext start d → filledLines start d ≡ 0
+unfolding filledLines toNext
+filled-none start [] h = refl
+filled-none start (b ∷ bs) h = go (start && not (eqb b 0x0A)) (λ g. filled-none (eqb b 0x0A) bs g) h
+  where
+    go : (t : Bool) → (length bs ≤ toNext (eqb b 0x0A) bs → filledLines (eqb b 0x0A) bs ≡ 0) → suc (length bs) ≤ cond t 0 (suc (toNext (eqb b 0x0A) bs)) → cond t 1 0 + filledLines (eqb b 0x0A) bs ≡ 0
+    go true f g = absurd (omega arith)
+    go false f g = omega (arith, f (omega arith))
+
+-- ── the next 0A: n bytes before it are passed at once
+break-drop : (n : ℕ) (d : List ℕ) → n ≤ toBreak d → toBreak d ≡ n + toBreak (drop n d)
+unfolding toBreak
+break-drop zero d h = omega arith
+break-drop (suc n) [] h = absurd (omega arith)
+break-drop (suc n) (b ∷ bs) h = go (eqb b 0x0A) (λ g. break-drop n bs g) h
+  where
+    go : (t : Bool) → (n ≤ toBreak bs → toBreak bs ≡ n + toBreak (drop n bs)) → suc n ≤ cond t 0 (suc (toBreak bs)) → cond t 0 (suc (toBreak bs)) ≡ suc n + toBreak (drop n bs)
+    go true f g = absurd (omega arith)
+    go false f g = omega (arith, f (omega arith))
+
+pub break-past : (n at : ℕ) (d : List ℕ) → n ≤ toBreak (drop at d) → toBreak (drop at d) ≡ n + toBreak (drop (at + n) d)
+break-past n at d h = break-drop n (drop at d) h ∙ ap (λ (l : List ℕ). n + toBreak l) (drop-drop n at d)
+
+module _ (at : ℕ) (d : List ℕ) (more : at < length d) where
+  break-is : toBreak (drop at d) ≡ cond (eqb (getD d at 0) 0x0A) 0 (suc (toBreak (drop (at + 1) d)))
+  unfolding toBreak
+  break-is = rw (add-one, drop-cons d at 0 more)
+
+  pub break-here : getD d at 0 ≡ 0x0A → toBreak (drop at d) ≡ 0
+  break-here h = simp (eq-eqb _ _ h) at break-is
+
+  pub break-later : (getD d at 0 ≡ 0x0A → ⊥) → toBreak (drop at d) ≡ suc (toBreak (drop (at + 1) d))
+  break-later h = simp (ne-eqb _ _ h) at break-is
+
+pub break-end : (at : ℕ) (d : List ℕ) → length d ≤ at → toBreak (drop at d) ≡ 0
+unfolding toBreak
+break-end at d past = rw (drop-of-length-le d {i = at} past)
+
+-- one byte more of a block
+pub found-next : (at j : ℕ) (d : List ℕ) → at + j < length d → (ltb (toBreak (drop at d)) j || eqb (getD d (at + j) 0) 0x0A) ≡ ltb (toBreak (drop at d)) (j + 1)
+found-next at j d more =
+    elim (ltb n j) as (λ t. ltb n j ≡ t → (t || eqb (getD d (at + j) 0) 0x0A) ≡ ltb n (j + 1))
+    [ true ↦ λ e. sym (lt-ltb n (j + 1) (omega (arith, ltb-true n j e))) | false ↦ λ e. here (ltb-false n j e) ] refl
+  where
+    n : ℕ
+    n = toBreak (drop at d)
+
+    here : j ≤ n → eqb (getD d (at + j) 0) 0x0A ≡ ltb n (j + 1)
+    here h =
+        elim (eqb (getD d (at + j) 0) 0x0A) as (λ t. eqb (getD d (at + j) 0) 0x0A ≡ t → t ≡ ltb n (j + 1)) [
+          | true ↦ λ e. sym (lt-ltb n (j + 1) (omega (arith, break-past j at d h, break-here (at + j) d more (eqb-true _ _ e))))
+          | false ↦ λ e. sym (le-ltb n (j + 1) (omega (arith, break-past j at d h, break-later (at + j) d more (eqb-false _ _ e))))
+        ] refl
+
+-- ── the next line: past its 0A and the empty lines after it
+next-drop : (d : List ℕ) → toNext false d ≡ toBreak d + toNext true (drop (toBreak d) d)
+unfolding toNext toBreak
+next-drop [] = refl
+next-drop (b ∷ bs) = go (eqb b 0x0A) refl (next-drop bs)
+  where
+    go : (t : Bool) → eqb b 0x0A ≡ t → toNext false bs ≡ toBreak bs + toNext true (drop (toBreak bs) bs) → suc (toNext t bs) ≡ cond t 0 (suc (toBreak bs)) + toNext true (drop (cond t 0 (suc (toBreak bs))) (b ∷ bs))
+    go true e f =
+        let h : toNext true (b ∷ bs) ≡ suc (toNext true bs) = rw e in
+        omega (arith, h)
+    go false e f = omega (arith, f)
+
+pub next-after : (at : ℕ) (d : List ℕ) → toNext false (drop at d) ≡ toBreak (drop at d) + toNext true (drop (at + toBreak (drop at d)) d)
+next-after at d = next-drop (drop at d) ∙ ap (λ (l : List ℕ). toBreak (drop at d) + toNext true l) (drop-drop (toBreak (drop at d)) at d)
+
+module _ (start : Bool) (at : ℕ) (d : List ℕ) (more : at < length d) where
   next-is : toNext start (drop at d) ≡ cond (start && not (eqb (getD d at 0) 0x0A)) 0 (suc (toNext (eqb (getD d at 0) 0x0A) (drop (at + 1) d)))
   unfolding toNext
   next-is = rw (add-one, drop-cons d at 0 more)
 
-  pub next-here : firstByte start (getD d at 0) ≡ 1 → toNext start (drop at d) ≡ 0
-  unfolding firstByte
-  next-here h = next-is ∙ go (start && not (eqb (getD d at 0) 0x0A)) h
-    where
-      go : (t : Bool) → _≡_ {A = ℕ} (cond t 1 0) 1 → cond t 0 (suc (toNext (eqb (getD d at 0) 0x0A) (drop (at + 1) d))) ≡ 0
-      go true e = refl
-      go false e = absurd (omega (arith, e))
+module _ (at : ℕ) (d : List ℕ) (more : at < length d) where
+  pub next-here : (getD d at 0 ≡ 0x0A → ⊥) → toNext true (drop at d) ≡ 0
+  next-here h = simp (ne-eqb _ _ h) at (next-is true at d more)
 
-  pub next-later : (firstByte start (getD d at 0) ≡ 1 → ⊥) → toNext start (drop at d) ≡ suc (toNext (eqb (getD d at 0) 0x0A) (drop (at + 1) d))
-  unfolding firstByte
-  next-later h = next-is ∙ go (start && not (eqb (getD d at 0) 0x0A)) h
-    where
-      go : (t : Bool) → (_≡_ {A = ℕ} (cond t 1 0) 1 → ⊥) → cond t 0 (suc (toNext (eqb (getD d at 0) 0x0A) (drop (at + 1) d))) ≡ suc (toNext (eqb (getD d at 0) 0x0A) (drop (at + 1) d))
-      go true e = absurd (e refl)
-      go false e = refl
+  pub next-later : getD d at 0 ≡ 0x0A → toNext true (drop at d) ≡ suc (toNext true (drop (at + 1) d))
+  next-later h = simp (eq-eqb _ _ h) at (next-is true at d more)
 
-module _ (start : Bool) (at : ℕ) (d : List ℕ) (past : length d ≤ at) where
-  pub filled-end : filledLines start (drop at d) ≡ 0
-  unfolding filledLines
-  filled-end = rw (drop-of-length-le d {i = at} past)
+  -- a byte that has its prefix is passed
+  pub next-past : 0 < toNext false (drop at d)
+  next-past = omega (arith, next-is false at d more)
 
-  pub next-end : toNext start (drop at d) ≡ 0
-  unfolding toNext
-  next-end = rw (drop-of-length-le d {i = at} past)
-
--- a byte that has its prefix is passed
-pub next-past : (at : ℕ) (d : List ℕ) → at < length d → 0 < toNext false (drop at d)
-next-past at d more = omega (arith, next-is false at d more)
+pub next-end : (at : ℕ) (d : List ℕ) → length d ≤ at → toNext true (drop at d) ≡ 0
+unfolding toNext
+next-end at d past = rw (drop-of-length-le d {i = at} past)

@@ -13,6 +13,7 @@ use writer::settle;
 ghost use mathlib.Core.Path.{_≡_};
 ghost use mathlib.Core.Bool.{true, false};
 ghost use Prim.Native.Nat.{_+_, _-_, _*_, _≤_, _<_};
+ghost use lib.Dec.{ltb};
 ghost use lib.ListN.{length, drop};
 ghost use Rattle.recording.specs.Recording.{recording, items};
 ghost use Rattle.recording.specs.Edit.{edit};
@@ -20,35 +21,68 @@ ghost use Rattle.recording.specs.Outcome.{answerOf, returned, lentAfter};
 ghost use Rattle.writer.specs.Write.{out, add, blank, Fits, Sound};
 ghost use Rattle.layout.specs.Layout.{indentOps, indent, outcome};
 ghost use Rattle.layout.specs.Lent.{lentOf, callOn};
-ghost use Rattle.indent.specs.Lines.{firstByte, filledLines, toNext};
+ghost use Rattle.indent.specs.Lines.{filledLines, toNext, toBreak};
 
-// 1 if b is the first byte of a line that is not empty, else 0; `start`: a line starts at b.
-fn first_byte(start: bool, b: u8) -> usize
-    ensures { λ r. ⌜ (r ≡ firstByte start b) × (r ≤ 1) ⌝ }
+// Whether one of the 16 bytes from `at` on is 0A. Without an early exit, so that all of them are compared at once.
+fn has_break(s: &[u8], at: usize) -> bool
+    requires { ⌜ at + 16 ≤ length (now s) ⌝ }
+    ensures { λ r. ⌜ r ≡ ltb (toBreak (drop at (now (s .entry)))) 16 ⌝ }
 {
-    if !start {
-        return 0;
+    let mut found = false;
+    let mut j = 0;
+    while j < 16 {
+        found = found | (s[at + j] == 10);
+        j += 1;
     }
-    if b == 10 {
-        return 0;
-    }
-    1
+    found
 }
 
-// How many lines are not empty.
-fn filled_lines(content: &[u8]) -> usize
-    ensures { λ r. ⌜ (r ≡ filledLines true (now (content .entry))) × (r ≤ length (now (content .entry))) ⌝ }
+// Passes 16 bytes at a time while no 0A is among them.
+fn skip_blocks(s: &[u8], from: usize) -> usize
+    requires { ⌜ from ≤ length (now s) ⌝ }
+    ensures { λ r. ⌜ r + toBreak (drop r (now (s .entry))) ≡ from + toBreak (drop from (now (s .entry))) ⌝ }
+    ensures { λ r. ⌜ (from ≤ r) × (r ≤ length (now (s .entry))) ⌝ }
 {
-    let mut n = 0;
-    let mut at = 0;
-    let mut start = true;
-    while at < content.len() {
-        let b = content[at];
-        n += first_byte(start, b);
-        start = b == 10;
+    let mut at = from;
+    while 16 <= s.len() - at {
+        if has_break(s, at) {
+            return at;
+        }
+        at += 16;
+    }
+    at
+}
+
+// The place of the next 0A, the end if there is none.
+fn line_end(s: &[u8], from: usize) -> usize
+    requires { ⌜ from ≤ length (now s) ⌝ }
+    ensures { λ r. ⌜ r ≡ from + toBreak (drop from (now (s .entry))) ⌝ }
+    ensures { λ r. ⌜ (from ≤ r) × (r ≤ length (now (s .entry))) ⌝ }
+{
+    let mut at = skip_blocks(s, from);
+    while at < s.len() {
+        if s[at] == 10 {
+            return at;
+        }
         at += 1;
     }
-    n
+    at
+}
+
+// The first place from the start of a line on that has no 0A: empty lines are passed.
+fn skip_empty(s: &[u8], from: usize) -> usize
+    requires { ⌜ from ≤ length (now s) ⌝ }
+    ensures { λ r. ⌜ r ≡ from + toNext true (drop from (now (s .entry))) ⌝ }
+    ensures { λ r. ⌜ (from ≤ r) × (r ≤ length (now (s .entry))) ⌝ }
+{
+    let mut at = from;
+    while at < s.len() {
+        if s[at] != 10 {
+            return at;
+        }
+        at += 1;
+    }
+    at
 }
 
 // The next place at which a line that is not empty starts, the data's end if there is none.
@@ -57,17 +91,23 @@ fn next_line(content: &[u8], from: usize, at_start: bool) -> usize
     ensures { λ r. ⌜ r ≡ from + toNext «at_start» (drop from (now (content .entry))) ⌝ }
     ensures { λ r. ⌜ (from ≤ r) × (r ≤ length (now (content .entry))) ⌝ }
 {
-    let mut at = from;
-    let mut start = at_start;
-    while at < content.len() {
-        let b = content[at];
-        if first_byte(start, b) == 1 {
-            return at;
-        }
-        start = b == 10;
-        at += 1;
+    if at_start {
+        return skip_empty(content, from);
     }
-    at
+    skip_empty(content, line_end(content, from))
+}
+
+// How many lines are not empty.
+fn filled_lines(content: &[u8]) -> usize
+    ensures { λ r. ⌜ (r ≡ filledLines true (now (content .entry))) × (r ≤ length (now (content .entry))) ⌝ }
+{
+    let mut n = 0;
+    let mut at = next_line(content, 0, true);
+    while at < content.len() {
+        n += 1;
+        at = next_line(content, at, false);
+    }
+    n
 }
 
 // Writes the content with the prefix before every line that is not empty. The entries at a line's first byte come before the prefix, which stands under that byte's labels.
