@@ -1,10 +1,10 @@
 -- Laws on buffers that are written from the front: a part lent and given back, one write after another, and what a finished buffer holds.
-use mathlib.Core.Path.{_≡_, refl, sym, ap, _∙_}
-use mathlib.Core.List.{List, [], _∷_, _++_, append-assoc, append-nil}
-use Prim.Native.Nat.{ℕ, suc, _+_, _-_, _≤_, _<_}
+use mathlib.Core.Path.{_≡_}
+use mathlib.Core.List.{List, [], _++_, append-assoc, append-nil}
+use Prim.Native.Nat.{ℕ, _+_, _-_, _≤_}
 use native.Mathlib.Omega.{arith}
 use lib.ListN.{length, take, drop, length-append, length-drop, length-take, drop-of-length-le}
-use lib.Seq.{length-take-le, take-append-seam, drop-append-seam, drop-drop, take-length}
+use lib.Seq.{take-append-seam, drop-append-seam, drop-drop, take-length}
 use borrow.Rule.Slice.PartMut.{putMid}
 use borrow.Rule.Slice.PartAt.{part-to-end}
 use Rattle.buffer.specs.Place.{over, overAt, part}

@@ -1,5 +1,4 @@
 -- Document 01's cases C1 to C16 as one table.
-use Prim.Native.Nat.{ℕ}
 use mathlib.Core.Bool.{true, false}
 use mathlib.Core.List.{List, [], _∷_}
 use Rattle.recording.specs.Recording.{recording}

@@ -1,21 +1,21 @@
 -- What an adding call that is not refused leaves is a recording without faults (`written-clean`, `pushed-clean`, `popped-clean`, `raw-clean`).
 -- The idea: more data and more text give the entries that were there no fault (`entries-more`), and the new one stands last, at the data's end (`entries-snoc`).
 use mathlib.Core.Path.{_≡_, refl, sym, ap, _∙_}
-use mathlib.Core.Bool.{Bool, true, false, cond, not, _&&_, _||_}
+use mathlib.Core.Bool.{true, false, not}
 use mathlib.Core.List.{List, [], _∷_, _++_, append-nil}
-use Prim.Native.Nat.{ℕ, zero, suc, _+_, _-_, _%_, _≤_, _<_}
+use Prim.Native.Nat.{ℕ, zero, suc, _+_, _-_, _%_, _≤_}
 use native.Mathlib.Omega.{arith}
-use lib.Dec.{ltb, eqb}
+use lib.Dec.{eqb}
 use lib.ListN.{length, take, drop, length-append}
 use lib.Seq.{drop-append-seam, take-length}
-use borrow.Author.Tests.{eqb-true, eqb-false, eq-eqb, ne-eqb, ltb-false, le-ltb}
+use borrow.Author.Tests.{eqb-true, eq-eqb, le-ltb}
 use Rattle.chars.specs.Chars.{wellFormed}
 use Rattle.recording.specs.declared.Entry.{Entry}
 use Rattle.recording.specs.Recording.{Bytes, Recording, recording, entry, entriesOf, numbersOf, partOf}
-use Rattle.recording.specs.Refusals.{firstOf, refuseIf, badShape, entryFault, entriesFault, recordingFault}
-use Rattle.recording.specs.Outcome.{Result, Faults, Outcome, done, overLimit, refusalOf, settle, Lent}
+use Rattle.recording.specs.Refusals.{refuseIf, badShape, entryFault, entriesFault, recordingFault}
+use Rattle.recording.specs.Outcome.{Result, done, overLimit, Lent}
 use Rattle.recording.proofs.Lists.{not-false}
-use Rattle.recording.proofs.FaultLaws.{firstOf-zero, firstOf-more, refuseIf-zero, NoFault, no-fault, fault-free, InLimits, in-limits, NoEntryFault, no-entry-fault, Granted, granted}
+use Rattle.recording.proofs.FaultLaws.{firstOf-zero, refuseIf-zero, NoFault, no-fault, fault-free, InLimits, in-limits, NoEntryFault, no-entry-fault, granted}
 use Rattle.recording.proofs.OutcomeLaws.{done-only}
 use Rattle.formatter.specs.Formatter.{roomIn, leaves, usedOf, addFaults, withData, withEntry, withLabel, withPop, withRaw, written, pushed, popped, rawAdded}
 

@@ -16,10 +16,10 @@ use Rattle.recording.specs.declared.Checked.{Checked}
 use Rattle.recording.specs.declared.Checked.the-variants as C
 use Rattle.recording.specs.Recording.{Bytes, Recording, recording, entry, numbersOf}
 use Rattle.recording.specs.Refusals.{numberOf, firstOf, refuseIf, recordingFault}
-use Rattle.recording.specs.Outcome.{Room, Result, Faults, Outcome, overLimit, noRoom, refusalOf, settle, Lent, lentAfter, returned, answerOf}
+use Rattle.recording.specs.Outcome.{Room, Result, Faults, overLimit, noRoom, refusalOf, settle, Lent, lentAfter, returned, answerOf}
 use Rattle.recording.specs.Check.{faultOf}
 use Rattle.recording.proofs.Lists.{or-left, or-right}
-use Rattle.recording.proofs.FaultLaws.{firstOf-zero, refuseIf-zero, NoFault, no-fault}
+use Rattle.recording.proofs.FaultLaws.{firstOf-zero, refuseIf-zero, no-fault}
 use Rattle.recording.proofs.OutcomeLaws.{number-pos, first-hit, first-on, first-one, stops-lengths, stops-content, stops-added, stops-sizes, is-done, refused-answer, refused-lent, done-answer}
 use Rattle.recording.proofs.CheckLaws.{refused-number, fine-zero}
 use Rattle.writer.specs.declared.Settled.{Settled}

@@ -1,8 +1,7 @@
 -- `replay`: where it stops it answers the refusal of the outcome, and else it leaves the encoded items; and what it leaves is a recording without faults (`replay-clean`).
 use mathlib.Core.Path.{_≡_, refl, sym, ap, _∙_}
-use mathlib.Core.Bool.{Bool, true, false}
 use mathlib.Core.List.{List, [], _∷_}
-use Prim.Native.Nat.{ℕ, _≤_, _<_}
+use Prim.Native.Nat.{ℕ}
 use native.Mathlib.Omega.{arith}
 use lib.ListN.{length}
 use Rattle.buffer.specs.Place.{over}
@@ -10,12 +9,12 @@ use Rattle.recording.specs.declared.Refusal.{Refusal}
 use Rattle.recording.specs.declared.Answer.the-variants.{Refused, Done}
 use Rattle.recording.specs.declared.Checked.{Checked}
 use Rattle.recording.specs.declared.Checked.the-variants as C
-use Rattle.recording.specs.Recording.{Recording, recording, Item, items, textOf, dataOf, numbersOf, entriesFrom, encode}
+use Rattle.recording.specs.Recording.{Recording, recording, items, textOf, encode}
 use Rattle.recording.specs.Refusals.{numberOf, firstOf, recordingFault}
-use Rattle.recording.specs.Outcome.{Room, Result, Faults, Outcome, refused, done, overLimit, noRoom, refusalOf, settle, Lent, lentAfter, returned, answerOf}
+use Rattle.recording.specs.Outcome.{Room, Result, done, overLimit, noRoom, refusalOf, Lent, lentAfter, returned, answerOf}
 use Rattle.recording.specs.Check.{faultOf, Counted}
-use Rattle.recording.proofs.FaultLaws.{Granted, granted, ok-recording, encoded}
-use Rattle.recording.proofs.OutcomeLaws.{number-pos, stops-content, stops-sizes, is-refused, is-done, refused-answer, refused-lent, done-answer, done-only}
+use Rattle.recording.proofs.FaultLaws.{granted, ok-recording, encoded}
+use Rattle.recording.proofs.OutcomeLaws.{number-pos, stops-content, stops-sizes, is-done, refused-answer, refused-lent, done-answer, done-only}
 use Rattle.recording.proofs.CheckLaws.{refused-number, fine-zero, fine-count}
 use Rattle.writer.specs.declared.Cursor.{Cursor}
 use Rattle.writer.specs.declared.Settled.{Settled}

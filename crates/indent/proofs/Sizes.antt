@@ -1,24 +1,20 @@
 -- How much indenting writes: the content, and the prefix once for each line that is not empty; and what the call is as a job of the layout.
-use mathlib.Core.Path.{_≡_, refl, sym, ap, _∙_}
+use mathlib.Core.Path.{_≡_, refl, sym, _∙_}
 use mathlib.Core.Bool.{true}
 use mathlib.Core.List.{List, [], _++_}
 use Prim.Native.Nat.{ℕ, _+_, _*_, _≤_}
 use native.Mathlib.Nat.{mul-le-mul}
 use native.Mathlib.Omega.{arith}
-use lib.ListN.{length, length-append}
+use lib.ListN.{length}
 use Rattle.recording.specs.Recording.{Recording, recording, Item, items, dataOf, textOf}
 use Rattle.recording.specs.Edit.{edit}
 use Rattle.recording.specs.Refusals.{recordingFault}
-use Rattle.recording.proofs.EditLaws.{data-append}
 use Rattle.recording.proofs.SizeLaws.{entryCount, count-append}
-use Rattle.writer.proofs.Laws.{text-size}
+use Rattle.writer.proofs.Laws.{text-size, data-size}
 use Rattle.layout.specs.Layout.{indentOps, indent, resultItems, linesLeft, number, secondFault, replacementFault}
 use Rattle.outcomes.proofs.SecondLaws.{Fine}
 use Rattle.indent.specs.Lines.{filledLines}
 use Rattle.indent.proofs.Laws.{sized}
-
-data-len : (a b : List Item) → length (dataOf (a ++ b)) ≡ length (dataOf a) + length (dataOf b)
-data-len a b = ap length (data-append a b) ∙ length-append (dataOf a) (dataOf b)
 
 numbers-len : (a b : List Item) → 4 * entryCount (a ++ b) ≡ 4 * entryCount a + 4 * entryCount b
 numbers-len a b = omega (arith, count-append a b)
@@ -31,7 +27,7 @@ module _ (ds ns ts ps qs us : List ℕ) (a b n : ℕ) (p : Fine ds ns ts a) (q :
   x = items (recording ps qs us)
 
   pub all-data : length ds + n * length ps ≡ length (dataOf (edit (indentOps x true ds) is))
-  all-data = (λ i. p .data-size i + e i * q .data-size i) ∙ sym (sized (λ (y : List Item). length (dataOf y)) data-len x true ds is)
+  all-data = (λ i. p .data-size i + e i * q .data-size i) ∙ sym (sized (λ (y : List Item). length (dataOf y)) data-size x true ds is)
 
   pub all-entries : length ns + n * length qs ≡ 4 * entryCount (edit (indentOps x true ds) is)
   all-entries = (λ i. p .entry-size i + e i * q .entry-size i) ∙ sym (sized (λ (y : List Item). 4 * entryCount y) numbers-len x true ds is)

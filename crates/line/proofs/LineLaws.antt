@@ -209,9 +209,6 @@ unfolding afterLine
 after-word end here [] h e = absurd (omega arith)
 after-word end here (x ∷ s) h e = rw (ne-eqb x 0x0A e)
 
-pub word-len : (d : List ℕ) → length (wordText d) ≤ length d
-word-len d = word-le d
-
 -- ── the head that the search and the case of place 0 give
 head-by : (m : ℕ) (d : List ℕ) (cut width : ℕ) (cs : List Character) → chars (wordText d) ≡ cs → cut ≡ length (bytesOf (keptWithin m cs)) → width ≡ widthOf (keptWithin m cs)
     → (pickHead (eqb cut 0) (oneHead d) (record { len = cut; width = width }) .len ≡ length (bytesOf (headOf m cs))) × (pickHead (eqb cut 0) (oneHead d) (record { len = cut; width = width }) .width ≡ widthOf (headOf m cs))

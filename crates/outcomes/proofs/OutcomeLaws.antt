@@ -2,7 +2,7 @@
 -- `accepted`); and what it then has answered and left (`refused-call`, `done-call`). Over any job: the sizes that the code took are those of the items that it writes.
 use mathlib.Core.Path.{_≡_, refl, sym, ap, subst, _∙_}
 use mathlib.Core.List.{List, [], _∷_}
-use Prim.Native.Nat.{ℕ, _*_, _<_}
+use Prim.Native.Nat.{ℕ, _*_}
 use native.Mathlib.Omega.{arith}
 use lib.ListN.{length}
 use Rattle.buffer.specs.Place.{over}
@@ -10,7 +10,7 @@ use Rattle.recording.specs.declared.Refusal.{Refusal}
 use Rattle.recording.specs.declared.Answer.the-variants.{Refused, Done}
 use Rattle.recording.specs.Recording.{Recording, Item, numbersOf, dataOf, textOf, entriesFrom, encode}
 use Rattle.recording.specs.Refusals.{numberOf, firstOf, recordingFault}
-use Rattle.recording.specs.Outcome.{Room, Result, Outcome, refused, done, overLimit, noRoom, refusalOf, Lent, lentAfter, returned, answerOf}
+use Rattle.recording.specs.Outcome.{Room, Outcome, refused, done, overLimit, noRoom, refusalOf, Lent, lentAfter, returned, answerOf}
 use Rattle.recording.proofs.OutcomeLaws.{number-pos, stops-content, stops-second, stops-records, stops-sizes, is-refused, is-done}
 use Rattle.recording.proofs.SizeLaws.{entryCount, count-numbers}
 use Rattle.writer.specs.declared.Cursor.{Cursor}

@@ -15,7 +15,7 @@ use Rattle.recording.proofs.SizeLaws.{IsEntry}
 use Rattle.writer.specs.declared.Cursor.{Cursor}
 use Rattle.writer.specs.Write.{Out, out, add, Fits, Valid, Sound, Ready, left, placeOf, itemAt}
 use Rattle.writer.proofs.Laws.{fits-left, fits-right, add-append, add-long, Long}
-use Rattle.writer.proofs.Carry.{valid-in, whole-entry, EntryItem, is-entry, TurnRoom, room-turn, turn-wrote, bytes-wrote, add-nil, restAfter, left-turn, front-stop}
+use Rattle.writer.proofs.Carry.{valid-in, whole-entry, EntryItem, is-entry, TurnRoom, room-turn, turn-wrote, bytes-wrote, add-nil, restAfter, left-turn, front-stop, placed}
 use Rattle.writer.proofs.Steps.{front-all, left-start, ready-start}
 use Rattle.layout.specs.Layout.{copies, repeatPieces, padding}
 use Rattle.layout.proofs.PadLaws.{repeat-bytes}
@@ -66,10 +66,6 @@ state-first n ds ns ts o c p a k s e =
       ready = ready-start ds ns ts c a k s;
       next = rw k e;
     }
-
-placed : (e : Entry) (es : List Entry) → placeOf (e ∷ es) ≡ e .position
-unfolding placeOf
-placed e es = refl
 
 module _ (n : ℕ) (ds ns ts : List ℕ) (o₀ o : Out) (c : Cursor) (p : ℕ) (s : State n ds ns ts o₀ o c p) (room : Fits (repeatPieces n [] (items (recording ds ns ts))) o₀) where
   abbrev left-over : List Item

@@ -7,13 +7,13 @@ use native.Mathlib.Omega.{arith}
 use lib.ListN.{length, length-append}
 use Rattle.recording.specs.Recording.{Recording, recording, Item, byte, push, pop, raw, byteItems, items, dataOf, textOf}
 use Rattle.recording.specs.Refusals.{recordingFault}
-use Rattle.recording.proofs.EditLaws.{data-append}
 use Rattle.recording.proofs.ItemsLaws.{data-bytes}
 use Rattle.recording.proofs.SizeLaws.{text-append, entryCount, count-append}
+use Rattle.recording.proofs.CheckLaws.{text-none}
 use Rattle.writer.specs.Write.{Out, add, Fits}
-use Rattle.writer.proofs.Laws.{text-size}
+use Rattle.writer.proofs.Laws.{text-size, data-size}
 use Rattle.writer.proofs.Steps.{fits-first, fits-then, then}
-use Rattle.writer.proofs.Carry.{text-none, count-none}
+use Rattle.writer.proofs.Carry.{count-none}
 use Rattle.layout.specs.Layout.{copies, repeatPieces, padding, fillCount, resultItems, linesLeft, number, secondFault, replacementFault}
 use Rattle.outcomes.proofs.SecondLaws.{Fine}
 use Rattle.pad.specs.declared.Side.{Side}
@@ -22,13 +22,10 @@ use Rattle.pad.specs.Padding.{repeated, onceIf, sides, leftOf, jobOf}
 use Rattle.pad.proofs.Laws.{copies-bytes}
 
 -- ── pieces repeated
-data-len : (a b : List Item) → length (dataOf (a ++ b)) ≡ length (dataOf a) + length (dataOf b)
-data-len a b = ap length (data-append a b) ∙ length-append (dataOf a) (dataOf b)
-
 data-copies : (n : ℕ) (q : List ℕ) → length (dataOf (copies n q)) ≡ n * length q
 data-copies zero q = sym (zero-mul (length q))
 data-copies (suc n) q =
-    omega (arith, data-len (byteItems q) (copies n q), ap length (data-bytes q), data-copies n q, suc-mul n (length q))
+    omega (arith, data-size (byteItems q) (copies n q), ap length (data-bytes q), data-copies n q, suc-mul n (length q))
 
 count-copies : (n : ℕ) (q : List ℕ) → entryCount (copies n q) ≡ 0
 count-copies n q = ap entryCount (copies-bytes n q) ∙ count-none (repeated n q)
@@ -38,7 +35,7 @@ text-copies n q = ap textOf (copies-bytes n q) ∙ text-none (repeated n q)
 
 -- a piece ends at an entry: what comes after it is repeated by itself
 data-entry : (n m k : ℕ) (q : List ℕ) (r : List Item) → k ≡ n * m → length (dataOf r) ≡ k → length (dataOf (copies n q ++ r)) ≡ n * (length q + m)
-data-entry n m k q r e h = omega (arith, data-len (copies n q) r, data-copies n q, mul-add n (length q) m)
+data-entry n m k q r e h = omega (arith, data-size (copies n q) r, data-copies n q, mul-add n (length q) m)
 
 data-repeated : (n : ℕ) (q : List ℕ) (is : List Item) → length (dataOf (repeatPieces n q is)) ≡ n * (length q + length (dataOf is))
 data-repeated n q [] = data-copies n q ∙ ap (λ (m : ℕ). n * m) (omega arith)
@@ -94,7 +91,7 @@ module _ (ds ns ts fs gs us : List ℕ) (a b n l : ℕ) (le : l ≤ n) (p : Fine
   sides-data =
       let e : l + (n - l) ≡ n = omega arith in
       let s : n * length fs ≡ l * length (dataOf fill) + (n - l) * length (dataOf fill) = (λ i. sym e i * q .data-size i) ∙ add-mul l (n - l) (length (dataOf fill)) in
-      omega (arith, s, p .data-size, data-len (padding l fill) (is ++ padding (n - l) fill), data-len is (padding (n - l) fill), padding-data l fill, padding-data (n - l) fill)
+      omega (arith, s, p .data-size, data-size (padding l fill) (is ++ padding (n - l) fill), data-size is (padding (n - l) fill), padding-data l fill, padding-data (n - l) fill)
 
   pub sides-entries : (e₁ e₂ : ℕ) → e₁ ≡ onceIf l (length gs) → e₂ ≡ onceIf (n - l) (length gs) → (length ns + e₁) + e₂ ≡ 4 * entryCount all
   unfolding sides

@@ -17,7 +17,7 @@ use writer::settle;
 ghost use mathlib.Core.Path.{_≡_};
 ghost use Prim.Native.Nat.{_+_, _-_, _*_, _≤_, _<_};
 ghost use Rattle.chars.specs.Leads.{leadTable};
-ghost use mathlib.Core.List.{[], _∷_, _++_};
+ghost use mathlib.Core.List.{[], _∷_};
 ghost use lib.ListN.{length};
 ghost use Rattle.buffer.specs.Place.{overAt, part};
 ghost use Rattle.recording.specs.Recording.{recording, items};

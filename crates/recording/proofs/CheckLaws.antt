@@ -1,10 +1,10 @@
 -- For the check of a recording: each fault by the test that finds it, one entry after another (`Seen`), and the length of the texts as a sum over the entries.
 use mathlib.Core.Path.{_≡_, refl, sym, ap, _∙_}
-use mathlib.Core.Bool.{Bool, true, false, not, _&&_, _||_, false≢true}
-use mathlib.Core.List.{List, [], _∷_, _++_, append-nil}
+use mathlib.Core.Bool.{Bool, true, false, not, _&&_, false≢true}
+use mathlib.Core.List.{List, [], _∷_, _++_}
 use Prim.Native.Nat.{ℕ, zero, suc, _+_, _-_, _*_, _%_, _≤_, _<_}
 use native.Mathlib.Omega.{arith}
-use lib.Dec.{ltb, eqb}
+use lib.Dec.{eqb}
 use lib.ListN.{length, take, drop, length-append, length-take, length-drop, drop-of-length-le}
 use borrow.Author.Tests.{eq-eqb, ne-eqb, eqb-true, lt-ltb, le-ltb}
 use Rattle.chars.specs.Chars.{wellFormed}
@@ -12,10 +12,10 @@ use Rattle.recording.specs.declared.Entry.{Entry}
 use Rattle.recording.specs.declared.Refusal.{Refusal}
 use Rattle.recording.specs.declared.Checked.{Checked}
 use Rattle.recording.specs.declared.Checked.the-variants.{Refused, Fine}
-use Rattle.recording.specs.Recording.{Recording, recording, entriesOf, partOf, Item, byteItems, itemOf, itemsFrom, items, textOf}
-use Rattle.recording.specs.Refusals.{numberOf, firstOf, badShape, entryFault, entriesFault, recordingFault}
+use Rattle.recording.specs.Recording.{recording, entriesOf, partOf, Item, byteItems, itemOf, itemsFrom, items, textOf}
+use Rattle.recording.specs.Refusals.{numberOf, badShape, entryFault, entriesFault, recordingFault}
 use Rattle.recording.specs.Check.{faultOf, Counted, Within}
-use Rattle.recording.proofs.FaultLaws.{firstOf-zero, NoEntryFault, no-entry-fault}
+use Rattle.recording.proofs.FaultLaws.{firstOf-zero, no-entry-fault}
 use Rattle.recording.proofs.OutcomeLaws.{number-pos, first-hit, first-on, first-one}
 
 -- ── what an answer of a check says

@@ -2,7 +2,7 @@
 -- The idea: `front n` and `back n` of the items are `take n` and `drop n` of the coloured bytes, with the labels open after `front n` carried over.
 use Prim.Native.Nat.{ℕ, zero, suc, _+_, _-_}
 use native.Mathlib.Nat.{zero-add, suc-add}
-use mathlib.Core.Bool.{true, false, false≢true}
+use mathlib.Core.Bool.{true, false≢true}
 use mathlib.Core.Path.{_≡_, refl, ap}
 use mathlib.Core.List.{List, [], _∷_, _++_, reverse, tail, reverse-append}
 use lib.ListN.{length, take, drop}

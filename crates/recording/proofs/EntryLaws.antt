@@ -6,7 +6,6 @@ use native.Mathlib.Numerals.{add-one, add-two, add-three, add-four}
 use native.Mathlib.Omega.{arith}
 use lib.ListN.{length, drop, getD}
 use lib.Seq.{drop-cons}
-use Rattle.recording.specs.declared.Entry.{Entry}
 use Rattle.recording.specs.Recording.{entry, entriesOf}
 
 numbers-next : (ns : List ℕ) (k : ℕ) → k + 4 ≤ length ns

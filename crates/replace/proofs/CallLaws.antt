@@ -21,13 +21,13 @@ use Rattle.recording.specs.Outcome.{Outcome, refused, Lent, lentAfter, returned
 use Rattle.recording.proofs.ItemsLaws.{data-items}
 use Rattle.recording.proofs.EditLaws.{edit-data}
 use Rattle.recording.proofs.SizeLaws.{entryCount, count-numbers, edit-count, edit-text, putCount, putText}
-use Rattle.recording.proofs.CheckLaws.{refused-number, fine-zero, fine-count}
+use Rattle.recording.proofs.CheckLaws.{refused-number, fine-zero, fine-count, text-none}
 use Rattle.writer.specs.declared.Cursor.{Cursor}
 use Rattle.writer.specs.declared.Settled.{Settled}
 use Rattle.writer.specs.declared.Settled.the-variants as S
 use Rattle.writer.specs.Write.{out, add, blank, Fits, Sound}
 use Rattle.writer.specs.Sizes.{sizesFault, settledFault, roomOf}
-use Rattle.writer.proofs.Carry.{text-none, count-none}
+use Rattle.writer.proofs.Carry.{count-none}
 use Rattle.writer.proofs.Sizes.{numbers-items, quads-of}
 use Rattle.writer.proofs.Steps.{sound}
 use Rattle.layout.specs.declared.Replacement.{Replacement}

@@ -1,14 +1,15 @@
 -- The writing of all records. `State`: what is written and what the records that are left make of the rest of the content are together the whole result; a turn moves its items from one to the other.
-use mathlib.Core.Path.{_≡_, refl, sym, ap, _∙_}
+use mathlib.Core.Path.{_≡_, sym, ap, _∙_}
 use mathlib.Core.Bool.{false}
 use mathlib.Core.List.{List, [], _∷_, _++_, append-assoc, append-nil}
-use Prim.Native.Nat.{ℕ, zero, suc, _+_, _-_, _≤_}
+use Prim.Native.Nat.{ℕ, _+_, _-_, _≤_}
 use native.Mathlib.Omega.{arith}
 use lib.ListN.{length, drop, length-drop}
 use Rattle.buffer.specs.Place.{part}
-use Rattle.recording.specs.Recording.{recording, Item, byte, push, pop, raw, byteItems, items, entriesOf}
+use Rattle.recording.specs.Recording.{recording, Item, byteItems, items, entriesOf}
 use Rattle.recording.specs.Edit.{front, back, entriesOnly, edit}
 use Rattle.recording.proofs.ItemsLaws.{data-itemsFrom}
+use Rattle.recording.proofs.EditLaws.{front-back, back-back}
 use Rattle.writer.specs.declared.Cursor.{Cursor}
 use Rattle.writer.specs.Write.{Out, add, Fits, Sound, Ready, left}
 use Rattle.writer.proofs.Laws.{fits-left, fits-right, add-append, add-long, Long}
@@ -18,23 +19,6 @@ use Rattle.layout.specs.declared.Replacement.{Replacement}
 use Rattle.layout.specs.Layout.{replaceOps, badRecord, recordsFault}
 use Rattle.replace.specs.Turn.{turnItems, turnLeft, Turn, Turned}
 use Rattle.replace.proofs.RecordLaws.{no-eight}
-
--- the entries at the offset are in front of it already
-front-back : (k : ℕ) (is : List Item) → front 0 (back k is) ≡ []
-front-back k [] = refl
-front-back zero (byte b ∷ is) = refl
-front-back (suc k) (byte b ∷ is) = front-back k is
-front-back k (push l ∷ is) = front-back k is
-front-back k (pop ∷ is) = front-back k is
-front-back k (raw l ∷ is) = front-back k is
-
-back-back : (k : ℕ) (is : List Item) → back 0 (back k is) ≡ back k is
-back-back k [] = refl
-back-back zero (byte b ∷ is) = refl
-back-back (suc k) (byte b ∷ is) = back-back k is
-back-back k (push l ∷ is) = back-back k is
-back-back k (pop ∷ is) = back-back k is
-back-back k (raw l ∷ is) = back-back k is
 
 -- one record of the plan: its turn, and the rest of the plan on what the turn leaves
 plan-next : (new : List ℕ) (at : ℕ) (x : Replacement) (xs : List Replacement) (is : List Item)

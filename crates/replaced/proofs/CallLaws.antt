@@ -1,26 +1,25 @@
 -- The public call from what its five calls say. The plan's refusal is the outcome's, by the laws of the flat call; with none, the turns and the end write the result; with one, nothing has moved.
 use mathlib.Core.Path.{_≡_, refl, sym, ap, subst, _∙_}
-use mathlib.Core.Bool.{Bool, true, false, cond}
+use mathlib.Core.Bool.{Bool, false, cond}
 use mathlib.Core.List.{List, [], _∷_}
-use Prim.Native.Nat.{ℕ, zero, suc, _+_, _-_, _≤_, _<_}
+use Prim.Native.Nat.{ℕ, zero, suc, _+_, _-_, _≤_}
 use native.Mathlib.Omega.{arith}
 use lib.ListN.{length}
 use Rattle.recording.specs.declared.Answer.{Answer}
-use Rattle.recording.specs.declared.Answer.the-variants.{Refused, Done}
-use Rattle.recording.specs.declared.Checked.{Checked}
+use Rattle.recording.specs.declared.Answer.the-variants.{Refused}
 use Rattle.recording.specs.declared.Checked.the-variants as CV
 use Rattle.recording.specs.declared.Refusal.{Refusal}
-use Rattle.recording.specs.Recording.{Recording, recording, items, textOf}
+use Rattle.recording.specs.Recording.{recording, items, textOf}
 use Rattle.recording.specs.Edit.{edit}
 use Rattle.recording.specs.Refusals.{numberOf, firstOf, recordingFault}
 use Rattle.recording.specs.Check.{faultOf, Counted}
 use Rattle.recording.specs.Outcome.{answerOf}
 use Rattle.recording.proofs.FaultLaws.{firstOf-zero}
-use Rattle.recording.proofs.OutcomeLaws.{number-pos, first-hit, first-on, first-one}
+use Rattle.recording.proofs.OutcomeLaws.{first-hit, first-on, first-one}
 use Rattle.writer.specs.declared.Cursor.{Cursor}
 use Rattle.writer.specs.declared.Settled.{Settled}
 use Rattle.writer.specs.declared.Settled.the-variants as S
-use Rattle.writer.specs.Write.{out, blank, Fits, Sound}
+use Rattle.writer.specs.Write.{out, blank, Fits}
 use Rattle.writer.specs.Sizes.{settledFault, sizesFault, roomOf}
 use Rattle.layout.specs.declared.Replacement.{Replacement}
 use Rattle.layout.specs.Layout.{replaceOps, recordsFault, replace}

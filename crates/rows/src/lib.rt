@@ -12,14 +12,13 @@ use sheet::unhex;
 use wrap::numbers_of;
 use wrap::wrap_bytes;
 ghost use mathlib.Core.Path.{_≡_};
-ghost use mathlib.Core.List.{_++_, _∷_, []};
 ghost use Prim.Native.Nat.{_+_, _-_, _*_, _≤_, _<_};
 ghost use lib.ListN.{length, take, drop};
 ghost use Rattle.buffer.specs.Place.{over, overAt};
 ghost use Rattle.recording.specs.Outcome.{answerOf};
 ghost use Rattle.layout.specs.Wrap.{wrapLines};
 ghost use Rattle.sheet.specs.Sheet.{sheetLine, sheetLines};
-ghost use Rattle.rows.specs.Rows.{decimal, field, rowText, badRow, numberRows, lineRows, rowsOf, rowsFrom, output};
+ghost use Rattle.rows.specs.Rows.{field, rowText, badRow, numberRows, lineRows, rowsOf, rowsFrom, output};
 
 // Puts the decimal digits of n, and c after them.
 fn put_field(out: &mut [u8], at: usize, n: u32, c: u8) -> usize

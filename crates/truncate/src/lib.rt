@@ -16,7 +16,7 @@ use writer::put_recording;
 use writer::settle;
 use writer::skip;
 ghost use mathlib.Core.Path.{_≡_};
-ghost use Prim.Native.Nat.{_+_, _-_, _*_, _≤_, _<_};
+ghost use Prim.Native.Nat.{_+_, _-_, _≤_, _<_};
 ghost use lib.ListN.{length, drop};
 ghost use Rattle.chars.specs.Leads.{leadTable};
 ghost use Rattle.chars.specs.Cut.{zeroWidthLen};

@@ -4,7 +4,6 @@ use recording::Answer;
 use truncate::write_truncated_end;
 use truncate::write_truncated_start;
 ghost use Prim.Native.Nat.{_≤_};
-ghost use lib.ListN.{length};
 
 fn called(name: &[u8], call: &[u8], max: u32) {
     io::write_all(1, name);

@@ -1,14 +1,15 @@
 -- The loop over the lines writes the plan `wrapOps`: a line's items, a 0A, and the plan of the lines that are left.
 -- The idea: what is done, and the plan from the cursor on, is the whole plan (`State`); one law for a line that others follow, one for the last.
-use Prim.Native.Nat.{ℕ, zero, suc, _+_, _-_, _≤_, _<_}
+use Prim.Native.Nat.{ℕ, _+_, _-_, _≤_, _<_}
 use native.Mathlib.Omega.{arith}
 use mathlib.Core.Bool.{Bool, true, false}
 use mathlib.Core.Path.{_≡_, refl, sym, ap, _∙_}
 use mathlib.Core.List.{List, [], _∷_, _++_, append-assoc, append-nil}
 use lib.ListN.{length, drop, length-drop}
-use Rattle.recording.specs.Recording.{recording, entriesOf, Item, byte, push, pop, raw, itemsFrom}
+use Rattle.recording.specs.Recording.{recording, entriesOf, Item, byte, itemsFrom}
 use Rattle.recording.specs.Edit.{front, back, entriesOnly, edit}
 use Rattle.recording.proofs.ItemsLaws.{data-itemsFrom}
+use Rattle.recording.proofs.EditLaws.{front-back, back-back}
 use Rattle.writer.specs.declared.Cursor.{Cursor}
 use Rattle.writer.specs.Write.{Out, add, Fits, Ready, Sound, left}
 use Rattle.writer.proofs.Laws.{fits-left, fits-right, add-append, add-long, Long}
@@ -22,23 +23,6 @@ use Rattle.line.specs.Line.{following}
 use Rattle.line.specs.declared.Next.{Next}
 use Rattle.line.proofs.RestLaws.{rest-all}
 use Rattle.wrapped.specs.Plan.{lineItems, lineLeft}
-
--- ── the entries at an offset are in front of it already
-front-back : (k : ℕ) (is : List Item) → front 0 (back k is) ≡ []
-front-back k [] = refl
-front-back zero (byte b ∷ is) = refl
-front-back (suc k) (byte b ∷ is) = front-back k is
-front-back k (push l ∷ is) = front-back k is
-front-back k (pop ∷ is) = front-back k is
-front-back k (raw l ∷ is) = front-back k is
-
-back-back : (k : ℕ) (is : List Item) → back 0 (back k is) ≡ back k is
-back-back k [] = refl
-back-back zero (byte b ∷ is) = refl
-back-back (suc k) (byte b ∷ is) = back-back k is
-back-back k (push l ∷ is) = back-back k is
-back-back k (pop ∷ is) = back-back k is
-back-back k (raw l ∷ is) = back-back k is
 
 abbrev newline : List Item
 newline = byte 0x0A ∷ []

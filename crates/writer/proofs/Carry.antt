@@ -1,11 +1,11 @@
 -- Carrying items of a content on, by a loop over its entries: one turn writes the bytes up to the next entry and the entry, the end writes the bytes up to n.
 -- The idea: `State` says what is done and that the rest of the plan is the plan for what is left; `sel` is what of the items is written (all, or the entries alone).
 use mathlib.Core.Path.{_≡_, refl, sym, ap, _∙_}
-use mathlib.Core.Bool.{Bool, true, false}
+use mathlib.Core.Bool.{false}
 use mathlib.Core.List.{List, [], _∷_, _++_, append-assoc, append-nil}
-use Prim.Native.Nat.{ℕ, zero, suc, _+_, _-_, _*_, _≤_, _<_}
+use Prim.Native.Nat.{ℕ, zero, suc, _+_, _-_, _≤_, _<_}
 use native.Mathlib.Omega.{arith}
-use lib.ListN.{length, take, drop, getD, length-append, length-drop, length-take, take-append-drop}
+use lib.ListN.{length, take, drop, getD, length-drop, length-take, take-append-drop}
 use lib.Seq.{drop-cons, drop-drop}
 use Rattle.buffer.specs.Place.{over, overAt, part}
 use Rattle.buffer.proofs.Laws.{length-part}
@@ -16,8 +16,9 @@ use Rattle.recording.specs.Refusals.{badShape}
 use Rattle.recording.proofs.EditLaws.{data-append}
 use Rattle.recording.proofs.ItemsLaws.{data-bytes, data-entry}
 use Rattle.recording.proofs.SizeLaws.{entryCount, IsEntry, front-entry, back-entry, front-bytes, back-bytes, cursor-bytes, cursor-end}
+use Rattle.recording.proofs.CheckLaws.{text-bytes, text-none}
 use Rattle.writer.specs.declared.Cursor.{Cursor}
-use Rattle.writer.specs.Write.{Out, out, add, Fits, numbersAt, Valid, Ready, left, placeOf, itemAt}
+use Rattle.writer.specs.Write.{Out, out, add, Fits, Valid, Ready, left, placeOf, itemAt}
 use Rattle.writer.proofs.Laws.{text-of-entry, numbers-size, fits-left, fits-right, add-append, add-long, Long, same-out}
 
 -- ── what validity says of the next entry
@@ -73,17 +74,9 @@ entries-bytes : (p : List ℕ) (d t : ℕ) (is : List Item) → entriesFrom d t 
 entries-bytes [] d t is = let e : d + 0 ≡ d = omega arith in rw e
 entries-bytes (b ∷ p) d t is = let e : d + suc (length p) ≡ suc d + length p = omega arith in rw e (entries-bytes p (suc d) t is)
 
-pub text-bytes : (p : List ℕ) (is : List Item) → textOf (byteItems p ++ is) ≡ textOf is
-text-bytes [] is = refl
-text-bytes (b ∷ p) is = text-bytes p is
-
 pub count-bytes : (p : List ℕ) (is : List Item) → entryCount (byteItems p ++ is) ≡ entryCount is
 count-bytes [] is = refl
 count-bytes (b ∷ p) is = count-bytes p is
-
-pub text-none : (p : List ℕ) → textOf (byteItems p) ≡ []
-text-none [] = refl
-text-none (b ∷ p) = text-none p
 
 entries-none : (p : List ℕ) (d t : ℕ) → entriesFrom d t (byteItems p) ≡ []
 entries-none [] d t = refl
@@ -265,7 +258,7 @@ pub record State (sel : List Item → List Item) (ds ns ts : List ℕ) (n : ℕ)
   pub here : c .at ≤ n
   pub next : p ≡ placeOf (entriesOf (drop (c .k) ns))
 
-placed : (e : Entry) (es : List Entry) → placeOf (e ∷ es) ≡ e .position
+pub placed : (e : Entry) (es : List Entry) → placeOf (e ∷ es) ≡ e .position
 unfolding placeOf
 placed e es = refl
 

@@ -80,7 +80,7 @@ over-twice at a b old h =
 pub same-out : (a b : Out) → a .dataBytes ≡ b .dataBytes → a .entryNumbers ≡ b .entryNumbers → a .text ≡ b .text → a .d ≡ b .d → a .e ≡ b .e → a .t ≡ b .t → a ≡ b
 same-out a b p q r s t u = λ i. record { dataBytes = p i; entryNumbers = q i; text = r i; d = s i; e = t i; t = u i }
 
-data-size : (a b : List Item) → length (dataOf (a ++ b)) ≡ length (dataOf a) + length (dataOf b)
+pub data-size : (a b : List Item) → length (dataOf (a ++ b)) ≡ length (dataOf a) + length (dataOf b)
 data-size a b = ap length (data-append a b) ∙ length-append (dataOf a) (dataOf b)
 
 pub text-size : (a b : List Item) → length (textOf (a ++ b)) ≡ length (textOf a) + length (textOf b)

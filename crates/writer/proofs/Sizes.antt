@@ -1,25 +1,21 @@
 -- Refusals 9 and 21 to 24 from sizes: the tests in order, what is known when none refuses, and that they are `overLimit` and `noRoom` of a result with these lengths.
 -- Also the sizes of a content, for the sums that callers take.
 use mathlib.Core.Path.{_≡_, refl, sym, ap, _∙_}
-use mathlib.Core.Bool.{Bool, true, false, _||_}
-use mathlib.Core.List.{List, [], _∷_, _++_}
-use Prim.Native.Nat.{ℕ, zero, suc, _+_, _-_, _*_, _%_, _≤_, _<_}
+use mathlib.Core.List.{List, [], _∷_}
+use Prim.Native.Nat.{ℕ, _-_, _*_, _%_, _≤_, _<_}
 use native.Mathlib.Omega.{arith}
-use lib.Dec.{ltb, eqb}
 use lib.ListN.{length, take, drop}
 use borrow.Author.Tests.{ltb-false, lt-ltb, le-ltb, eqb-true}
 use Rattle.recording.specs.declared.Refusal.{Refusal}
 use Rattle.recording.specs.declared.Entry.{Entry}
-use Rattle.recording.specs.Recording.{Recording, recording, entriesOf, numbersOf, partOf, Item, itemOf, byteItems, itemsFrom, items, dataOf, textOf, entriesFrom, encode}
-use Rattle.recording.specs.Refusals.{numberOf, firstOf, refuseIf, recordingFault}
+use Rattle.recording.specs.Recording.{recording, entriesOf, numbersOf, partOf, Item, itemOf, itemsFrom, items, entriesFrom, encode}
+use Rattle.recording.specs.Refusals.{numberOf, firstOf, recordingFault}
 use Rattle.recording.specs.Outcome.{Room, Result, overLimit, noRoom}
-use Rattle.recording.proofs.Lists.{or-left, or-right}
-use Rattle.recording.proofs.FaultLaws.{firstOf-zero, refuseIf-zero, no-fault, Roomy, roomy, InLimits, in-limits}
-use Rattle.recording.proofs.OutcomeLaws.{first-one}
+use Rattle.recording.proofs.FaultLaws.{firstOf-zero, no-fault, roomy, in-limits}
 use Rattle.recording.proofs.SizeLaws.{entryCount, count-append, count-numbers}
 use Rattle.writer.specs.declared.Settled.{Settled}
 use Rattle.writer.specs.declared.Settled.the-variants as S
-use Rattle.writer.specs.Write.{Out, blank, Fits}
+use Rattle.writer.specs.Write.{blank, Fits}
 use Rattle.writer.specs.Sizes.{sizesFault, settledFault}
 use Rattle.writer.proofs.Carry.{count-bytes, count-none, one-entry}
 

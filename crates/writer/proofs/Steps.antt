@@ -1,14 +1,13 @@
 -- Laws for callers of the writer. Steps one after another (`fits-first`, `fits-then`, `then`), a content from its start to its end, and a finished result (`from-start`).
 use mathlib.Core.Path.{_≡_, refl, sym, ap, _∙_}
-use mathlib.Core.Bool.{Bool, true, false}
 use mathlib.Core.List.{List, [], _∷_, _++_}
-use Prim.Native.Nat.{ℕ, zero, suc, _+_, _-_, _≤_, _<_}
+use Prim.Native.Nat.{ℕ, zero, suc, _+_, _-_, _≤_}
 use native.Mathlib.Omega.{arith}
-use lib.ListN.{length, drop}
+use lib.ListN.{length}
 use borrow.Author.Tests.{ltb-false}
 use Rattle.buffer.specs.Place.{over, overAt}
 use Rattle.recording.specs.declared.Entry.{Entry}
-use Rattle.recording.specs.Recording.{Recording, recording, entriesOf, numbersOf, Item, byte, push, pop, raw, items, dataOf, textOf, entriesFrom}
+use Rattle.recording.specs.Recording.{recording, entriesOf, numbersOf, Item, byte, push, pop, raw, items, dataOf, textOf, entriesFrom}
 use Rattle.recording.specs.Edit.{front, back}
 use Rattle.recording.specs.Refusals.{entryFault, entriesFault, recordingFault}
 use Rattle.recording.proofs.ItemsLaws.{data-items}

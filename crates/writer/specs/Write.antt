@@ -1,6 +1,6 @@
 -- Writing a recording into three lent buffers, told by its items: what the buffers hold after some items were put at their ends, and what is left of a content.
 use Prim.Native.Nat.{ℕ, zero, suc, _+_, _-_, _≤_}
-use mathlib.Core.Bool.{Bool, true, false}
+use mathlib.Core.Bool.{false}
 use mathlib.Core.Path.{_≡_}
 use mathlib.Core.List.{List, [], _∷_}
 use lib.ListN.{length, drop}

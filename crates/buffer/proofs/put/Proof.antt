@@ -1,5 +1,4 @@
 -- `put` lends the rest of the buffer to the copying leaf; what comes back is the buffer with the part written from `at` on (`lent-back`).
-use native.Mathlib.Omega.{arith}
 use borrow.Author.Needs.{needs}
 use mathlib.Core.Path.{_∙_}
 use Rattle.buffer.proofs.Laws.{lent-back, copied-over}
@@ -9,47 +8,36 @@ use Rattle.buffer.proofs.put.Reads as reads
 use Rattle.buffer.proofs.put.Lts as lts
 use Rattle.bytes.proofs.copy.Reads as copy-reads
 
--- src/lib.rt:13:17
 sub-copy : tie.Need-sub-copy
 sub-copy c = search needs
 
--- src/lib.rt:13:17
 part-copy-start : tie.Need-part-copy-start
 part-copy-start c = search needs
 
--- src/lib.rt:13:17
 part-copy-end : tie.Need-part-copy-end
 part-copy-end c = search needs
 
--- src/lib.rt:13:29
 sub-copy-2 : tie.Need-sub-copy-2
 sub-copy-2 c = search needs
 
--- src/lib.rt:13:29
 part-copy-start-2 : tie.Need-part-copy-start-2
 part-copy-start-2 c = search needs
 
--- src/lib.rt:13:29
 part-copy-end-2 : tie.Need-part-copy-end-2
 part-copy-end-2 c = search needs
 
--- src/lib.rt:13:5
 copy-requires : tie.Need-copy-requires
 copy-requires c κs = search needs
 
--- src/lib.rt:14:11
 sub-result : tie.Need-sub-result
 sub-result c = search needs
 
--- src/lib.rt:14:5
 add-result : tie.Need-add-result
 add-result c = search needs
 
--- src/lib.rt:9:1
 same-length : tie.Need-same-length
 same-length c = search needs
 
--- src/lib.rt:9:1
 returns : tie.Need-returns
 returns c = (search needs, lent-back _ _ _ _ (c .before .before .copy .ensures .1 ∙ copied-over _ _))
 

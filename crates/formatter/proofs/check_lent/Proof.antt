@@ -1,5 +1,4 @@
 -- The table that is made here is the definitions' table.
-use native.Mathlib.Omega.{arith}
 use borrow.Author.Needs.{needs}
 use Rattle.chars.specs.Leads.{leadTable}
 use mathlib.Core.Path.{refl}
@@ -9,13 +8,11 @@ use Rattle.formatter.proofs.check_lent.Reads as reads
 use Rattle.formatter.proofs.check_lent.Lts as lts
 use Rattle.formatter.proofs.check_used.Reads as check-used-reads
 
--- src/lib.rt:126:5
 check-used-requires : tie.Need-check-used-requires
 unfolding leadTable
 check-used-requires c κs =
     refl
 
--- src/lib.rt:122:1
 returns : tie.Need-returns
 returns c = search needs
 

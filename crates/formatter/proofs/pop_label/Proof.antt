@@ -2,13 +2,11 @@
 use native.Mathlib.Omega.{arith}
 use borrow.Author.Needs.{needs}
 use Rattle.writer.proofs.Carry.{over-none}
-use Rattle.formatter.proofs.AddLaws.{check-refused, is-inside, limits, used-t, too-large, accepted, fits, add-refused, add-done, entry-sizes, entry-left}
+use Rattle.formatter.proofs.AddLaws.{check-refused, is-inside, limits, too-large, accepted, fits, add-refused, add-done, entry-sizes, entry-left}
 use Rattle.formatter.specs.Formatter.{lent, roomIn, leaves, usedOf, addFaults, popped, withEntry, withPop}
-use Rattle.recording.specs.Recording.{recording}
-use lib.ListN.{length, take}
 use Prim.Native.Nat.{_+_}
-use mathlib.Core.List.{[], _∷_}
-use mathlib.Core.Path.{_≡_, refl, sym, ap, _∙_}
+use mathlib.Core.List.{[]}
+use mathlib.Core.Path.{refl, sym}
 use Rattle.formatter.proofs.pop_label.Statement.{statement}
 use Rattle.formatter.proofs.pop_label.Tie as tie
 use Rattle.formatter.proofs.pop_label.Reads as reads
@@ -17,19 +15,15 @@ use Rattle.formatter.proofs.check_lent.Reads as check-lent-reads
 use Rattle.writer.proofs.set_entry.Reads as set-entry-reads
 use Rattle.writer.proofs.settle.Reads as settle-reads
 
--- src/lib.rt:187:9
 check-lent-requires : tie.Need-check-lent-requires
 check-lent-requires c κs = search needs
 
--- src/lib.rt:189:26
 enum-known-checked : tie.Need-enum-known-checked
 enum-known-checked c = search needs
 
--- src/lib.rt:190:13
 same-length : tie.Need-same-length
 same-length c = search needs
 
--- src/lib.rt:190:13
 returns : tie.Need-returns
 unfolding popped withPop
 returns c =
@@ -39,24 +33,19 @@ returns c =
 enum-told : tie.Need-enum-told
 enum-told c = search needs
 
--- src/lib.rt:196:9
 add-settle : tie.Need-add-settle
 add-settle c =
     omega (arith, limits (lent (c .before .before .before .before .before .before .before .args .content .now) (c .before .before .before .before .before .before .before .args .entries .now) (c .before .before .before .before .before .before .before .args .text .now)) (c .before .before .before .before .before .before .before .args .content-len) (c .before .before .before .before .before .before .before .args .entries-len) (c .before .before .before .before .before .before .before .args .text-len) (c .before .before .check-lent .result) (c .before .before .check-lent .ensures) (c .enum-told .given .0 .0) (c .enum-told .given .1), c .before .before .before .before .before .before .before .good)
 
--- src/lib.rt:194:9
 settle-requires : tie.Need-settle-requires
 settle-requires c κs = search needs
 
--- src/lib.rt:205:26
 enum-known-verdict : tie.Need-enum-known-verdict
 enum-known-verdict c = search needs
 
--- src/lib.rt:206:13
 same-length-2 : tie.Need-same-length-2
 same-length-2 c = search needs
 
--- src/lib.rt:206:13
 returns-2 : tie.Need-returns-2
 unfolding popped withPop
 returns-2 c =
@@ -68,12 +57,10 @@ returns-2 c =
 enum-told-2 : tie.Need-enum-told-2
 enum-told-2 c = search needs
 
--- src/lib.rt:211:19
 cast-t18 : tie.Need-cast-t18
 cast-t18 c =
     omega (arith, limits (lent (c .before .before .before .before .before .before .before .before .before .before .args .content .now) (c .before .before .before .before .before .before .before .before .before .before .args .entries .now) (c .before .before .before .before .before .before .before .before .before .before .args .text .now)) (c .before .before .before .before .before .before .before .before .before .before .args .content-len) (c .before .before .before .before .before .before .before .before .before .before .args .entries-len) (c .before .before .before .before .before .before .before .before .before .before .args .text-len) (c .before .before .before .before .before .check-lent .result) (c .before .before .before .before .before .check-lent .ensures) (c .before .before .before .enum-told .given .0 .0) (c .before .before .before .enum-told .given .1), c .before .before .before .before .before .before .before .before .before .before .good)
 
--- src/lib.rt:216:5
 set-entry-requires : tie.Need-set-entry-requires
 set-entry-requires c κs =
     let i = is-inside (lent (c .before .before .before .before .before .before .before .before .before .before .before .args .content .now) (c .before .before .before .before .before .before .before .before .before .before .before .args .entries .now) (c .before .before .before .before .before .before .before .before .before .before .before .args .text .now)) (c .before .before .before .before .before .before .before .before .before .before .before .args .content-len) (c .before .before .before .before .before .before .before .before .before .before .before .args .entries-len) (c .before .before .before .before .before .before .before .before .before .before .before .args .text-len) (c .before .before .before .before .before .before .check-lent .result) (c .before .before .before .before .before .before .check-lent .ensures) (c .before .before .before .before .enum-told .given .0 .0) (c .before .before .before .before .enum-told .given .1) in
@@ -82,16 +69,13 @@ set-entry-requires c κs =
     let m = limits (lent (c .before .before .before .before .before .before .before .before .before .before .before .args .content .now) (c .before .before .before .before .before .before .before .before .before .before .before .args .entries .now) (c .before .before .before .before .before .before .before .before .before .before .before .args .text .now)) (c .before .before .before .before .before .before .before .before .before .before .before .args .content-len) (c .before .before .before .before .before .before .before .before .before .before .before .args .entries-len) (c .before .before .before .before .before .before .before .before .before .before .before .args .text-len) (c .before .before .before .before .before .before .check-lent .result) (c .before .before .before .before .before .before .check-lent .ensures) (c .before .before .before .before .enum-told .given .0 .0) (c .before .before .before .before .enum-told .given .1) in
     omega (arith, f .entry-room, s .1)
 
--- src/lib.rt:219:18
 add-t14 : tie.Need-add-t14
 add-t14 c =
     omega (arith, limits (lent (c .before .before .before .before .before .before .before .before .before .before .before .before .before .before .args .content .now) (c .before .before .before .before .before .before .before .before .before .before .before .before .before .before .args .entries .now) (c .before .before .before .before .before .before .before .before .before .before .before .before .before .before .args .text .now)) (c .before .before .before .before .before .before .before .before .before .before .before .before .before .before .args .content-len) (c .before .before .before .before .before .before .before .before .before .before .before .before .before .before .args .entries-len) (c .before .before .before .before .before .before .before .before .before .before .before .before .before .before .args .text-len) (c .before .before .before .before .before .before .before .before .before .check-lent .result) (c .before .before .before .before .before .before .before .before .before .check-lent .ensures) (c .before .before .before .before .before .before .before .enum-told .given .0 .0) (c .before .before .before .before .before .before .before .enum-told .given .1), c .before .before .before .before .before .before .before .before .before .before .before .before .before .before .good)
 
--- src/lib.rt:176:1
 same-length-3 : tie.Need-same-length-3
 same-length-3 c = search needs
 
--- src/lib.rt:176:1
 returns-3 : tie.Need-returns-3
 unfolding popped withPop
 returns-3 c =

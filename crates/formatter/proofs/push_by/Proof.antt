@@ -8,11 +8,9 @@ use Rattle.chars.specs.Chars.{wellFormed}
 use borrow.Author.Tests.{not-true, not-false}
 use Rattle.formatter.proofs.AddLaws.{check-refused, is-inside, limits, used-t, too-large, accepted, fits, add-refused, add-done, entry-sizes, entry-left, added-refused, bad-label, good-label}
 use Rattle.formatter.specs.Formatter.{lent, roomIn, leaves, usedOf, addFaults, pushed, withEntry, withLabel}
-use Rattle.recording.specs.Recording.{recording}
 use lib.ListN.{length, take}
 use Prim.Native.Nat.{_+_}
-use mathlib.Core.List.{[], _∷_}
-use mathlib.Core.Path.{_≡_, refl, sym, ap, _∙_}
+use mathlib.Core.Path.{refl, sym}
 use Rattle.formatter.proofs.push_by.Statement.{statement}
 use Rattle.formatter.proofs.push_by.Tie as tie
 use Rattle.formatter.proofs.push_by.Reads as reads
@@ -22,23 +20,18 @@ use Rattle.formatter.proofs.check_used.Reads as check-used-reads
 use Rattle.formatter.proofs.put_mark.Reads as put-mark-reads
 use Rattle.writer.proofs.settle.Reads as settle-reads
 
--- src/lib.rt:264:9
 check-used-requires : tie.Need-check-used-requires
 check-used-requires c κs = search needs
 
--- src/lib.rt:266:26
 enum-known-checked : tie.Need-enum-known-checked
 enum-known-checked c = search needs
 
--- src/lib.rt:267:13
 same-length : tie.Need-same-length
 same-length c = search needs
 
--- src/lib.rt:267:13
 same-length-2 : tie.Need-same-length-2
 same-length-2 c = search needs
 
--- src/lib.rt:267:13
 returns : tie.Need-returns
 unfolding pushed withLabel
 returns c =
@@ -48,52 +41,41 @@ returns c =
 enum-told : tie.Need-enum-told
 enum-told c = search needs
 
--- src/lib.rt:271:9
 well-formed-requires : tie.Need-well-formed-requires
 well-formed-requires c κs = search needs
 
--- src/lib.rt:272:9
 same-length-3 : tie.Need-same-length-3
 same-length-3 c = search needs
 
--- src/lib.rt:272:9
 same-length-4 : tie.Need-same-length-4
 same-length-4 c = search needs
 
--- src/lib.rt:272:9
 returns-2 : tie.Need-returns-2
 unfolding pushed withLabel numberOf
 returns-2 c =
     let w = c .before .well-formed in
     add-refused (addFaults (refuseIf (not (wellFormed (c .before .before .before .before .before .before .before .before .before .before .before .args .label .now))) 6) (lent (c .before .before .before .before .before .before .before .before .before .before .before .args .content .now) (c .before .before .before .before .before .before .before .before .before .before .before .args .entries .now) (c .before .before .before .before .before .before .before .before .before .before .before .args .text .now)) (c .before .before .before .before .before .before .before .before .before .before .before .args .content-len) (c .before .before .before .before .before .before .before .before .before .before .before .args .entries-len) (c .before .before .before .before .before .before .before .before .before .before .before .args .text-len)) (lent (c .before .before .before .before .before .before .before .before .before .before .before .args .content .now) (c .before .before .before .before .before .before .before .before .before .before .before .args .entries .now) (c .before .before .before .before .before .before .before .before .before .before .before .args .text .now)) (withEntry 0 (length (take (c .before .before .before .before .before .before .before .before .before .before .before .args .text-len) (c .before .before .before .before .before .before .before .before .before .before .before .args .text .now))) (c .before .before .before .before .before .before .before .before .before .before .before .args .label .now) (usedOf (lent (c .before .before .before .before .before .before .before .before .before .before .before .args .content .now) (c .before .before .before .before .before .before .before .before .before .before .before .args .entries .now) (c .before .before .before .before .before .before .before .before .before .before .before .args .text .now)) (c .before .before .before .before .before .before .before .before .before .before .before .args .content-len) (c .before .before .before .before .before .before .before .before .before .before .before .args .entries-len) (c .before .before .before .before .before .before .before .before .before .before .before .args .text-len))) LabelIllFormed (added-refused (lent (c .before .before .before .before .before .before .before .before .before .before .before .args .content .now) (c .before .before .before .before .before .before .before .before .before .before .before .args .entries .now) (c .before .before .before .before .before .before .before .before .before .before .before .args .text .now)) (c .before .before .before .before .before .before .before .before .before .before .before .args .content-len) (c .before .before .before .before .before .before .before .before .before .before .before .args .entries-len) (c .before .before .before .before .before .before .before .before .before .before .before .args .text-len) (c .before .before .before .before .check-used .result) (c .before .before .before .before .check-used .ensures) (c .before .before .enum-told .given .0 .0) (c .before .before .enum-told .given .1) (refuseIf (not (wellFormed (c .before .before .before .before .before .before .before .before .before .before .before .args .label .now))) 6) (roomIn (lent (c .before .before .before .before .before .before .before .before .before .before .before .args .content .now) (c .before .before .before .before .before .before .before .before .before .before .before .args .entries .now) (c .before .before .before .before .before .before .before .before .before .before .before .args .text .now))) (leaves (withEntry 0 (length (take (c .before .before .before .before .before .before .before .before .before .before .before .args .text-len) (c .before .before .before .before .before .before .before .before .before .before .before .args .text .now))) (c .before .before .before .before .before .before .before .before .before .before .before .args .label .now) (usedOf (lent (c .before .before .before .before .before .before .before .before .before .before .before .args .content .now) (c .before .before .before .before .before .before .before .before .before .before .before .args .entries .now) (c .before .before .before .before .before .before .before .before .before .before .before .args .text .now)) (c .before .before .before .before .before .before .before .before .before .before .before .args .content-len) (c .before .before .before .before .before .before .before .before .before .before .before .args .entries-len) (c .before .before .before .before .before .before .before .before .before .before .before .args .text-len)))) LabelIllFormed (bad-label (w .result) (c .before .before .before .before .before .before .before .before .before .before .before .args .label .now) (w .ensures) (not-true (w .result) (c .if1 .taken))))
 
--- src/lib.rt:276:9
 add-settle : tie.Need-add-settle
 add-settle c =
     omega (arith, limits (lent (c .before .before .before .before .before .before .before .before .before .before .before .args .content .now) (c .before .before .before .before .before .before .before .before .before .before .before .args .entries .now) (c .before .before .before .before .before .before .before .before .before .before .before .args .text .now)) (c .before .before .before .before .before .before .before .before .before .before .before .args .content-len) (c .before .before .before .before .before .before .before .before .before .before .before .args .entries-len) (c .before .before .before .before .before .before .before .before .before .before .before .args .text-len) (c .before .before .before .before .check-used .result) (c .before .before .before .before .check-used .ensures) (c .before .before .enum-told .given .0 .0) (c .before .before .enum-told .given .1), c .before .before .before .before .before .before .before .before .before .before .before .good)
 
--- src/lib.rt:277:9
 add-settle-2 : tie.Need-add-settle-2
 add-settle-2 c =
     omega (arith, limits (lent (c .before .before .before .before .before .before .before .before .before .before .before .args .content .now) (c .before .before .before .before .before .before .before .before .before .before .before .args .entries .now) (c .before .before .before .before .before .before .before .before .before .before .before .args .text .now)) (c .before .before .before .before .before .before .before .before .before .before .before .args .content-len) (c .before .before .before .before .before .before .before .before .before .before .before .args .entries-len) (c .before .before .before .before .before .before .before .before .before .before .before .args .text-len) (c .before .before .before .before .check-used .result) (c .before .before .before .before .check-used .ensures) (c .before .before .enum-told .given .0 .0) (c .before .before .enum-told .given .1), c .before .before .before .before .before .before .before .before .before .before .before .good)
 
--- src/lib.rt:274:9
 settle-requires : tie.Need-settle-requires
 settle-requires c κs = search needs
 
--- src/lib.rt:285:26
 enum-known-verdict : tie.Need-enum-known-verdict
 enum-known-verdict c = search needs
 
--- src/lib.rt:286:13
 same-length-5 : tie.Need-same-length-5
 same-length-5 c = search needs
 
--- src/lib.rt:286:13
 same-length-6 : tie.Need-same-length-6
 same-length-6 c = search needs
 
--- src/lib.rt:286:13
 returns-3 : tie.Need-returns-3
 unfolding pushed withLabel
 returns-3 c =
@@ -105,7 +87,6 @@ returns-3 c =
 enum-told-2 : tie.Need-enum-told-2
 enum-told-2 c = search needs
 
--- src/lib.rt:290:5
 put-mark-requires : tie.Need-put-mark-requires
 put-mark-requires c κs =
     let i = is-inside (lent (c .before .before .before .before .before .before .before .before .before .before .before .before .before .before .before .before .args .content .now) (c .before .before .before .before .before .before .before .before .before .before .before .before .before .before .before .before .args .entries .now) (c .before .before .before .before .before .before .before .before .before .before .before .before .before .before .before .before .args .text .now)) (c .before .before .before .before .before .before .before .before .before .before .before .before .before .before .before .before .args .content-len) (c .before .before .before .before .before .before .before .before .before .before .before .before .before .before .before .before .args .entries-len) (c .before .before .before .before .before .before .before .before .before .before .before .before .before .before .before .before .args .text-len) (c .before .before .before .before .before .before .before .before .before .check-used .result) (c .before .before .before .before .before .before .before .before .before .check-used .ensures) (c .before .before .before .before .before .before .before .enum-told .given .0 .0) (c .before .before .before .before .before .before .before .enum-told .given .1) in
@@ -114,25 +95,20 @@ put-mark-requires c κs =
     let m = limits (lent (c .before .before .before .before .before .before .before .before .before .before .before .before .before .before .before .before .args .content .now) (c .before .before .before .before .before .before .before .before .before .before .before .before .before .before .before .before .args .entries .now) (c .before .before .before .before .before .before .before .before .before .before .before .before .before .before .before .before .args .text .now)) (c .before .before .before .before .before .before .before .before .before .before .before .before .before .before .before .before .args .content-len) (c .before .before .before .before .before .before .before .before .before .before .before .before .before .before .before .before .args .entries-len) (c .before .before .before .before .before .before .before .before .before .before .before .before .before .before .before .before .args .text-len) (c .before .before .before .before .before .before .before .before .before .check-used .result) (c .before .before .before .before .before .before .before .before .before .check-used .ensures) (c .before .before .before .before .before .before .before .enum-told .given .0 .0) (c .before .before .before .before .before .before .before .enum-told .given .1) in
     ((omega (arith, f .entry-room, s .1), omega (arith, f .text-room, s .2)), (m .0, omega (arith, f .text-limit, s .2)))
 
--- src/lib.rt:293:18
 add-t20 : tie.Need-add-t20
 add-t20 c =
     omega (arith, limits (lent (c .before .before .before .before .before .before .before .before .before .before .before .before .before .before .before .before .before .before .before .before .before .args .content .now) (c .before .before .before .before .before .before .before .before .before .before .before .before .before .before .before .before .before .before .before .before .before .args .entries .now) (c .before .before .before .before .before .before .before .before .before .before .before .before .before .before .before .before .before .before .before .before .before .args .text .now)) (c .before .before .before .before .before .before .before .before .before .before .before .before .before .before .before .before .before .before .before .before .before .args .content-len) (c .before .before .before .before .before .before .before .before .before .before .before .before .before .before .before .before .before .before .before .before .before .args .entries-len) (c .before .before .before .before .before .before .before .before .before .before .before .before .before .before .before .before .before .before .before .before .before .args .text-len) (c .before .before .before .before .before .before .before .before .before .before .before .before .before .before .check-used .result) (c .before .before .before .before .before .before .before .before .before .before .before .before .before .before .check-used .ensures) (c .before .before .before .before .before .before .before .before .before .before .before .before .enum-told .given .0 .0) (c .before .before .before .before .before .before .before .before .before .before .before .before .enum-told .given .1), c .before .before .before .before .before .before .before .before .before .before .before .before .before .before .before .before .before .before .before .before .before .good)
 
--- src/lib.rt:294:15
 add-t25 : tie.Need-add-t25
 add-t25 c =
     omega (arith, limits (lent (c .before .before .before .before .before .before .before .before .before .before .before .before .before .before .before .before .before .before .before .before .before .args .content .now) (c .before .before .before .before .before .before .before .before .before .before .before .before .before .before .before .before .before .before .before .before .before .args .entries .now) (c .before .before .before .before .before .before .before .before .before .before .before .before .before .before .before .before .before .before .before .before .before .args .text .now)) (c .before .before .before .before .before .before .before .before .before .before .before .before .before .before .before .before .before .before .before .before .before .args .content-len) (c .before .before .before .before .before .before .before .before .before .before .before .before .before .before .before .before .before .before .before .before .before .args .entries-len) (c .before .before .before .before .before .before .before .before .before .before .before .before .before .before .before .before .before .before .before .before .before .args .text-len) (c .before .before .before .before .before .before .before .before .before .before .before .before .before .before .check-used .result) (c .before .before .before .before .before .before .before .before .before .before .before .before .before .before .check-used .ensures) (c .before .before .before .before .before .before .before .before .before .before .before .before .enum-told .given .0 .0) (c .before .before .before .before .before .before .before .before .before .before .before .before .enum-told .given .1), c .before .before .before .before .before .before .before .before .before .before .before .before .before .before .before .before .before .before .before .before .before .good)
 
--- src/lib.rt:250:1
 same-length-7 : tie.Need-same-length-7
 same-length-7 c = search needs
 
--- src/lib.rt:250:1
 same-length-8 : tie.Need-same-length-8
 same-length-8 c = search needs
 
--- src/lib.rt:250:1
 returns-4 : tie.Need-returns-4
 unfolding pushed withLabel
 returns-4 c =

@@ -1,5 +1,4 @@
 -- The table that is made here is the definitions' table.
-use native.Mathlib.Omega.{arith}
 use borrow.Author.Needs.{needs}
 use Rattle.chars.specs.Leads.{leadTable}
 use mathlib.Core.Path.{refl}
@@ -9,21 +8,17 @@ use Rattle.formatter.proofs.push_label.Reads as reads
 use Rattle.formatter.proofs.push_label.Lts as lts
 use Rattle.formatter.proofs.push_by.Reads as push-by-reads
 
--- src/lib.rt:313:5
 push-by-requires : tie.Need-push-by-requires
 unfolding leadTable
 push-by-requires c κs =
     refl
 
--- src/lib.rt:300:1
 same-length : tie.Need-same-length
 same-length c = search needs
 
--- src/lib.rt:300:1
 same-length-2 : tie.Need-same-length-2
 same-length-2 c = search needs
 
--- src/lib.rt:300:1
 returns : tie.Need-returns
 returns c = search needs
 

@@ -1,8 +1,7 @@
 -- `put_mark`: the entry and its text are what the two leaves write.
-use native.Mathlib.Omega.{arith}
 use borrow.Author.Needs.{needs}
 use Rattle.formatter.proofs.AddLaws.{whole-part}
-use mathlib.Core.Path.{_≡_, _∙_, ap}
+use mathlib.Core.Path.{_∙_}
 use Rattle.formatter.proofs.put_mark.Statement.{statement}
 use Rattle.formatter.proofs.put_mark.Tie as tie
 use Rattle.formatter.proofs.put_mark.Reads as reads
@@ -10,35 +9,27 @@ use Rattle.formatter.proofs.put_mark.Lts as lts
 use Rattle.buffer.proofs.put.Reads as put-reads
 use Rattle.writer.proofs.set_entry.Reads as set-entry-reads
 
--- src/lib.rt:241:19
 cast-t9 : tie.Need-cast-t9
 cast-t9 c = search needs
 
--- src/lib.rt:243:16
 cast-t10 : tie.Need-cast-t10
 cast-t10 c = search needs
 
--- src/lib.rt:244:14
 cast-t12 : tie.Need-cast-t12
 cast-t12 c = search needs
 
--- src/lib.rt:246:5
 set-entry-requires : tie.Need-set-entry-requires
 set-entry-requires c κs = search needs
 
--- src/lib.rt:247:5
 put-requires : tie.Need-put-requires
 put-requires c κs = search needs
 
--- src/lib.rt:226:1
 same-length : tie.Need-same-length
 same-length c = search needs
 
--- src/lib.rt:226:1
 same-length-2 : tie.Need-same-length-2
 same-length-2 c = search needs
 
--- src/lib.rt:226:1
 returns : tie.Need-returns
 returns c =
     (c .before .before .before .before .before .before .set-entry .ensures, c .before .before .put .ensures .1 ∙ whole-part _ _ _)

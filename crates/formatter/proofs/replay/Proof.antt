@@ -1,5 +1,4 @@
 -- The table that is made here is the definitions' table.
-use native.Mathlib.Omega.{arith}
 use borrow.Author.Needs.{needs}
 use Rattle.chars.specs.Leads.{leadTable}
 use mathlib.Core.Path.{refl}
@@ -9,25 +8,20 @@ use Rattle.formatter.proofs.replay.Reads as reads
 use Rattle.formatter.proofs.replay.Lts as lts
 use Rattle.formatter.proofs.replay_by.Reads as replay-by-reads
 
--- src/lib.rt:94:5
 replay-by-requires : tie.Need-replay-by-requires
 unfolding leadTable
 replay-by-requires c κs =
     refl
 
--- src/lib.rt:82:1
 same-length : tie.Need-same-length
 same-length c = search needs
 
--- src/lib.rt:82:1
 same-length-2 : tie.Need-same-length-2
 same-length-2 c = search needs
 
--- src/lib.rt:82:1
 same-length-3 : tie.Need-same-length-3
 same-length-3 c = search needs
 
--- src/lib.rt:82:1
 returns : tie.Need-returns
 returns c = search needs
 

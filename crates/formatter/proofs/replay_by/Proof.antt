@@ -1,5 +1,4 @@
 -- `replay`, with the table lent: it stops at the check's refusal, at that of the sizes, or leaves the encoded items (ReplayLaws).
-use native.Mathlib.Omega.{arith}
 use borrow.Author.Needs.{needs}
 use Rattle.formatter.proofs.ReplayLaws.{replay-refused, replay-done, check-refused, is-sound, too-large, accepted, has-room}
 use Rattle.writer.specs.Write.{out}
@@ -11,15 +10,12 @@ use Rattle.recording.proofs.check.Reads as check-reads
 use Rattle.writer.proofs.put_recording.Reads as put-recording-reads
 use Rattle.writer.proofs.settle.Reads as settle-reads
 
--- src/lib.rt:42:9
 check-requires : tie.Need-check-requires
 check-requires c κs = search needs
 
--- src/lib.rt:44:26
 enum-known-checked : tie.Need-enum-known-checked
 enum-known-checked c = search needs
 
--- src/lib.rt:45:13
 returns : tie.Need-returns
 returns c =
     let a = c .before .before .before .before .before .before .before .before .before .before .args in
@@ -28,19 +24,15 @@ returns c =
     replay-refused (a .content .now) (a .entries .now) (a .text .now) (a .bytes .now) (a .numbers .now) (a .texts .now) (g .0 .0)
     (check-refused (a .content .now) (a .entries .now) (a .text .now) (a .bytes .now) (a .numbers .now) (a .texts .now) (k .result) (k .ensures .0) (g .0 .0) (g .1))
 
--- src/lib.rt:47:23
 enum-known-checked-2 : tie.Need-enum-known-checked-2
 enum-known-checked-2 c = search needs
 
--- src/lib.rt:49:9
 settle-requires : tie.Need-settle-requires
 settle-requires c κs = search needs
 
--- src/lib.rt:60:26
 enum-known-verdict : tie.Need-enum-known-verdict
 enum-known-verdict c = search needs
 
--- src/lib.rt:61:13
 returns-2 : tie.Need-returns-2
 returns-2 c =
     let a = c .before .before .before .before .before .before .before .before .before .before .before .before .before .before .args in
@@ -54,7 +46,6 @@ returns-2 c =
 enum-told : tie.Need-enum-told
 enum-told c = search needs
 
--- src/lib.rt:72:9
 put-recording-requires : tie.Need-put-recording-requires
 unfolding out
 put-recording-requires c κs =
@@ -67,19 +58,15 @@ put-recording-requires c κs =
       has-room (a .content .now) (a .entries .now) (a .text .now) (a .bytes .now) (a .numbers .now) (a .texts .now) (k .result) (k .ensures .0) (g .0 .0) (g .1) (k .ensures .1 .0) (v .result) (v .ensures) (h .1),
     )
 
--- src/lib.rt:29:1
 same-length : tie.Need-same-length
 same-length c = search needs
 
--- src/lib.rt:29:1
 same-length-2 : tie.Need-same-length-2
 same-length-2 c = search needs
 
--- src/lib.rt:29:1
 same-length-3 : tie.Need-same-length-3
 same-length-3 c = search needs
 
--- src/lib.rt:29:1
 returns-3 : tie.Need-returns-3
 unfolding out
 returns-3 c =

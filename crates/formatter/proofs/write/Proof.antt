@@ -1,13 +1,11 @@
 -- `write`: refused as the outcome has it (`check-refused`, `too-large` of AddLaws), or the bytes at the data's end are the result over the buffer (`data-left`).
 use native.Mathlib.Omega.{arith}
 use borrow.Author.Needs.{needs}
-use Rattle.formatter.proofs.AddLaws.{check-refused, is-inside, limits, used-t, too-large, accepted, fits, add-refused, add-done, data-sizes, data-left, whole-part}
+use Rattle.formatter.proofs.AddLaws.{check-refused, is-inside, limits, too-large, accepted, fits, add-refused, add-done, data-sizes, data-left, whole-part}
 use Rattle.formatter.specs.Formatter.{lent, roomIn, leaves, usedOf, addFaults, written, withData}
-use Rattle.recording.specs.Recording.{recording}
-use lib.ListN.{length, take}
+use lib.ListN.{length}
 use Prim.Native.Nat.{_+_}
-use mathlib.Core.List.{[], _∷_}
-use mathlib.Core.Path.{_≡_, refl, sym, ap, _∙_}
+use mathlib.Core.Path.{refl, _∙_}
 use Rattle.formatter.proofs.write.Statement.{statement}
 use Rattle.formatter.proofs.write.Tie as tie
 use Rattle.formatter.proofs.write.Reads as reads
@@ -16,19 +14,15 @@ use Rattle.buffer.proofs.put.Reads as put-reads
 use Rattle.formatter.proofs.check_lent.Reads as check-lent-reads
 use Rattle.writer.proofs.settle.Reads as settle-reads
 
--- src/lib.rt:142:9
 check-lent-requires : tie.Need-check-lent-requires
 check-lent-requires c κs = search needs
 
--- src/lib.rt:144:26
 enum-known-checked : tie.Need-enum-known-checked
 enum-known-checked c = search needs
 
--- src/lib.rt:145:13
 same-length : tie.Need-same-length
 same-length c = search needs
 
--- src/lib.rt:145:13
 returns : tie.Need-returns
 unfolding written
 returns c =
@@ -38,24 +32,19 @@ returns c =
 enum-told : tie.Need-enum-told
 enum-told c = search needs
 
--- src/lib.rt:149:17
 add-total : tie.Need-add-total
 add-total c =
     omega (arith, limits (lent (c .before .before .before .before .before .before .before .before .args .content .now) (c .before .before .before .before .before .before .before .before .args .entries .now) (c .before .before .before .before .before .before .before .before .args .text .now)) (c .before .before .before .before .before .before .before .before .args .content-len) (c .before .before .before .before .before .before .before .before .args .entries-len) (c .before .before .before .before .before .before .before .before .args .text-len) (c .before .before .check-lent .result) (c .before .before .check-lent .ensures) (c .enum-told .given .0 .0) (c .enum-told .given .1), c .before .before .before .before .before .before .before .before .good)
 
--- src/lib.rt:150:9
 settle-requires : tie.Need-settle-requires
 settle-requires c κs = search needs
 
--- src/lib.rt:161:26
 enum-known-verdict : tie.Need-enum-known-verdict
 enum-known-verdict c = search needs
 
--- src/lib.rt:162:13
 same-length-2 : tie.Need-same-length-2
 same-length-2 c = search needs
 
--- src/lib.rt:162:13
 returns-2 : tie.Need-returns-2
 unfolding written
 returns-2 c =
@@ -67,7 +56,6 @@ returns-2 c =
 enum-told-2 : tie.Need-enum-told-2
 enum-told-2 c = search needs
 
--- src/lib.rt:166:5
 put-requires : tie.Need-put-requires
 put-requires c κs =
     let i = is-inside (lent (c .before .before .before .before .before .before .before .before .before .before .before .before .args .content .now) (c .before .before .before .before .before .before .before .before .before .before .before .before .args .entries .now) (c .before .before .before .before .before .before .before .before .before .before .before .before .args .text .now)) (c .before .before .before .before .before .before .before .before .before .before .before .before .args .content-len) (c .before .before .before .before .before .before .before .before .before .before .before .before .args .entries-len) (c .before .before .before .before .before .before .before .before .before .before .before .before .args .text-len) (c .before .before .before .before .before .before .check-lent .result) (c .before .before .before .before .before .before .check-lent .ensures) (c .before .before .before .before .enum-told .given .0 .0) (c .before .before .before .before .enum-told .given .1) in
@@ -76,11 +64,9 @@ put-requires c κs =
     let m = limits (lent (c .before .before .before .before .before .before .before .before .before .before .before .before .args .content .now) (c .before .before .before .before .before .before .before .before .before .before .before .before .args .entries .now) (c .before .before .before .before .before .before .before .before .before .before .before .before .args .text .now)) (c .before .before .before .before .before .before .before .before .before .before .before .before .args .content-len) (c .before .before .before .before .before .before .before .before .before .before .before .before .args .entries-len) (c .before .before .before .before .before .before .before .before .before .before .before .before .args .text-len) (c .before .before .before .before .before .before .check-lent .result) (c .before .before .before .before .before .before .check-lent .ensures) (c .before .before .before .before .enum-told .given .0 .0) (c .before .before .before .before .enum-told .given .1) in
     (omega arith, omega arith, omega (arith, f .data-room, s .0))
 
--- src/lib.rt:130:1
 same-length-3 : tie.Need-same-length-3
 same-length-3 c = search needs
 
--- src/lib.rt:130:1
 returns-3 : tie.Need-returns-3
 unfolding written
 returns-3 c =

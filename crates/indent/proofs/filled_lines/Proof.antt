@@ -48,35 +48,28 @@ abbrev μ-loop : tie.MeasureT-loop
 μ-loop content n₀ at₀ n at =
     length content - at
 
--- src/lib.rt:105:9
 next-line-requires : tie.Need-next-line-requires Inv-loop μ-loop
 next-line-requires c κs = search needs
 
--- src/lib.rt:106:5
 loop-holds : tie.Need-loop-holds Inv-loop μ-loop
 loop-holds c =
     record { from = 0; start = true; next = c .next-line .ensures .0; rest = omega arith; within = c .next-line .ensures .1 .1; few = omega arith }
 
--- src/lib.rt:107:9
 add-n : tie.Need-add-n Inv-loop μ-loop
 add-n c = search needs
 
--- src/lib.rt:108:9
 next-line-requires-2 : tie.Need-next-line-requires-2 Inv-loop μ-loop
 next-line-requires-2 c κs = c .before .loop .inv .within
 
--- src/lib.rt:106:5
 loop-less : tie.Need-loop-less Inv-loop μ-loop
 loop-less c =
     let l = c .before .before in
     omega (arith, c .next-line2 .ensures .0, c .before .loop-test .taken, next-past (l .loop .at) (l .before .before .before .args .content .now) (c .before .loop-test .taken))
 
--- src/lib.rt:106:5
 loop-again : tie.Need-loop-again Inv-loop μ-loop
 loop-again c =
     one-more _ _ _ (c .before .before .loop .inv) (c .before .loop-test .taken) _ (c .next-line2 .ensures .0) (c .next-line2 .ensures .1 .1)
 
--- src/lib.rt:101:1
 returns : tie.Need-returns Inv-loop μ-loop
 returns c =
     (all _ _ _ (c .before .loop .inv) (c .loop-test .left), omega (arith, c .before .loop .inv .few, c .before .loop .inv .within))

@@ -22,33 +22,26 @@ abbrev μ-loop : tie.MeasureT-loop
 μ-loop s at found₀ j₀ found j =
     16 - j
 
--- src/lib.rt:33:5
 loop-holds : tie.Need-loop-holds Inv-loop μ-loop
 loop-holds c = (search needs, sym (le-ltb (toBreak (drop (c .args .at) (c .args .s .now))) 0 (omega arith)))
 
--- src/lib.rt:34:28
 add-found : tie.Need-add-found Inv-loop μ-loop
 add-found c = search needs
 
--- src/lib.rt:34:26
 shared-slice-read-found : tie.Need-shared-slice-read-found Inv-loop μ-loop
 shared-slice-read-found c = search needs
 
--- src/lib.rt:35:9
 add-j : tie.Need-add-j Inv-loop μ-loop
 add-j c = search needs
 
--- src/lib.rt:33:5
 loop-less : tie.Need-loop-less Inv-loop μ-loop
 loop-less c = search needs
 
--- src/lib.rt:33:5
 loop-again : tie.Need-loop-again Inv-loop μ-loop
 loop-again c =
     let l = c .before .before in
     (search needs, ap (λ (t : Bool). t || eqb (getD (l .before .args .s .now) (l .before .args .at + l .loop .j) 0) 0x0A) (l .loop .inv .1) ∙ found-next (l .before .args .at) (l .loop .j) (l .before .args .s .now) (omega arith))
 
--- src/lib.rt:27:1
 returns : tie.Need-returns Inv-loop μ-loop
 returns c =
     let l = c .before in

@@ -20,39 +20,31 @@ abbrev μ-loop : tie.MeasureT-loop
 μ-loop s from at₀ at =
     length s - at
 
--- src/lib.rt:62:9
 skip-blocks-requires : tie.Need-skip-blocks-requires Inv-loop μ-loop
 skip-blocks-requires c κs = search needs
 
--- src/lib.rt:63:5
 loop-holds : tie.Need-loop-holds Inv-loop μ-loop
 loop-holds c = search needs
 
--- src/lib.rt:64:12
 shared-slice-read-if1 : tie.Need-shared-slice-read-if1 Inv-loop μ-loop
 shared-slice-read-if1 c = search needs
 
--- src/lib.rt:65:13
 returns : tie.Need-returns Inv-loop μ-loop
 returns c =
     let l = c .before .before .before in
     (omega (arith, l .loop .inv .2, break-here (l .loop .at) (l .before .before .before .args .s .now) (omega arith) (c .if1 .taken)), (search needs, search needs))
 
--- src/lib.rt:67:9
 add-at : tie.Need-add-at Inv-loop μ-loop
 add-at c = search needs
 
--- src/lib.rt:63:5
 loop-less : tie.Need-loop-less Inv-loop μ-loop
 loop-less c = search needs
 
--- src/lib.rt:63:5
 loop-again : tie.Need-loop-again Inv-loop μ-loop
 loop-again c =
     let l = c .before .before .before in
     (search needs, search needs, omega (arith, l .loop .inv .2, break-later (l .loop .at) (l .before .before .before .args .s .now) (omega arith) (c .if1 .left)))
 
--- src/lib.rt:57:1
 returns-2 : tie.Need-returns-2 Inv-loop μ-loop
 returns-2 c =
     let l = c .before in

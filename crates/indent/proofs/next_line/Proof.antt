@@ -14,25 +14,20 @@ use Rattle.indent.proofs.next_line.Lts as lts
 use Rattle.indent.proofs.line_end.Reads as line-end-reads
 use Rattle.indent.proofs.skip_empty.Reads as skip-empty-reads
 
--- src/lib.rt:95:9
 skip-empty-requires : tie.Need-skip-empty-requires
 skip-empty-requires c κs = search needs
 
--- src/lib.rt:95:9
 returns : tie.Need-returns
 returns c =
     let a = c .before .before .before .args in
     (c .skip-empty .ensures .0 ∙ ap (λ (t : Bool). a .from + toNext t (drop (a .from) (a .content .now))) (sym (c .before .if1 .taken)), (search needs, search needs))
 
--- src/lib.rt:97:25
 line-end-requires : tie.Need-line-end-requires
 line-end-requires c κs = search needs
 
--- src/lib.rt:97:5
 skip-empty-requires-2 : tie.Need-skip-empty-requires-2
 skip-empty-requires-2 c κs = search needs
 
--- src/lib.rt:89:1
 returns-2 : tie.Need-returns-2
 returns-2 c =
     let a = c .before .before .before .before .args in

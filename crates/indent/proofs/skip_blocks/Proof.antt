@@ -21,38 +21,30 @@ abbrev μ-loop : tie.MeasureT-loop
 μ-loop s from at₀ at =
     length s - at
 
--- src/lib.rt:47:5
 loop-holds : tie.Need-loop-holds Inv-loop μ-loop
 loop-holds c = search needs
 
--- src/lib.rt:47:17
 sub-loop : tie.Need-sub-loop Inv-loop μ-loop
 sub-loop c = search needs
 
--- src/lib.rt:48:12
 has-break-requires : tie.Need-has-break-requires Inv-loop μ-loop
 has-break-requires c κs = search needs
 
--- src/lib.rt:49:13
 returns : tie.Need-returns Inv-loop μ-loop
 returns c = search needs
 
--- src/lib.rt:51:9
 add-at : tie.Need-add-at Inv-loop μ-loop
 add-at c = search needs
 
--- src/lib.rt:47:5
 loop-less : tie.Need-loop-less Inv-loop μ-loop
 loop-less c = search needs
 
--- src/lib.rt:47:5
 loop-again : tie.Need-loop-again Inv-loop μ-loop
 loop-again c =
     let l = c .before .before .before in
     let s = l .before .before .args .s .now in
     (search needs, search needs, omega (arith, l .loop .inv .2, break-past 16 (l .loop .at) s (ltb-false (toBreak (drop (l .loop .at) s)) 16 (sym (c .before .has-break .ensures) ∙ c .if1 .left))))
 
--- src/lib.rt:41:1
 returns-2 : tie.Need-returns-2 Inv-loop μ-loop
 returns-2 c = search needs
 

@@ -20,35 +20,28 @@ abbrev μ-loop : tie.MeasureT-loop
 μ-loop s from at₀ at =
     length s - at
 
--- src/lib.rt:79:5
 loop-holds : tie.Need-loop-holds Inv-loop μ-loop
 loop-holds c = search needs
 
--- src/lib.rt:80:12
 shared-slice-read-if1 : tie.Need-shared-slice-read-if1 Inv-loop μ-loop
 shared-slice-read-if1 c = search needs
 
--- src/lib.rt:81:13
 returns : tie.Need-returns Inv-loop μ-loop
 returns c =
     let l = c .before .before .before in
     (omega (arith, l .loop .inv .2, next-here (l .loop .at) (l .before .args .s .now) (omega arith) (c .if1 .taken)), (search needs, search needs))
 
--- src/lib.rt:83:9
 add-at : tie.Need-add-at Inv-loop μ-loop
 add-at c = search needs
 
--- src/lib.rt:79:5
 loop-less : tie.Need-loop-less Inv-loop μ-loop
 loop-less c = search needs
 
--- src/lib.rt:79:5
 loop-again : tie.Need-loop-again Inv-loop μ-loop
 loop-again c =
     let l = c .before .before .before in
     (search needs, search needs, omega (arith, l .loop .inv .2, next-later (l .loop .at) (l .before .args .s .now) (omega arith) (c .if1 .left)))
 
--- src/lib.rt:73:1
 returns-2 : tie.Need-returns-2 Inv-loop μ-loop
 returns-2 c =
     let l = c .before in

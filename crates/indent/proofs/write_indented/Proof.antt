@@ -17,17 +17,14 @@ use Rattle.indent.proofs.put_indented.Reads as put-indented-reads
 use Rattle.recording.proofs.check.Reads as check-reads
 use Rattle.writer.proofs.settle.Reads as settle-reads
 
--- src/lib.rt:123:9
 check-requires : tie.Need-check-requires
 unfolding leadTable
 check-requires c κs =
     refl
 
--- src/lib.rt:125:26
 enum-known-checked : tie.Need-enum-known-checked
 enum-known-checked c = search needs
 
--- src/lib.rt:126:13
 returns : tie.Need-returns
 returns c =
     let a = c .before .before .before .before .before .before .before .before .before .before .before .before .before .before .args in
@@ -35,21 +32,17 @@ returns c =
     let k₁ = c .before .before .before .check in
     content-refused (a .content .now) (a .entries .now) (a .text .now) (a .prefix .now) (a .prefix-entries .now) (a .prefix-text .now) (a .bytes .now) (a .numbers .now) (a .texts .now) (indent second) (k₁ .result) (c .before .checked .given .0 .0) (k₁ .ensures .0) (c .before .checked .given .1)
 
--- src/lib.rt:128:23
 enum-known-checked-2 : tie.Need-enum-known-checked-2
 enum-known-checked-2 c = search needs
 
--- src/lib.rt:130:9
 check-requires-2 : tie.Need-check-requires-2
 unfolding leadTable
 check-requires-2 c κs =
     refl
 
--- src/lib.rt:132:26
 enum-known-second : tie.Need-enum-known-second
 enum-known-second c = search needs
 
--- src/lib.rt:133:13
 returns-2 : tie.Need-returns-2
 returns-2 c =
     let a = c .before .before .before .before .before .before .before .before .before .before .before .before .before .before .before .before .before .before .before .args in
@@ -60,15 +53,12 @@ returns-2 c =
     let k₂ = c .before .before .before .check2 in
     second-refused (a .content .now) (a .entries .now) (a .text .now) (a .prefix .now) (a .prefix-entries .now) (a .prefix-text .now) (a .bytes .now) (a .numbers .now) (a .texts .now) (indent second) (g₁ .0 .0) fine₁ (second-of second) (k₂ .result) (c .before .second .given .0 .0) (k₂ .ensures .0) (c .before .second .given .1)
 
--- src/lib.rt:135:23
 enum-known-second-2 : tie.Need-enum-known-second-2
 enum-known-second-2 c = search needs
 
--- src/lib.rt:137:9
 filled-lines-requires : tie.Need-filled-lines-requires
 filled-lines-requires c κs = search needs
 
--- src/lib.rt:139:25
 mul-settle : tie.Need-mul-settle
 mul-settle c =
     let a = c .before .before .before .before .before .before .before .before .before .before .before .before .before .before .before .before .before .before .before .before .args in
@@ -80,7 +70,6 @@ mul-settle c =
     let fine₂ = checked-fine (a .prefix .now) (a .prefix-entries .now) (a .prefix-text .now) (g₂ .0 .0) (k₂ .result) (g₂ .1) (k₂ .ensures .0) (k₂ .ensures .1 .0) (k₂ .ensures .1 .1) in
     omega (arith, data-product (c .filled-lines .result) (length (a .prefix .now)) (omega (arith, c .filled-lines .ensures .1, fine₁ .data-short)) (fine₂ .data-short))
 
--- src/lib.rt:139:9
 add-settle : tie.Need-add-settle
 add-settle c =
     let a = c .before .before .before .before .before .before .before .before .before .before .before .before .before .before .before .before .before .before .before .before .args in
@@ -92,7 +81,6 @@ add-settle c =
     let fine₂ = checked-fine (a .prefix .now) (a .prefix-entries .now) (a .prefix-text .now) (g₂ .0 .0) (k₂ .result) (g₂ .1) (k₂ .ensures .0) (k₂ .ensures .1 .0) (k₂ .ensures .1 .1) in
     omega (arith, fine₁ .data-short, data-product (c .filled-lines .result) (length (a .prefix .now)) (omega (arith, c .filled-lines .ensures .1, fine₁ .data-short)) (fine₂ .data-short))
 
--- src/lib.rt:140:25
 mul-settle-2 : tie.Need-mul-settle-2
 mul-settle-2 c =
     let a = c .before .before .before .before .before .before .before .before .before .before .before .before .before .before .before .before .before .before .before .before .args in
@@ -104,7 +92,6 @@ mul-settle-2 c =
     let fine₂ = checked-fine (a .prefix .now) (a .prefix-entries .now) (a .prefix-text .now) (g₂ .0 .0) (k₂ .result) (g₂ .1) (k₂ .ensures .0) (k₂ .ensures .1 .0) (k₂ .ensures .1 .1) in
     omega (arith, entry-product (c .filled-lines .result) (length (a .prefix-entries .now)) (omega (arith, c .filled-lines .ensures .1, fine₁ .data-short)) (fine₂ .entries-short))
 
--- src/lib.rt:140:9
 add-settle-2 : tie.Need-add-settle-2
 add-settle-2 c =
     let a = c .before .before .before .before .before .before .before .before .before .before .before .before .before .before .before .before .before .before .before .before .args in
@@ -116,7 +103,6 @@ add-settle-2 c =
     let fine₂ = checked-fine (a .prefix .now) (a .prefix-entries .now) (a .prefix-text .now) (g₂ .0 .0) (k₂ .result) (g₂ .1) (k₂ .ensures .0) (k₂ .ensures .1 .0) (k₂ .ensures .1 .1) in
     omega (arith, fine₁ .entries-short, entry-product (c .filled-lines .result) (length (a .prefix-entries .now)) (omega (arith, c .filled-lines .ensures .1, fine₁ .data-short)) (fine₂ .entries-short))
 
--- src/lib.rt:141:16
 mul-settle-3 : tie.Need-mul-settle-3
 mul-settle-3 c =
     let a = c .before .before .before .before .before .before .before .before .before .before .before .before .before .before .before .before .before .before .before .before .args in
@@ -128,7 +114,6 @@ mul-settle-3 c =
     let fine₂ = checked-fine (a .prefix .now) (a .prefix-entries .now) (a .prefix-text .now) (g₂ .0 .0) (k₂ .result) (g₂ .1) (k₂ .ensures .0) (k₂ .ensures .1 .0) (k₂ .ensures .1 .1) in
     omega (arith, text-product (c .filled-lines .result) (g₂ .0 .0) (omega (arith, c .filled-lines .ensures .1, fine₁ .data-short)) (fine₂ .text-short))
 
--- src/lib.rt:141:9
 add-settle-3 : tie.Need-add-settle-3
 add-settle-3 c =
     let a = c .before .before .before .before .before .before .before .before .before .before .before .before .before .before .before .before .before .before .before .before .args in
@@ -140,15 +125,12 @@ add-settle-3 c =
     let fine₂ = checked-fine (a .prefix .now) (a .prefix-entries .now) (a .prefix-text .now) (g₂ .0 .0) (k₂ .result) (g₂ .1) (k₂ .ensures .0) (k₂ .ensures .1 .0) (k₂ .ensures .1 .1) in
     omega (arith, fine₁ .text-short, text-product (c .filled-lines .result) (g₂ .0 .0) (omega (arith, c .filled-lines .ensures .1, fine₁ .data-short)) (fine₂ .text-short))
 
--- src/lib.rt:138:9
 settle-requires : tie.Need-settle-requires
 settle-requires c κs = search needs
 
--- src/lib.rt:149:26
 enum-known-verdict : tie.Need-enum-known-verdict
 enum-known-verdict c = search needs
 
--- src/lib.rt:150:13
 returns-3 : tie.Need-returns-3
 returns-3 c =
     let a = c .before .before .before .before .before .before .before .before .before .before .before .before .before .before .before .before .before .before .before .before .before .before .before .before .args in
@@ -167,7 +149,6 @@ returns-3 c =
 enum-told : tie.Need-enum-told
 enum-told c = search needs
 
--- src/lib.rt:154:9
 put-indented-requires : tie.Need-put-indented-requires
 put-indented-requires c κs =
     let a = c .before .before .before .before .before .before .before .before .before .before .before .before .before .before .before .before .before .before .before .before .before .before .before .before .before .before .args in
@@ -183,19 +164,15 @@ put-indented-requires c κs =
     let v = c .before .before .before .before .before .settle in
     ((fine₁ .whole, fine₂ .whole), room-left (a .content .now) (a .entries .now) (a .text .now) (a .prefix .now) (a .prefix-entries .now) (a .prefix-text .now) (a .bytes .now) (a .numbers .now) (a .texts .now) (indent second) (g₁ .0 .0) fine₁ (second-of second) (g₂ .0 .0) fine₂ (records-of second content) (lines-of second content) _ (items-of second content) _ _ _ (all-data (a .content .now) (a .entries .now) (a .text .now) (a .prefix .now) (a .prefix-entries .now) (a .prefix-text .now) (g₁ .0 .0) (g₂ .0 .0) (n .result) fine₁ fine₂ (n .ensures .0)) (all-entries (a .content .now) (a .entries .now) (a .text .now) (a .prefix .now) (a .prefix-entries .now) (a .prefix-text .now) (g₁ .0 .0) (g₂ .0 .0) (n .result) fine₁ fine₂ (n .ensures .0)) (all-text (a .content .now) (a .entries .now) (a .text .now) (a .prefix .now) (a .prefix-entries .now) (a .prefix-text .now) (g₁ .0 .0) (g₂ .0 .0) (n .result) fine₁ fine₂ (n .ensures .0)) (v .result) (v .ensures) (c .before .before .before .enum-told .given .1))
 
--- src/lib.rt:106:1
 same-length : tie.Need-same-length
 same-length c = search needs
 
--- src/lib.rt:106:1
 same-length-2 : tie.Need-same-length-2
 same-length-2 c = search needs
 
--- src/lib.rt:106:1
 same-length-3 : tie.Need-same-length-3
 same-length-3 c = search needs
 
--- src/lib.rt:106:1
 returns-4 : tie.Need-returns-4
 returns-4 c =
     let a = c .before .before .before .before .before .before .before .before .before .before .before .before .before .before .before .before .before .before .before .before .before .before .before .before .before .before .before .before .before .before .before .before .before .args in

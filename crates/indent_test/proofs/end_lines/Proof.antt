@@ -4,7 +4,7 @@ use borrow.Author.Needs.{needs}
 use lib.ListN.{length-set}
 use mathlib.Core.Path.{_≡_}
 use lib.ListN.{length}
-use Prim.Native.Nat.{ℕ, _-_, _≤_}
+use Prim.Native.Nat.{_-_}
 use Rattle.indent_test.proofs.end_lines.Statement.{statement}
 use Rattle.indent_test.proofs.end_lines.Tie as tie
 use Rattle.indent_test.proofs.end_lines.Reads as reads

@@ -21,6 +21,7 @@ use Rattle.line.proofs.head_at.Reads as head-at-reads
 use Rattle.line.proofs.in_line.Reads as in-line-reads
 use Rattle.line.proofs.limit_of.Reads as limit-of-reads
 use Rattle.line.proofs.spaces_at.Reads as spaces-at-reads
+use Rattle.line.proofs.RestLaws.{word-le}
 
 -- the search for a cut
 abbrev Inv-loop : tie.InvT-loop
@@ -106,14 +107,14 @@ cast-w : tie.Need-cast-w Inv-loop μ-loop Inv-words μ-words
 cast-w c = search needs
 
 add-i : tie.Need-add-i Inv-loop μ-loop Inv-words μ-words
-add-i c = omega (arith, laws.word-len (c .before .before .before .before .before .before .before .before .before .words .word .now), laws.left-len _ _ _ _ _ _ _ _ _ (c .before .before .before .before .before .before .before .before .before .words .inv))
+add-i c = omega (arith, word-le (c .before .before .before .before .before .before .before .before .before .words .word .now), laws.left-len _ _ _ _ _ _ _ _ _ (c .before .before .before .before .before .before .before .before .before .words .inv))
 
 sub-fits : tie.Need-sub-fits Inv-loop μ-loop Inv-words μ-words
 sub-fits c = omega (arith, further c .left-within)
 
 fits-requires : tie.Need-fits-requires Inv-loop μ-loop Inv-words μ-words
 fits-requires c κs =
-    omega (arith, further c .within, further c .small, laws.word-len (c .before .before .before .before .before .before .before .before .before .words .word .now), whole (c .before .before .before .before .before .before .before .before .before), c .before .before .before .before .before .before .before .before .before .words .inv .small, c .before .before .before .before .before .before .before .before .before .words .inv .past, room (c .before .before .before .before .before .before .before .before .before))
+    omega (arith, further c .within, further c .small, word-le (c .before .before .before .before .before .before .before .before .before .words .word .now), whole (c .before .before .before .before .before .before .before .before .before), c .before .before .before .before .before .before .before .before .before .words .inv .small, c .before .before .before .before .before .before .before .before .before .words .inv .past, room (c .before .before .before .before .before .before .before .before .before))
 
 loop-less : tie.Need-loop-less Inv-loop μ-loop Inv-words μ-words
 loop-less c = search needs

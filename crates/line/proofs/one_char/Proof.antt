@@ -14,6 +14,7 @@ use Rattle.line.proofs.one_char.Tie as tie
 use Rattle.line.proofs.one_char.Reads as reads
 use Rattle.line.proofs.one_char.Lts as lts
 use Rattle.line.proofs.seen_in_word.Reads as seen-in-word-reads
+use Rattle.line.proofs.RestLaws.{word-le}
 
 abbrev Inv-loop : tie.InvT-loop
 Inv-loop t word first at₀ at = (at ≤ length (wordText word)) × (at + zeroWidthLen (drop at (wordText word)) ≡ oneHead word .len)
@@ -31,7 +32,7 @@ seen-in-word-requires-2 : tie.Need-seen-in-word-requires-2 Inv-loop μ-loop
 seen-in-word-requires-2 c κs = search needs
 
 add-at : tie.Need-add-at Inv-loop μ-loop
-add-at c = omega (arith, laws.word-len (c .before .before .before .before .before .before .before .before .before .args .word .now))
+add-at c = omega (arith, word-le (c .before .before .before .before .before .before .before .before .before .args .word .now))
 
 loop-less : tie.Need-loop-less Inv-loop μ-loop
 loop-less c = search needs

@@ -8,21 +8,17 @@ use Rattle.pad.proofs.fill_count.Reads as reads
 use Rattle.pad.proofs.fill_count.Lts as lts
 use Rattle.chars.proofs.text_width.Reads as text-width-reads
 
--- src/lib.rt:138:9
 text-width-requires : tie.Need-text-width-requires
 text-width-requires c κs = search needs
 
--- src/lib.rt:141:9
 returns : tie.Need-returns
 unfolding fillCount
 returns c =
     (omega (arith, c .before .text-width .ensures .0, c .if1 .taken), omega arith)
 
--- src/lib.rt:143:6
 sub-result : tie.Need-sub-result
 sub-result c = search needs
 
--- src/lib.rt:133:1
 returns-2 : tie.Need-returns-2
 unfolding fillCount
 returns-2 c =

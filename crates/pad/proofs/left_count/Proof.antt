@@ -9,31 +9,25 @@ use Rattle.pad.proofs.left_count.Tie as tie
 use Rattle.pad.proofs.left_count.Reads as reads
 use Rattle.pad.proofs.left_count.Lts as lts
 
--- src/lib.rt:151:24
 enum-told : tie.Need-enum-told
 enum-told c = search needs
 
--- src/lib.rt:152:22
 enum-told-2 : tie.Need-enum-told-2
 enum-told-2 c = search needs
 
--- src/lib.rt:153:27
 enum-told-3 : tie.Need-enum-told-3
 enum-told-3 c = search needs
 
--- src/lib.rt:147:1
 returns : tie.Need-returns
 unfolding leftOf
 returns c =
     (sym (ap (λ (s : Side). leftOf s (c .before .before .args .n)) (c .enum-told .given .1)), omega arith)
 
--- src/lib.rt:147:1
 returns-2 : tie.Need-returns-2
 unfolding leftOf
 returns-2 c =
     (sym (ap (λ (s : Side). leftOf s (c .before .before .args .n)) (c .enum-told2 .given .1)), omega arith)
 
--- src/lib.rt:147:1
 returns-3 : tie.Need-returns-3
 unfolding leftOf
 returns-3 c =

@@ -6,12 +6,10 @@ use Rattle.pad.proofs.once_if.Tie as tie
 use Rattle.pad.proofs.once_if.Reads as reads
 use Rattle.pad.proofs.once_if.Lts as lts
 
--- src/lib.rt:162:9
 returns : tie.Need-returns
 returns c =
     (once-none _ _ (c .if1 .taken), omega arith)
 
--- src/lib.rt:158:1
 returns-2 : tie.Need-returns-2
 returns-2 c =
     (once-more _ _ (omega arith), omega arith)

@@ -23,13 +23,11 @@ abbrev μ-loop : tie.MeasureT-loop
 μ-loop out₀ at from a b n d₀ i₀ out d i =
     n - i
 
--- src/lib.rt:39:5
 loop-holds : tie.Need-loop-holds Inv-loop μ-loop
 loop-holds c =
     let a = c .before .before .args in
     (search needs, search needs, omega (arith, repeated-zero (part (a .a) (a .b) (a .from .now))), repeated-first _ _ _)
 
--- src/lib.rt:40:9
 put-requires : tie.Need-put-requires Inv-loop μ-loop
 put-requires c κs =
     let l = c .before .before .loop in
@@ -37,15 +35,12 @@ put-requires c κs =
     let w = repeated-within (l .i) (a .n) (part (a .a) (a .b) (a .from .now)) (c .before .loop-test .taken) in
     (search needs, search needs, omega (arith, w, l .inv .1, l .inv .2, c .before .before .before .before .before .pre .2, length-part (a .a) (a .b) (a .from .now) (c .before .before .before .before .before .pre .1)))
 
--- src/lib.rt:41:9
 add-i : tie.Need-add-i Inv-loop μ-loop
 add-i c = search needs
 
--- src/lib.rt:39:5
 loop-less : tie.Need-loop-less Inv-loop μ-loop
 loop-less c = search needs
 
--- src/lib.rt:39:5
 loop-again : tie.Need-loop-again Inv-loop μ-loop
 loop-again c =
     let l = c .before .before .before .before .before .loop in
@@ -57,11 +52,9 @@ loop-again c =
       c .before .before .put .ensures .1 ∙ (λ j. overAt (l .inv .2 j) p (l .inv .3 j)) ∙ repeated-next (a .at) (l .i) p (a .out .now) (omega (arith, c .before .before .before .before .before .before .before .before .pre .2)),
     )
 
--- src/lib.rt:33:1
 same-length : tie.Need-same-length Inv-loop μ-loop
 same-length c = search needs
 
--- src/lib.rt:33:1
 returns : tie.Need-returns Inv-loop μ-loop
 returns c =
     let l = c .before .loop in

@@ -10,38 +10,31 @@ use Rattle.pad.proofs.put_padded.Lts as lts
 use Rattle.pad.proofs.put_padding.Reads as put-padding-reads
 use Rattle.writer.proofs.put_recording.Reads as put-recording-reads
 
--- src/lib.rt:192:9
 put-padding-requires : tie.Need-put-padding-requires
 unfolding out
 put-padding-requires c κs =
     (c .before .before .before .before .before .before .before .before .before .before .before .before .pre .0 .1, room-before _ _ _ _ _ (c .before .before .before .before .before .before .before .before .before .before .before .before .pre .1))
 
--- src/lib.rt:193:9
 put-recording-requires : tie.Need-put-recording-requires
 unfolding out
 put-recording-requires c κs =
     (c .before .before .before .before .before .before .before .before .before .before .before .before .before .before .before .before .before .before .before .before .before .before .pre .0 .0, room-content _ _ _ _ _ (c .before .before .before .before .before .before .before .before .before .before .before .before .before .before .before .before .before .before .before .before .before .before .pre .1) _ (c .before .before .before .before .before .before .before .before .before .put-padding .ensures))
 
--- src/lib.rt:194:5
 put-padding-requires-2 : tie.Need-put-padding-requires-2
 unfolding out
 put-padding-requires-2 c κs =
     (c .before .before .before .before .before .before .before .before .before .before .before .before .before .before .before .before .before .before .before .before .before .before .before .before .before .before .before .before .before .before .before .before .pre .0 .1, room-behind _ _ _ _ _ (c .before .before .before .before .before .before .before .before .before .before .before .before .before .before .before .before .before .before .before .before .before .before .before .before .before .before .before .before .before .before .before .before .pre .1) _ (c .before .before .before .before .before .before .before .before .before .before .before .before .before .before .before .before .before .before .before .put-padding .ensures) _ (c .before .before .before .before .before .before .before .before .before .put-recording .ensures .0))
 
--- src/lib.rt:168:1
 same-length : tie.Need-same-length
 same-length c =
     c .before .before .before .before .before .before .put-padding2 .kept .0 ∙ c .before .before .before .before .before .before .before .before .before .before .before .before .before .before .before .before .put-recording .kept .0 ∙ c .before .before .before .before .before .before .before .before .before .before .before .before .before .before .before .before .before .before .before .before .before .before .before .before .before .before .put-padding .kept .0
 
--- src/lib.rt:168:1
 same-length-2 : tie.Need-same-length-2
 same-length-2 c = search needs
 
--- src/lib.rt:168:1
 same-length-3 : tie.Need-same-length-3
 same-length-3 c = search needs
 
--- src/lib.rt:168:1
 returns : tie.Need-returns
 unfolding out
 returns c =

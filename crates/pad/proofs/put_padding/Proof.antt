@@ -41,76 +41,62 @@ abbrev μ-loop : tie.MeasureT-loop
 μ-loop bytes₀ numbers₀ texts₀ fill entries text n f₀ p₀ bytes numbers texts f p =
     length entries - f .k
 
--- src/lib.rt:113:9
 returns : tie.Need-returns Inv-loop μ-loop
 returns c =
     let a = c .before .before .before .before .before .before .before .args in
     add-nil _ ∙ ap (λ (l : List Item). add l (out (a .bytes .now) (a .numbers .now) (a .texts .now) (a .c))) (sym (padding-zero (a .n) _ (c .if1 .taken)))
 
--- src/lib.rt:122:9
 place-at-requires : tie.Need-place-at-requires Inv-loop μ-loop
 place-at-requires c κs = search needs
 
--- src/lib.rt:123:5
 loop-holds : tie.Need-loop-holds Inv-loop μ-loop
 loop-holds c =
     state-first _ _ _ _ _ _ _ refl refl (c .before .before .before .before .before .before .before .before .pre .0) (c .place-at .ensures)
 
--- src/lib.rt:124:13
 entry-at-requires : tie.Need-entry-at-requires Inv-loop μ-loop
 entry-at-requires c κs =
     entire _ _ _ _ _ _ _ _ _ _ _ _ _ (c .before .loop .inv) (room-of _ _ _ _ _ _ _ _ (c .before .before .before .if1 .left) (c .before .before .before .before .before .before .before .before .before .before .pre .1)) (c .loop-test .taken)
 
--- src/lib.rt:125:9
 put-times-requires : tie.Need-put-times-requires Inv-loop μ-loop
 put-times-requires c κs =
     times-asked _ _ _ _ _ _ _ _ _ _ _ _ _ (c .before .before .before .loop .inv) (room-of _ _ _ _ _ _ _ _ (c .before .before .before .before .before .if1 .left) (c .before .before .before .before .before .before .before .before .before .before .before .before .pre .1)) (c .before .before .loop-test .taken) _ (c .before .entry-at .ensures)
 
--- src/lib.rt:126:9
 put-entry-requires : tie.Need-put-entry-requires Inv-loop μ-loop
 put-entry-requires c κs =
     entry-asked _ _ _ _ _ _ _ _ _ _ _ _ _ (c .before .before .before .before .before .before .before .before .loop .inv) (room-of _ _ _ _ _ _ _ _ (c .before .before .before .before .before .before .before .before .before .before .if1 .left) (c .before .before .before .before .before .before .before .before .before .before .before .before .before .before .before .before .before .pre .1)) (c .before .before .before .before .before .before .before .loop-test .taken) _ (c .before .before .before .before .before .before .entry-at .ensures) _ (c .before .before .before .before .put-times .ensures .0) (omega (arith, c .before .before .before .before .before .before .before .before .before .before .before .before .before .before .before .before .before .good))
 
--- src/lib.rt:127:9
 place-at-requires-2 : tie.Need-place-at-requires-2 Inv-loop μ-loop
 place-at-requires-2 c κs =
     let w = entire _ _ _ _ _ _ _ _ _ _ _ _ _ (c .before .before .before .before .before .before .before .before .before .before .before .before .before .loop .inv) (room-of _ _ _ _ _ _ _ _ (c .before .before .before .before .before .before .before .before .before .before .before .before .before .before .before .if1 .left) (c .before .before .before .before .before .before .before .before .before .before .before .before .before .before .before .before .before .before .before .before .before .before .pre .1)) (c .before .before .before .before .before .before .before .before .before .before .before .before .loop-test .taken) in
     omega (arith, w, c .before .before .before .before .before .before .before .before .before .put-times .ensures .0 .1, c .before .before .before .before .put-entry .ensures .0 .1)
 
--- src/lib.rt:123:5
 loop-less : tie.Need-loop-less Inv-loop μ-loop
 loop-less c =
     let w = entire _ _ _ _ _ _ _ _ _ _ _ _ _ (c .before .before .before .before .before .before .before .before .before .before .before .before .before .before .loop .inv) (room-of _ _ _ _ _ _ _ _ (c .before .before .before .before .before .before .before .before .before .before .before .before .before .before .before .before .if1 .left) (c .before .before .before .before .before .before .before .before .before .before .before .before .before .before .before .before .before .before .before .before .before .before .before .pre .1)) (c .before .before .before .before .before .before .before .before .before .before .before .before .before .loop-test .taken) in
     omega (arith, w, c .before .before .before .before .before .before .before .before .before .before .put-times .ensures .0 .1, c .before .before .before .before .before .put-entry .ensures .0 .1)
 
--- src/lib.rt:123:5
 loop-again : tie.Need-loop-again Inv-loop μ-loop
 loop-again c =
     let b = c .before .before .before .before .before .before .before .before .before .before .put-times .ensures in
     let e = c .before .before .before .before .before .put-entry .ensures in
     turned _ _ _ _ _ _ _ _ _ _ _ _ _ (c .before .before .before .before .before .before .before .before .before .before .before .before .before .before .loop .inv) (room-of _ _ _ _ _ _ _ _ (c .before .before .before .before .before .before .before .before .before .before .before .before .before .before .before .before .if1 .left) (c .before .before .before .before .before .before .before .before .before .before .before .before .before .before .before .before .before .before .before .before .before .before .before .pre .1)) (c .before .before .before .before .before .before .before .before .before .before .before .before .before .loop-test .taken) _ (c .before .before .before .before .before .before .before .before .before .before .before .before .entry-at .ensures) _ _ _ _ _ _ (b .1) (b .0) (e .0) (e .1 .0) (e .1 .1) (c .place-at2 .ensures)
 
--- src/lib.rt:129:5
 put-times-requires-2 : tie.Need-put-times-requires-2 Inv-loop μ-loop
 put-times-requires-2 c κs =
     last-asked _ _ _ _ _ _ _ _ _ _ _ _ _ (c .before .before .loop .inv) (room-of _ _ _ _ _ _ _ _ (c .before .before .before .before .if1 .left) (c .before .before .before .before .before .before .before .before .before .before .before .pre .1)) (c .before .loop-test .left)
 
--- src/lib.rt:98:1
 same-length : tie.Need-same-length Inv-loop μ-loop
 same-length c =
     c .before .before .put-times2 .kept .0 ∙ now-long _ _ _ _ _ _ _ _ _ _ _ _ _ (c .before .before .before .before .before .loop .inv) (room-of _ _ _ _ _ _ _ _ (c .before .before .before .before .before .before .before .if1 .left) (c .before .before .before .before .before .before .before .before .before .before .before .before .before .before .pre .1)) .0
 
--- src/lib.rt:98:1
 same-length-2 : tie.Need-same-length-2 Inv-loop μ-loop
 same-length-2 c =
     now-long _ _ _ _ _ _ _ _ _ _ _ _ _ (c .before .before .before .before .before .loop .inv) (room-of _ _ _ _ _ _ _ _ (c .before .before .before .before .before .before .before .if1 .left) (c .before .before .before .before .before .before .before .before .before .before .before .before .before .before .pre .1)) .1
 
--- src/lib.rt:98:1
 same-length-3 : tie.Need-same-length-3 Inv-loop μ-loop
 same-length-3 c =
     now-long _ _ _ _ _ _ _ _ _ _ _ _ _ (c .before .before .before .before .before .loop .inv) (room-of _ _ _ _ _ _ _ _ (c .before .before .before .before .before .before .before .if1 .left) (c .before .before .before .before .before .before .before .before .before .before .before .before .before .before .pre .1)) .2
 
--- src/lib.rt:98:1
 returns-2 : tie.Need-returns-2 Inv-loop μ-loop
 returns-2 c =
     let b = c .before .before .put-times2 .ensures in

@@ -15,31 +15,25 @@ use Rattle.pad.proofs.put_piece.Lts as lts
 use Rattle.pad.proofs.put_byte_times.Reads as put-byte-times-reads
 use Rattle.pad.proofs.put_copies.Reads as put-copies-reads
 
--- src/lib.rt:73:9
 returns : tie.Need-returns
 returns c =
     let a = c .before .before .before .args in piece-none (a .a) (a .b) (a .n) (a .at) (a .from .now) (a .out .now) (c .if1 .taken)
 
--- src/lib.rt:75:8
 add-if2 : tie.Need-add-if2
 add-if2 c = search needs
 
--- src/lib.rt:76:40
 shared-slice-read-put-byte-times : tie.Need-shared-slice-read-put-byte-times
 shared-slice-read-put-byte-times c = search needs
 
--- src/lib.rt:76:9
 put-byte-times-requires : tie.Need-put-byte-times-requires
 put-byte-times-requires c κs =
     let a = c .before .before .before .before .before .before .args in
     let e = piece-one (a .a) (a .b) (a .from .now) (c .before .before .if2 .taken) (c .before .before .before .before .before .before .pre .1) in
     omega (arith, c .before .before .before .before .before .before .pre .2, ap (λ (l : List ℕ). length (repeated (a .n) l)) e, length-single (a .n) (getD (a .from .now) (a .a) 0))
 
--- src/lib.rt:76:9
 same-length : tie.Need-same-length
 same-length c = search needs
 
--- src/lib.rt:76:9
 returns-2 : tie.Need-returns-2
 returns-2 c =
     let a = c .before .before .before .before .before .before .before .before .before .args in
@@ -47,15 +41,12 @@ returns-2 c =
     let r = c .before .before .put-byte-times .ensures in
     (r .0 ∙ ap (λ (m : ℕ). a .at + m) (sym (length-single (a .n) _)) ∙ ap (λ (l : List ℕ). a .at + length (repeated (a .n) l)) (sym e), r .1 ∙ ap (λ (l : List ℕ). overAt (a .at) (repeated (a .n) l) (a .out .now)) (sym e))
 
--- src/lib.rt:78:5
 put-copies-requires : tie.Need-put-copies-requires
 put-copies-requires c κs = search needs
 
--- src/lib.rt:68:1
 same-length-2 : tie.Need-same-length-2
 same-length-2 c = search needs
 
--- src/lib.rt:68:1
 returns-3 : tie.Need-returns-3
 returns-3 c = search needs
 

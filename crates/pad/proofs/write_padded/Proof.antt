@@ -19,17 +19,14 @@ use Rattle.pad.proofs.put_padded.Reads as put-padded-reads
 use Rattle.recording.proofs.check.Reads as check-reads
 use Rattle.writer.proofs.settle.Reads as settle-reads
 
--- src/lib.rt:217:9
 check-requires : tie.Need-check-requires
 unfolding leadTable
 check-requires c κs =
     refl
 
--- src/lib.rt:219:26
 enum-known-checked : tie.Need-enum-known-checked
 enum-known-checked c = search needs
 
--- src/lib.rt:220:13
 returns : tie.Need-returns
 returns c =
     let a = c .before .before .before .before .before .before .before .before .before .before .before .before .before .before .args in
@@ -37,21 +34,17 @@ returns c =
     let k₁ = c .before .before .before .check in
     content-refused (a .content .now) (a .entries .now) (a .text .now) (a .fill .now) (a .fill-entries .now) (a .fill-text .now) (a .bytes .now) (a .numbers .now) (a .texts .now) (jobOf (a .side) (a .min-width) second) (k₁ .result) (c .before .checked .given .0 .0) (k₁ .ensures .0) (c .before .checked .given .1)
 
--- src/lib.rt:222:23
 enum-known-checked-2 : tie.Need-enum-known-checked-2
 enum-known-checked-2 c = search needs
 
--- src/lib.rt:224:9
 check-requires-2 : tie.Need-check-requires-2
 unfolding leadTable
 check-requires-2 c κs =
     refl
 
--- src/lib.rt:226:26
 enum-known-second : tie.Need-enum-known-second
 enum-known-second c = search needs
 
--- src/lib.rt:227:13
 returns-2 : tie.Need-returns-2
 returns-2 c =
     let a = c .before .before .before .before .before .before .before .before .before .before .before .before .before .before .before .before .before .before .before .args in
@@ -62,25 +55,20 @@ returns-2 c =
     let k₂ = c .before .before .before .check2 in
     second-refused (a .content .now) (a .entries .now) (a .text .now) (a .fill .now) (a .fill-entries .now) (a .fill-text .now) (a .bytes .now) (a .numbers .now) (a .texts .now) (jobOf (a .side) (a .min-width) second) (g₁ .0 .0) fine₁ (second-of (a .side) (a .min-width) second) (k₂ .result) (c .before .second .given .0 .0) (k₂ .ensures .0) (c .before .second .given .1)
 
--- src/lib.rt:229:23
 enum-known-second-2 : tie.Need-enum-known-second-2
 enum-known-second-2 c = search needs
 
--- src/lib.rt:231:9
 fill-count-requires : tie.Need-fill-count-requires
 unfolding leadTable
 fill-count-requires c κs =
     refl
 
--- src/lib.rt:232:9
 left-count-requires : tie.Need-left-count-requires
 left-count-requires c κs = search needs
 
--- src/lib.rt:233:17
 sub-right : tie.Need-sub-right
 sub-right c = search needs
 
--- src/lib.rt:235:25
 mul-settle : tie.Need-mul-settle
 mul-settle c =
     let a = c .before .before .before .before .before .before .before .before .before .before .before .before .before .before .before .before .before .before .before .before .before .before .args in
@@ -89,7 +77,6 @@ mul-settle c =
     let fine₂ = checked-fine (a .fill .now) (a .fill-entries .now) (a .fill-text .now) (g₂ .0 .0) (k₂ .result) (g₂ .1) (k₂ .ensures .0) (k₂ .ensures .1 .0) (k₂ .ensures .1 .1) in
     omega (arith, product-small (c .before .fill-count .result) (length (a .fill .now)) (c .before .fill-count .ensures .1) (fine₂ .data-short))
 
--- src/lib.rt:235:9
 add-settle : tie.Need-add-settle
 add-settle c =
     let a = c .before .before .before .before .before .before .before .before .before .before .before .before .before .before .before .before .before .before .before .before .before .before .args in
@@ -101,11 +88,9 @@ add-settle c =
     let fine₂ = checked-fine (a .fill .now) (a .fill-entries .now) (a .fill-text .now) (g₂ .0 .0) (k₂ .result) (g₂ .1) (k₂ .ensures .0) (k₂ .ensures .1 .0) (k₂ .ensures .1 .1) in
     omega (arith, fine₁ .data-short, product-small (c .before .fill-count .result) (length (a .fill .now)) (c .before .fill-count .ensures .1) (fine₂ .data-short))
 
--- src/lib.rt:236:25
 once-if-requires : tie.Need-once-if-requires
 once-if-requires c κs = search needs
 
--- src/lib.rt:236:9
 add-settle-2 : tie.Need-add-settle-2
 add-settle-2 c =
     let a = c .before .before .before .before .before .before .before .before .before .before .before .before .before .before .before .before .before .before .before .before .before .before .before .args in
@@ -117,11 +102,9 @@ add-settle-2 c =
     let fine₂ = checked-fine (a .fill .now) (a .fill-entries .now) (a .fill-text .now) (g₂ .0 .0) (k₂ .result) (g₂ .1) (k₂ .ensures .0) (k₂ .ensures .1 .0) (k₂ .ensures .1 .1) in
     omega (arith, fine₁ .entries-short, fine₂ .entries-short, c .once-if .ensures .1)
 
--- src/lib.rt:236:61
 once-if-requires-2 : tie.Need-once-if-requires-2
 once-if-requires-2 c κs = search needs
 
--- src/lib.rt:236:9
 add-settle-3 : tie.Need-add-settle-3
 add-settle-3 c =
     let a = c .before .before .before .before .before .before .before .before .before .before .before .before .before .before .before .before .before .before .before .before .before .before .before .before .args in
@@ -133,11 +116,9 @@ add-settle-3 c =
     let fine₂ = checked-fine (a .fill .now) (a .fill-entries .now) (a .fill-text .now) (g₂ .0 .0) (k₂ .result) (g₂ .1) (k₂ .ensures .0) (k₂ .ensures .1 .0) (k₂ .ensures .1 .1) in
     omega (arith, fine₁ .entries-short, fine₂ .entries-short, c .before .once-if .ensures .1, c .once-if2 .ensures .1)
 
--- src/lib.rt:237:16
 once-if-requires-3 : tie.Need-once-if-requires-3
 once-if-requires-3 c κs = search needs
 
--- src/lib.rt:237:9
 add-settle-4 : tie.Need-add-settle-4
 add-settle-4 c =
     let a = c .before .before .before .before .before .before .before .before .before .before .before .before .before .before .before .before .before .before .before .before .before .before .before .before .before .args in
@@ -149,11 +130,9 @@ add-settle-4 c =
     let fine₂ = checked-fine (a .fill .now) (a .fill-entries .now) (a .fill-text .now) (g₂ .0 .0) (k₂ .result) (g₂ .1) (k₂ .ensures .0) (k₂ .ensures .1 .0) (k₂ .ensures .1 .1) in
     omega (arith, fine₁ .text-short, fine₂ .text-short, c .once-if3 .ensures .1)
 
--- src/lib.rt:237:43
 once-if-requires-4 : tie.Need-once-if-requires-4
 once-if-requires-4 c κs = search needs
 
--- src/lib.rt:237:9
 add-settle-5 : tie.Need-add-settle-5
 add-settle-5 c =
     let a = c .before .before .before .before .before .before .before .before .before .before .before .before .before .before .before .before .before .before .before .before .before .before .before .before .before .before .args in
@@ -165,15 +144,12 @@ add-settle-5 c =
     let fine₂ = checked-fine (a .fill .now) (a .fill-entries .now) (a .fill-text .now) (g₂ .0 .0) (k₂ .result) (g₂ .1) (k₂ .ensures .0) (k₂ .ensures .1 .0) (k₂ .ensures .1 .1) in
     omega (arith, fine₁ .text-short, fine₂ .text-short, c .before .once-if3 .ensures .1, c .once-if4 .ensures .1)
 
--- src/lib.rt:234:9
 settle-requires : tie.Need-settle-requires
 settle-requires c κs = search needs
 
--- src/lib.rt:245:26
 enum-known-verdict : tie.Need-enum-known-verdict
 enum-known-verdict c = search needs
 
--- src/lib.rt:246:13
 returns-3 : tie.Need-returns-3
 returns-3 c =
     let a = c .before .before .before .before .before .before .before .before .before .before .before .before .before .before .before .before .before .before .before .before .before .before .before .before .before .before .before .before .before .before .args in
@@ -201,7 +177,6 @@ returns-3 c =
 enum-told : tie.Need-enum-told
 enum-told c = search needs
 
--- src/lib.rt:250:9
 put-padded-requires : tie.Need-put-padded-requires
 put-padded-requires c κs =
     let a = c .before .before .before .before .before .before .before .before .before .before .before .before .before .before .before .before .before .before .before .before .before .before .before .before .before .before .before .before .before .before .before .before .args in
@@ -226,19 +201,15 @@ put-padded-requires c κs =
     let i-is = items-of (a .side) (a .min-width) (n .result) (l .result) second content (n .ensures .0) (l .ensures .0) in
     ((fine₁ .whole, fine₂ .whole), room-left (a .content .now) (a .entries .now) (a .text .now) (a .fill .now) (a .fill-entries .now) (a .fill-text .now) (a .bytes .now) (a .numbers .now) (a .texts .now) (jobOf (a .side) (a .min-width) second) (g₁ .0 .0) fine₁ (second-of (a .side) (a .min-width) second) (g₂ .0 .0) fine₂ (records-of (a .side) (a .min-width) second content) (lines-of (a .side) (a .min-width) second content) _ i-is _ _ _ d-is e-is t-is (v .result) (v .ensures) (c .before .before .before .enum-told .given .1))
 
--- src/lib.rt:198:1
 same-length : tie.Need-same-length
 same-length c = search needs
 
--- src/lib.rt:198:1
 same-length-2 : tie.Need-same-length-2
 same-length-2 c = search needs
 
--- src/lib.rt:198:1
 same-length-3 : tie.Need-same-length-3
 same-length-3 c = search needs
 
--- src/lib.rt:198:1
 returns-4 : tie.Need-returns-4
 returns-4 c =
     let a = c .before .before .before .before .before .before .before .before .before .before .before .before .before .before .before .before .before .before .before .before .before .before .before .before .before .before .before .before .before .before .before .before .before .before .before .before .before .before .before .args in

@@ -1,11 +1,9 @@
 -- `bad_shape`: by the cases of the kind; a kind that is none of 0, 1, 2 is over 2 (`high`).
-use native.Mathlib.Omega.{arith}
-use borrow.Author.Needs.{needs}
 use Rattle.recording.specs.Refusals.{badShape}
 use borrow.Author.Tests.{eq-eqb, ne-eqb}
 use lib.Dec.{eqb}
 use mathlib.Core.Path.{_≡_, refl}
-use mathlib.Core.Bool.{Bool, true, false, not}
+use mathlib.Core.Bool.{true, not}
 use Prim.Native.Nat.{ℕ, zero, suc}
 use Rattle.recording.proofs.bad_shape.Statement.{statement}
 use Rattle.recording.proofs.bad_shape.Tie as tie
@@ -27,29 +25,24 @@ pop-len : (k s n : ℕ) → k ≡ 1 → s ≡ 0 → not (eqb n 0) ≡ badShape k
 unfolding badShape
 pop-len k s n e h = rw (e, eq-eqb s 0 h)
 
--- src/lib.rt:84:9
 returns : tie.Need-returns
 unfolding badShape
 returns c =
     rw (c .if1 .taken)
 
--- src/lib.rt:87:9
 returns-2 : tie.Need-returns-2
 unfolding badShape
 returns-2 c =
     rw (c .if2 .taken)
 
--- src/lib.rt:90:9
 returns-3 : tie.Need-returns-3
 returns-3 c =
     high _ _ _ (c .before .before .if1 .left) (c .before .if2 .left) (c .if3 .taken)
 
--- src/lib.rt:93:9
 returns-4 : tie.Need-returns-4
 returns-4 c =
     pop-start _ _ _ (c .before .if3 .left) (c .if4 .taken)
 
--- src/lib.rt:80:1
 returns-5 : tie.Need-returns-5
 returns-5 c =
     pop-len _ _ _ (c .before .if3 .left) (c .if4 .left)

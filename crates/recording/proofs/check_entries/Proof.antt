@@ -5,7 +5,7 @@ use Prim.Native.Nat.{_-_}
 use Rattle.recording.proofs.CheckLaws.{Seen, seen-first, seen-last, whole, stops, fits-size, goes, refused-count, refused-within}
 use Rattle.recording.specs.Check.{faultOf, Counted, Within}
 use lib.ListN.{length}
-use mathlib.Core.Path.{_≡_, refl}
+use mathlib.Core.Path.{refl}
 use Rattle.recording.proofs.check_entries.Statement.{statement}
 use Rattle.recording.proofs.check_entries.Tie as tie
 use Rattle.recording.proofs.check_entries.Reads as reads
@@ -21,25 +21,20 @@ abbrev μ-loop : tie.MeasureT-loop
 μ-loop t content entries text at₀ k₀ size₀ at k size =
     length entries - k
 
--- src/lib.rt:139:5
 loop-holds : tie.Need-loop-holds Inv-loop μ-loop
 loop-holds c =
     seen-first _ _ _
 
--- src/lib.rt:140:13
 entry-at-requires : tie.Need-entry-at-requires Inv-loop μ-loop
 entry-at-requires c κs =
     whole _ _ _ _ _ _ (c .before .loop .inv) (c .before .before .before .before .before .pre .1 .0) (c .loop-test .taken)
 
--- src/lib.rt:141:13
 check-entry-requires : tie.Need-check-entry-requires Inv-loop μ-loop
 check-entry-requires c κs = search needs
 
--- src/lib.rt:144:17
 enum-told : tie.Need-enum-told Inv-loop μ-loop
 enum-told c = search needs
 
--- src/lib.rt:144:17
 returns : tie.Need-returns Inv-loop μ-loop
 returns c =
     let g = c .enum-told .given in
@@ -48,34 +43,28 @@ returns c =
       (refused-count (k .result) (g .0 .0) _ (g .1), refused-within (k .result) (g .0 .0) _ (g .1)),
     )
 
--- src/lib.rt:146:27
 enum-known-got : tie.Need-enum-known-got Inv-loop μ-loop
 enum-known-got c = search needs
 
--- src/lib.rt:147:17
 add-size : tie.Need-add-size Inv-loop μ-loop
 add-size c =
     let g = c .before .got .given in
     let k = c .before .before .before .check-entry in
     omega (arith, fits-size _ _ _ _ _ _ (c .before .before .before .before .before .before .loop .inv) (c .before .before .before .before .before .before .before .before .before .before .pre .1 .0) (c .before .before .before .before .before .loop-test .taken) _ (c .before .before .before .before .entry-at .ensures) (k .result) (k .ensures .0) (g .0 .0) (g .1) (k .ensures .1) (c .before .before .before .before .before .before .before .before .before .before .pre .1 .2), c .before .before .before .before .before .before .before .before .before .before .pre .1, c .before .before .before .before .before .loop-test .taken)
 
--- src/lib.rt:151:9
 add-k : tie.Need-add-k Inv-loop μ-loop
 add-k c =
     omega (arith, whole _ _ _ _ _ _ (c .before .before .before .before .before .before .loop .inv) (c .before .before .before .before .before .before .before .before .before .before .pre .1 .0) (c .before .before .before .before .before .loop-test .taken), c .before .before .before .before .before .before .before .before .before .before .pre .1 .1)
 
--- src/lib.rt:139:5
 loop-less : tie.Need-loop-less Inv-loop μ-loop
 loop-less c = search needs
 
--- src/lib.rt:139:5
 loop-again : tie.Need-loop-again Inv-loop μ-loop
 loop-again c =
     let g = c .before .got .given in
     let k = c .before .before .before .check-entry in
     goes _ _ _ _ _ _ (c .before .before .before .before .before .before .loop .inv) (c .before .before .before .before .before .before .before .before .before .before .pre .1 .0) (c .before .before .before .before .before .loop-test .taken) _ (c .before .before .before .before .entry-at .ensures) (k .result) (k .ensures .0) (g .0 .0) (g .1) (k .ensures .1) (c .before .before .before .before .before .before .before .before .before .before .pre .1 .2) _ refl
 
--- src/lib.rt:129:1
 returns-2 : tie.Need-returns-2 Inv-loop μ-loop
 unfolding faultOf Counted Within
 returns-2 c =

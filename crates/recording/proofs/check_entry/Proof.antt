@@ -1,11 +1,10 @@
 -- `check_entry`: each return is the entry's first fault, since the tests before it failed (`ill-shaped`, `falling`, .. of CheckLaws).
-use native.Mathlib.Omega.{arith}
 use borrow.Author.Needs.{needs}
 use Rattle.recording.proofs.CheckLaws.{ill-shaped, falling, beyond, outside, no-label, ill, well}
 use Rattle.recording.specs.Check.{faultOf, Counted}
 use Rattle.recording.specs.Refusals.{numberOf}
 use borrow.Author.Tests.{not-true, not-false}
-use mathlib.Core.Path.{_≡_, refl, sym, _∙_}
+use mathlib.Core.Path.{refl, sym, _∙_}
 use Rattle.recording.proofs.check_entry.Statement.{statement}
 use Rattle.recording.proofs.check_entry.Tie as tie
 use Rattle.recording.proofs.check_entry.Reads as reads
@@ -13,93 +12,75 @@ use Rattle.recording.proofs.check_entry.Lts as lts
 use Rattle.chars.proofs.well_formed.Reads as well-formed-reads
 use Rattle.recording.proofs.bad_shape.Reads as bad-shape-reads
 
--- src/lib.rt:105:8
 bad-shape-requires : tie.Need-bad-shape-requires
 bad-shape-requires c κs = search needs
 
--- src/lib.rt:106:9
 returns : tie.Need-returns
 unfolding faultOf Counted numberOf
 returns c =
     let s = c .before .before .before .before .args in
     (sym (ill-shaped (s .content .now) (s .text .now) (s .e) (s .at) (sym (c .before .bad-shape .ensures) ∙ c .if1 .taken)), tt)
 
--- src/lib.rt:109:9
 returns-2 : tie.Need-returns-2
 unfolding faultOf Counted numberOf
 returns-2 c =
     let s = c .before .before .before .before .before .before .args in
     (sym (falling (s .content .now) (s .text .now) (s .e) (s .at) (sym (c .before .before .before .bad-shape .ensures) ∙ c .before .before .if1 .left) (c .if2 .taken)), tt)
 
--- src/lib.rt:111:24
 cast-if3 : tie.Need-cast-if3
 cast-if3 c = search needs
 
--- src/lib.rt:112:9
 returns-3 : tie.Need-returns-3
 unfolding faultOf Counted numberOf
 returns-3 c =
     let s = c .before .before .before .before .before .before .before .before .args in
     (sym (beyond (s .content .now) (s .text .now) (s .e) (s .at) (sym (c .before .before .before .before .before .bad-shape .ensures) ∙ c .before .before .before .before .if1 .left) (c .before .before .if2 .left) (c .if3 .taken)), tt)
 
--- src/lib.rt:114:17
 cast-start : tie.Need-cast-start
 cast-start c = search needs
 
--- src/lib.rt:115:23
 cast-end : tie.Need-cast-end
 cast-end c = search needs
 
--- src/lib.rt:115:15
 add-end : tie.Need-add-end
 add-end c = search needs
 
--- src/lib.rt:117:9
 returns-4 : tie.Need-returns-4
 unfolding faultOf Counted numberOf
 returns-4 c =
     let s = c .before .before .before .before .before .before .before .before .before .before .before .args in
     (sym (outside (s .content .now) (s .text .now) (s .e) (s .at) (sym (c .before .before .before .before .before .before .before .before .bad-shape .ensures) ∙ c .before .before .before .before .before .before .before .if1 .left) (c .before .before .before .before .before .if2 .left) (c .before .before .before .if3 .left) (c .if4 .taken)), tt)
 
--- src/lib.rt:120:30
 cast-t16 : tie.Need-cast-t16
 cast-t16 c = search needs
 
--- src/lib.rt:120:9
 returns-5 : tie.Need-returns-5
 unfolding faultOf Counted numberOf
 returns-5 c =
     let s = c .before .before .before .before .before .before .before .before .before .before .before .before .before .before .args in
     (sym (no-label (s .content .now) (s .text .now) (s .e) (s .at) (sym (c .before .before .before .before .before .before .before .before .before .before .before .bad-shape .ensures) ∙ c .before .before .before .before .before .before .before .before .before .before .if1 .left) (c .before .before .before .before .before .before .before .before .if2 .left) (c .before .before .before .before .before .before .if3 .left) (c .before .before .before .if4 .left) (c .before .if5 .taken)), refl)
 
--- src/lib.rt:122:24
 sub-well-formed : tie.Need-sub-well-formed
 sub-well-formed c = search needs
 
--- src/lib.rt:122:24
 part-well-formed-start : tie.Need-part-well-formed-start
 part-well-formed-start c = search needs
 
--- src/lib.rt:122:24
 part-well-formed-end : tie.Need-part-well-formed-end
 part-well-formed-end c = search needs
 
--- src/lib.rt:122:9
 well-formed-requires : tie.Need-well-formed-requires
 well-formed-requires c κs = search needs
 
--- src/lib.rt:123:9
 returns-6 : tie.Need-returns-6
 unfolding faultOf Counted numberOf
 returns-6 c =
     let s = c .before .before .before .before .before .before .before .before .before .before .before .before .before .before .before .before .args in
     (sym (ill (s .content .now) (s .text .now) (s .e) (s .at) (sym (c .before .before .before .before .before .before .before .before .before .before .before .before .before .bad-shape .ensures) ∙ c .before .before .before .before .before .before .before .before .before .before .before .before .if1 .left) (c .before .before .before .before .before .before .before .before .before .before .if2 .left) (c .before .before .before .before .before .before .before .before .if3 .left) (c .before .before .before .before .before .if4 .left) (c .before .before .before .if5 .left) (c .before .well-formed .result) (c .before .well-formed .ensures) (not-true (c .before .well-formed .result) (c .if6 .taken))), tt)
 
--- src/lib.rt:125:19
 cast-t13 : tie.Need-cast-t13
 cast-t13 c = search needs
 
--- src/lib.rt:100:1
 returns-7 : tie.Need-returns-7
 unfolding faultOf Counted numberOf
 returns-7 c =

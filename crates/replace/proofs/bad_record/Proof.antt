@@ -1,32 +1,26 @@
 -- `bad_record` is `badRecord`: its five tests are that definition's, in the same order.
-use borrow.Author.Needs.{needs}
 use borrow.Author.Tests.{lt-ltb, le-ltb}
 use Rattle.replace.proofs.bad_record.Statement.{statement}
 use Rattle.replace.proofs.bad_record.Tie as tie
 use Rattle.replace.proofs.bad_record.Reads as reads
 use Rattle.replace.proofs.bad_record.Lts as lts
 
--- src/lib.rt:36:9
 returns : tie.Need-returns
 returns c =
     rw (lt-ltb _ _ (c .if1 .taken))
 
--- src/lib.rt:39:9
 returns-2 : tie.Need-returns-2
 returns-2 c =
     rw (le-ltb _ _ (c .before .if1 .left), lt-ltb _ _ (c .if2 .taken))
 
--- src/lib.rt:42:9
 returns-3 : tie.Need-returns-3
 returns-3 c =
     rw (le-ltb _ _ (c .before .before .if1 .left), le-ltb _ _ (c .before .if2 .left), lt-ltb _ _ (c .if3 .taken))
 
--- src/lib.rt:45:9
 returns-4 : tie.Need-returns-4
 returns-4 c =
     rw (le-ltb _ _ (c .before .before .before .if1 .left), le-ltb _ _ (c .before .before .if2 .left), le-ltb _ _ (c .before .if3 .left), lt-ltb _ _ (c .if4 .taken))
 
--- src/lib.rt:32:1
 returns-5 : tie.Need-returns-5
 returns-5 c =
     rw (le-ltb _ _ (c .before .before .before .if1 .left), le-ltb _ _ (c .before .before .if2 .left), le-ltb _ _ (c .before .if3 .left), le-ltb _ _ (c .if4 .left))

@@ -8,21 +8,17 @@ use Rattle.replace.proofs.capped_add.Tie as tie
 use Rattle.replace.proofs.capped_add.Reads as reads
 use Rattle.replace.proofs.capped_add.Lts as lts
 
--- src/lib.rt:55:9
 returns : tie.Need-returns
 returns c =
     sym (capped-over _ (omega (arith, c .if1 .taken)))
 
--- src/lib.rt:58:9
 returns-2 : tie.Need-returns-2
 returns-2 c =
     sym (capped-over _ (omega (arith, c .before .if1 .left, c .if2 .taken)))
 
--- src/lib.rt:60:5
 add-result : tie.Need-add-result
 add-result c = search needs
 
--- src/lib.rt:51:1
 returns-3 : tie.Need-returns-3
 returns-3 c =
     sym (capped-in _ (omega (arith, c .before .if1 .left, c .if2 .left)))

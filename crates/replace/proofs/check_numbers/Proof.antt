@@ -11,54 +11,44 @@ use Rattle.replace.proofs.check_numbers.Lts as lts
 use Rattle.replace.proofs.bad_record.Reads as bad-record-reads
 use Rattle.replace.proofs.capped_add.Reads as capped-add-reads
 
--- src/lib.rt:68:9
 returns : tie.Need-returns
 unfolding checkStep
 returns c =
     rw (c .if1 .taken)
 
--- src/lib.rt:74:8
 bad-record-requires : tie.Need-bad-record-requires
 bad-record-requires c κs = search needs
 
--- src/lib.rt:75:9
 returns-2 : tie.Need-returns-2
 unfolding checkStep
 returns-2 c =
     let e = sym (c .before .bad-record .ensures) ∙ c .if2 .taken in
     rw (c .before .before .if1 .left, e)
 
--- src/lib.rt:81:36
 sub-capped-add : tie.Need-sub-capped-add
 sub-capped-add c =
     let a = c .before .before .before .before .args in
     let g = good (a .s .at) (a .n) (a .t) (replacement (a .start) (a .end) (a .from) (a .to)) (sym (c .before .before .bad-record .ensures) ∙ c .before .if2 .left) in
     omega (arith, g .low)
 
--- src/lib.rt:81:35
 cast-capped-add : tie.Need-cast-capped-add
 cast-capped-add c = search needs
 
--- src/lib.rt:81:9
 capped-add-requires : tie.Need-capped-add-requires
 capped-add-requires c κs = search needs
 
--- src/lib.rt:85:33
 sub-capped-add-2 : tie.Need-sub-capped-add-2
 sub-capped-add-2 c =
     let a = c .before .before .before .before .before .args in
     let g = good (a .s .at) (a .n) (a .t) (replacement (a .start) (a .end) (a .from) (a .to)) (sym (c .before .before .before .bad-record .ensures) ∙ c .before .before .if2 .left) in
     omega (arith, g .part)
 
--- src/lib.rt:85:32
 cast-capped-add-2 : tie.Need-cast-capped-add-2
 cast-capped-add-2 c = search needs
 
--- src/lib.rt:85:15
 capped-add-requires-2 : tie.Need-capped-add-requires-2
 capped-add-requires-2 c κs = search needs
 
--- src/lib.rt:64:1
 returns-3 : tie.Need-returns-3
 unfolding checkStep
 returns-3 c =

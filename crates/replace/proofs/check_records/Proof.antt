@@ -22,38 +22,30 @@ abbrev μ-loop : tie.MeasureT-loop
 μ-loop records n t s₀ i₀ s i =
     length records - i
 
--- src/lib.rt:99:5
 loop-holds : tie.Need-loop-holds Inv-loop μ-loop
 loop-holds c = search needs
 
--- src/lib.rt:99:11
 add-loop : tie.Need-add-loop Inv-loop μ-loop
 add-loop c = search needs
 
--- src/lib.rt:100:27
 record-at-requires : tie.Need-record-at-requires Inv-loop μ-loop
 record-at-requires c κs = search needs
 
--- src/lib.rt:100:9
 check-step-requires : tie.Need-check-step-requires Inv-loop μ-loop
 check-step-requires c κs = search needs
 
--- src/lib.rt:101:9
 add-i : tie.Need-add-i Inv-loop μ-loop
 add-i c = search needs
 
--- src/lib.rt:99:5
 loop-less : tie.Need-loop-less Inv-loop μ-loop
 loop-less c = search needs
 
--- src/lib.rt:99:5
 loop-again : tie.Need-loop-again Inv-loop μ-loop
 loop-again c =
     let a = c .before .before .before .before .before .args in
     let r = c .before .record-at in
     (search needs, scan-next (a .n) (a .t) (a .records .now) (c .before .before .before .loop .i) (r .result) _ _ _ (r .ensures) (c .check-step .ensures) (c .before .before .before .loop .inv .1))
 
--- src/lib.rt:90:1
 returns : tie.Need-returns Inv-loop μ-loop
 returns c =
     let a = c .before .before .before .args in

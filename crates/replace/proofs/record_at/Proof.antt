@@ -6,51 +6,39 @@ use Rattle.replace.proofs.record_at.Tie as tie
 use Rattle.replace.proofs.record_at.Reads as reads
 use Rattle.replace.proofs.record_at.Lts as lts
 
--- src/lib.rt:24:16
 mul-t3 : tie.Need-mul-t3
 mul-t3 c = search needs
 
--- src/lib.rt:24:16
 shared-slice-read-t5 : tie.Need-shared-slice-read-t5
 shared-slice-read-t5 c = search needs
 
--- src/lib.rt:25:22
 add-t6 : tie.Need-add-t6
 add-t6 c = search needs
 
--- src/lib.rt:25:14
 mul-t7 : tie.Need-mul-t7
 mul-t7 c = search needs
 
--- src/lib.rt:25:14
 shared-slice-read-t9 : tie.Need-shared-slice-read-t9
 shared-slice-read-t9 c = search needs
 
--- src/lib.rt:26:23
 add-t10 : tie.Need-add-t10
 add-t10 c = search needs
 
--- src/lib.rt:26:15
 mul-t11 : tie.Need-mul-t11
 mul-t11 c = search needs
 
--- src/lib.rt:26:15
 shared-slice-read-t13 : tie.Need-shared-slice-read-t13
 shared-slice-read-t13 c = search needs
 
--- src/lib.rt:27:21
 add-t14 : tie.Need-add-t14
 add-t14 c = search needs
 
--- src/lib.rt:27:13
 mul-t15 : tie.Need-mul-t15
 mul-t15 c = search needs
 
--- src/lib.rt:27:13
 shared-slice-read-t17 : tie.Need-shared-slice-read-t17
 shared-slice-read-t17 c = search needs
 
--- src/lib.rt:19:1
 returns : tie.Need-returns
 returns c =
     records-next _ _ (c .before .before .before .before .pre)

@@ -29,45 +29,37 @@ abbrev μ-loop : tie.MeasureT-loop
 μ-loop content entries text records new bytes₀ numbers₀ texts₀ c₀ k₀ bytes numbers texts c k =
     length records - k
 
--- src/lib.rt:176:5
 loop-holds : tie.Need-loop-holds Inv-loop μ-loop
 unfolding out
 loop-holds c =
     let p = c .before .before .before .before .before .before .before .before .pre in
     (omega arith, state-first _ _ _ _ _ _ _ refl refl (p .0) (p .1 .0))
 
--- src/lib.rt:176:11
 add-loop : tie.Need-add-loop Inv-loop μ-loop
 add-loop c = search needs
 
--- src/lib.rt:179:13
 record-at-requires : tie.Need-record-at-requires Inv-loop μ-loop
 record-at-requires c κs = search needs
 
--- src/lib.rt:177:9
 write-step-requires : tie.Need-write-step-requires Inv-loop μ-loop
 write-step-requires c κs =
     let a = c .before .before .before .before .before .before .before .before .before .before .before .before .before .before .args in
     let x = c .before .before .before .record-at in
     may-turn (a .content .now) (a .entries .now) (a .text .now) (a .new .now) (recordsOf (a .records .now)) _ _ _ _ (c .before .before .before .before .before .loop .inv .1) (c .before .before .before .before .before .before .before .before .before .before .before .before .before .before .pre .1 .1) (x .result) _ (x .ensures)
 
--- src/lib.rt:188:9
 add-k : tie.Need-add-k Inv-loop μ-loop
 add-k c =
     omega (arith, c .before .before .before .before .before .before .before .before .before .before .before .loop-test, c .before .before .before .before .before .before .before .before .before .before .before .before .before .before .before .before .before .before .before .before .before .good)
 
--- src/lib.rt:176:5
 loop-less : tie.Need-loop-less Inv-loop μ-loop
 loop-less c = search needs
 
--- src/lib.rt:176:5
 loop-again : tie.Need-loop-again Inv-loop μ-loop
 loop-again c =
     let a = c .before .before .before .before .before .before .before .before .before .before .before .before .before .before .before .before .before .before .before .before .before .args in
     let x = c .before .before .before .before .before .before .before .before .before .before .record-at in
     (search needs, state-next (a .content .now) (a .entries .now) (a .text .now) (a .new .now) (recordsOf (a .records .now)) _ _ _ _ (c .before .before .before .before .before .before .before .before .before .before .before .before .loop .inv .1) (c .before .before .before .before .before .before .before .before .before .before .before .before .before .before .before .before .before .before .before .before .before .pre .1 .1) (x .result) _ (x .ensures) _ _ (c .before .before .before .before .before .before .write-step .ensures))
 
--- src/lib.rt:190:5
 keep-requires : tie.Need-keep-requires Inv-loop μ-loop
 keep-requires c κs =
     let a = c .before .before .before .before .before .before .before .before .before .before .before .before .before .args in
@@ -77,7 +69,6 @@ keep-requires c κs =
     let e = none-left (a .records .now) (l .k) (c .before .before .before .loop-test .left) in
     (s .ready, ((within (a .content .now) (a .entries .now) (a .text .now) (a .new .now) (recordsOf (a .records .now)) _ _ _ _ s (p .1 .1) e, omega arith), room-last (a .content .now) (a .entries .now) (a .text .now) (a .new .now) (recordsOf (a .records .now)) _ _ _ _ s (p .1 .1) e))
 
--- src/lib.rt:153:1
 same-length : tie.Need-same-length Inv-loop μ-loop
 unfolding out
 same-length c =
@@ -85,7 +76,6 @@ same-length c =
     let g = long-now (a .content .now) (a .entries .now) (a .text .now) (a .new .now) (recordsOf (a .records .now)) _ _ _ _ (c .before .before .before .before .before .before .before .before .before .before .before .loop .inv .1) (c .before .before .before .before .before .before .before .before .before .before .before .before .before .before .before .before .before .before .before .before .pre .1 .1) in
     c .before .before .before .before .before .before .keep .kept .0 ∙ g .dataBytes
 
--- src/lib.rt:153:1
 same-length-2 : tie.Need-same-length-2 Inv-loop μ-loop
 unfolding out
 same-length-2 c =
@@ -93,7 +83,6 @@ same-length-2 c =
     let g = long-now (a .content .now) (a .entries .now) (a .text .now) (a .new .now) (recordsOf (a .records .now)) _ _ _ _ (c .before .before .before .before .before .before .before .before .before .before .before .loop .inv .1) (c .before .before .before .before .before .before .before .before .before .before .before .before .before .before .before .before .before .before .before .before .pre .1 .1) in
     c .before .before .before .before .before .before .keep .kept .1 .0 ∙ g .entryNumbers
 
--- src/lib.rt:153:1
 same-length-3 : tie.Need-same-length-3 Inv-loop μ-loop
 unfolding out
 same-length-3 c =
@@ -101,7 +90,6 @@ same-length-3 c =
     let g = long-now (a .content .now) (a .entries .now) (a .text .now) (a .new .now) (recordsOf (a .records .now)) _ _ _ _ (c .before .before .before .before .before .before .before .before .before .before .before .loop .inv .1) (c .before .before .before .before .before .before .before .before .before .before .before .before .before .before .before .before .before .before .before .before .pre .1 .1) in
     c .before .before .before .before .before .before .keep .kept .1 .1 .0 ∙ g .text
 
--- src/lib.rt:153:1
 returns : tie.Need-returns Inv-loop μ-loop
 returns c =
     let a = c .before .before .before .before .before .before .before .before .before .before .before .before .before .before .before .before .before .before .before .before .args in

@@ -13,17 +13,14 @@ use Rattle.replace.proofs.check_records.Reads as check-records-reads
 use Rattle.replace.proofs.write_records.Reads as write-records-reads
 use Rattle.writer.proofs.settle.Reads as settle-reads
 
--- src/lib.rt:228:9
 check-requires : tie.Need-check-requires
 unfolding leadTable
 check-requires c κs =
     search needs
 
--- src/lib.rt:230:26
 enum-known-checked : tie.Need-enum-known-checked
 enum-known-checked c = search needs
 
--- src/lib.rt:231:13
 returns : tie.Need-returns
 returns c =
     let a = c .before .before .before .before .before .before .before .before .before .before .before .before .before .args in
@@ -31,15 +28,12 @@ returns c =
     let g = c .before .checked .given in
     content-refused (a .content .now) (a .entries .now) (a .text .now) (a .new .now) (a .bytes .now) (a .numbers .now) (a .texts .now) (recordsOf (a .records .now)) (k .result) (k .ensures .0) (g .0 .0) (g .1)
 
--- src/lib.rt:233:23
 enum-known-checked-2 : tie.Need-enum-known-checked-2
 enum-known-checked-2 c = search needs
 
--- src/lib.rt:235:9
 check-records-requires : tie.Need-check-records-requires
 check-records-requires c κs = search needs
 
--- src/lib.rt:237:9
 returns-2 : tie.Need-returns-2
 returns-2 c =
     let a = c .before .before .before .before .before .before .before .before .before .before .before .before .before .before .before .args in
@@ -48,11 +42,9 @@ returns-2 c =
     let s = c .before .check-records in
     records-refused (a .content .now) (a .entries .now) (a .text .now) (a .new .now) (a .bytes .now) (a .numbers .now) (a .texts .now) (recordsOf (a .records .now)) (k .result) (k .ensures .0) (g .0 .0) (g .1) (k .ensures .1 .0) (s .result) (s .ensures) (c .if1 .taken)
 
--- src/lib.rt:239:48
 cast-capped-add : tie.Need-cast-capped-add
 cast-capped-add c = search needs
 
--- src/lib.rt:239:32
 sub-capped-add : tie.Need-sub-capped-add
 sub-capped-add c =
     let a = c .before .before .before .before .before .before .before .before .before .before .before .before .before .before .before .before .args in
@@ -61,19 +53,15 @@ sub-capped-add c =
     let s = c .before .before .check-records in
     within (a .content .now) (a .entries .now) (a .text .now) (a .new .now) (a .bytes .now) (a .numbers .now) (a .texts .now) (recordsOf (a .records .now)) (k .result) (k .ensures .0) (g .0 .0) (g .1) (k .ensures .1 .0) (s .result) (s .ensures) (c .before .if1 .left)
 
--- src/lib.rt:239:9
 capped-add-requires : tie.Need-capped-add-requires
 capped-add-requires c κs = search needs
 
--- src/lib.rt:240:9
 settle-requires : tie.Need-settle-requires
 settle-requires c κs = search needs
 
--- src/lib.rt:251:26
 enum-known-verdict : tie.Need-enum-known-verdict
 enum-known-verdict c = search needs
 
--- src/lib.rt:252:13
 returns-3 : tie.Need-returns-3
 returns-3 c =
     let a = c .before .before .before .before .before .before .before .before .before .before .before .before .before .before .before .before .before .before .before .before .before .args in
@@ -88,7 +76,6 @@ returns-3 c =
 enum-told : tie.Need-enum-told
 enum-told c = search needs
 
--- src/lib.rt:256:9
 write-records-requires : tie.Need-write-records-requires
 write-records-requires c κs =
     let a = c .before .before .before .before .before .before .before .before .before .before .before .before .before .before .before .before .before .before .before .before .before .before .before .args in
@@ -100,19 +87,15 @@ write-records-requires c κs =
     let h = c .before .before .before .enum-told .given in
     (is-sound (a .content .now) (a .entries .now) (a .text .now) (a .new .now) (a .bytes .now) (a .numbers .now) (a .texts .now) (recordsOf (a .records .now)) (k .result) (k .ensures .0) (g .0 .0) (g .1) (k .ensures .1 .0), (no-fault (a .content .now) (a .entries .now) (a .text .now) (a .new .now) (a .bytes .now) (a .numbers .now) (a .texts .now) (recordsOf (a .records .now)) (k .result) (k .ensures .0) (g .0 .0) (g .1) (k .ensures .1 .0) (s .result) (s .ensures) (c .before .before .before .before .before .before .before .before .if1 .left), room (a .content .now) (a .entries .now) (a .text .now) (a .new .now) (a .bytes .now) (a .numbers .now) (a .texts .now) (recordsOf (a .records .now)) (k .result) (k .ensures .0) (g .0 .0) (g .1) (k .ensures .1 .0) (s .result) (s .ensures) (c .before .before .before .before .before .before .before .before .if1 .left) (d .result) (d .ensures) (v .result) (v .ensures) (h .1)))
 
--- src/lib.rt:212:1
 same-length : tie.Need-same-length
 same-length c = search needs
 
--- src/lib.rt:212:1
 same-length-2 : tie.Need-same-length-2
 same-length-2 c = search needs
 
--- src/lib.rt:212:1
 same-length-3 : tie.Need-same-length-3
 same-length-3 c = search needs
 
--- src/lib.rt:212:1
 returns-4 : tie.Need-returns-4
 returns-4 c =
     let a = c .before .before .before .before .before .before .before .before .before .before .before .before .before .before .before .before .before .before .before .before .before .before .before .before .before .before .before .before .before .before .args in

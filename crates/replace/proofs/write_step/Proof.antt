@@ -13,11 +13,9 @@ use Rattle.writer.proofs.keep.Reads as keep-reads
 use Rattle.writer.proofs.put_bytes.Reads as put-bytes-reads
 use Rattle.writer.proofs.skip.Reads as skip-reads
 
--- src/lib.rt:135:9
 cast-keep : tie.Need-cast-keep
 cast-keep c = search needs
 
--- src/lib.rt:127:9
 keep-requires : tie.Need-keep-requires
 keep-requires c κs =
     let a = c .before .before .before .before .before .before .before .before .before .before .before .args in
@@ -25,15 +23,12 @@ keep-requires c κs =
     let g = is-good (a .content .now) (a .entries .now) (a .text .now) (a .new .now) (a .x) (a .c) _ p in
     (p .ready, ((g .low, omega (arith, g .order, g .high)), room-keep (a .content .now) (a .entries .now) (a .text .now) (a .new .now) (a .x) (a .c) _ p))
 
--- src/lib.rt:137:35
 cast-put-bytes : tie.Need-cast-put-bytes
 cast-put-bytes c = search needs
 
--- src/lib.rt:137:52
 cast-put-bytes-2 : tie.Need-cast-put-bytes-2
 cast-put-bytes-2 c = search needs
 
--- src/lib.rt:137:9
 put-bytes-requires : tie.Need-put-bytes-requires
 put-bytes-requires c κs =
     let a = c .before .before .before .before .before .before .before .before .before .before .before .before .before .before .before .before .before .before .before .before .before .args in
@@ -43,11 +38,9 @@ put-bytes-requires c κs =
     let f = room-put (a .content .now) (a .entries .now) (a .text .now) (a .new .now) (a .x) (a .c) _ p _ (k .ensures .0) in
     (g .part, g .within, bytes-room _ _ _ (part (a .x .from) (a .x .to) (a .new .now)) (k .result) _ (length-part (a .x .from) (a .x .to) (a .new .now) (g .within)) f)
 
--- src/lib.rt:146:9
 cast-skip : tie.Need-cast-skip
 cast-skip c = search needs
 
--- src/lib.rt:138:5
 skip-requires : tie.Need-skip-requires
 skip-requires c κs =
     let a = c .before .before .before .before .before .before .before .before .before .before .before .before .before .before .before .before .before .before .before .before .before .before .before .before .before .before .before .before .args in
@@ -63,22 +56,18 @@ skip-requires c κs =
       ),
     )
 
--- src/lib.rt:113:1
 same-length : tie.Need-same-length
 same-length c =
     c .before .before .before .before .before .before .skip .kept .0 ∙ c .before .before .before .before .before .before .before .before .before .before .before .before .before .put-bytes .kept .0 ∙ c .before .before .before .before .before .before .before .before .before .before .before .before .before .before .before .before .before .before .before .before .before .before .before .keep .kept .0
 
--- src/lib.rt:113:1
 same-length-2 : tie.Need-same-length-2
 same-length-2 c =
     c .before .before .before .before .before .before .skip .kept .1 .0 ∙ c .before .before .before .before .before .before .before .before .before .before .before .before .before .before .before .before .before .before .before .before .before .before .before .keep .kept .1 .0
 
--- src/lib.rt:113:1
 same-length-3 : tie.Need-same-length-3
 same-length-3 c =
     c .before .before .before .before .before .before .skip .kept .1 .1 .0 ∙ c .before .before .before .before .before .before .before .before .before .before .before .before .before .before .before .before .before .before .before .before .before .before .before .keep .kept .1 .1 .0
 
--- src/lib.rt:113:1
 returns : tie.Need-returns
 returns c =
     let a = c .before .before .before .before .before .before .before .before .before .before .before .before .before .before .before .before .before .before .before .before .before .before .before .before .before .before .before .before .before .before .before .before .before .before .before .args in

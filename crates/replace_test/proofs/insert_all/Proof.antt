@@ -17,80 +17,62 @@ abbrev μ-loop : tie.MeasureT-loop
 μ-loop records₀ place n k₀ records k =
     length records - k
 
--- src/main.rt:242:5
 loop-holds : tie.Need-loop-holds Inv-loop μ-loop
 loop-holds c = search needs
 
--- src/main.rt:242:11
 add-loop : tie.Need-add-loop Inv-loop μ-loop
 add-loop c = search needs
 
--- src/main.rt:243:9
 mul-records : tie.Need-mul-records Inv-loop μ-loop
 mul-records c = search needs
 
--- src/main.rt:243:9
 slice-write-records : tie.Need-slice-write-records Inv-loop μ-loop
 slice-write-records c = search needs
 
--- src/main.rt:244:17
 add-records : tie.Need-add-records Inv-loop μ-loop
 add-records c = search needs
 
--- src/main.rt:244:9
 mul-records-2 : tie.Need-mul-records-2 Inv-loop μ-loop
 mul-records-2 c = search needs
 
--- src/main.rt:244:9
 slice-write-records-2 : tie.Need-slice-write-records-2 Inv-loop μ-loop
 slice-write-records-2 c =
     simp length-set (omega arith)
 
--- src/main.rt:245:17
 add-records-2 : tie.Need-add-records-2 Inv-loop μ-loop
 add-records-2 c = search needs
 
--- src/main.rt:245:9
 mul-records-3 : tie.Need-mul-records-3 Inv-loop μ-loop
 mul-records-3 c = search needs
 
--- src/main.rt:245:9
 slice-write-records-3 : tie.Need-slice-write-records-3 Inv-loop μ-loop
 slice-write-records-3 c =
     simp length-set (omega arith)
 
--- src/main.rt:246:17
 add-records-3 : tie.Need-add-records-3 Inv-loop μ-loop
 add-records-3 c = search needs
 
--- src/main.rt:246:9
 mul-records-4 : tie.Need-mul-records-4 Inv-loop μ-loop
 mul-records-4 c = search needs
 
--- src/main.rt:246:9
 slice-write-records-4 : tie.Need-slice-write-records-4 Inv-loop μ-loop
 slice-write-records-4 c =
     simp length-set (omega arith)
 
--- src/main.rt:247:9
 add-k : tie.Need-add-k Inv-loop μ-loop
 add-k c = search needs
 
--- src/main.rt:242:5
 loop-less : tie.Need-loop-less Inv-loop μ-loop
 loop-less c =
     simp length-set (omega arith)
 
--- src/main.rt:242:5
 loop-again : tie.Need-loop-again Inv-loop μ-loop
 loop-again c =
     (simp length-set (omega arith), simp length-set (omega arith))
 
--- src/main.rt:240:1
 same-length : tie.Need-same-length Inv-loop μ-loop
 same-length c = search needs
 
--- src/main.rt:240:1
 returns : tie.Need-returns Inv-loop μ-loop
 returns c = search needs
 

@@ -10,78 +10,60 @@ use Rattle.io.proofs.large_buffer.Reads as large-buffer-reads
 use Rattle.replace_test.proofs.insert_all.Reads as insert-all-reads
 use Rattle.replace_test.proofs.plain.Reads as plain-reads
 
--- src/main.rt:263:5
 insert-all-requires : tie.Need-insert-all-requires
 insert-all-requires c κs = search needs
 
--- src/main.rt:264:13
 sub-k : tie.Need-sub-k
 sub-k c = search needs
 
--- src/main.rt:265:5
 mul-records : tie.Need-mul-records
 mul-records c = search needs
 
--- src/main.rt:265:5
 slice-write-records : tie.Need-slice-write-records
 slice-write-records c = search needs
 
--- src/main.rt:266:13
 add-records : tie.Need-add-records
 add-records c = search needs
 
--- src/main.rt:266:5
 mul-records-2 : tie.Need-mul-records-2
 mul-records-2 c = search needs
 
--- src/main.rt:266:5
 slice-write-records-2 : tie.Need-slice-write-records-2
 slice-write-records-2 c =
     simp length-set (omega arith)
 
--- src/main.rt:267:13
 add-records-2 : tie.Need-add-records-2
 add-records-2 c = search needs
 
--- src/main.rt:267:5
 mul-records-3 : tie.Need-mul-records-3
 mul-records-3 c = search needs
 
--- src/main.rt:267:5
 slice-write-records-3 : tie.Need-slice-write-records-3
 slice-write-records-3 c =
     simp length-set (omega arith)
 
--- src/main.rt:268:13
 add-records-3 : tie.Need-add-records-3
 add-records-3 c = search needs
 
--- src/main.rt:268:5
 mul-records-4 : tie.Need-mul-records-4
 mul-records-4 c = search needs
 
--- src/main.rt:268:5
 slice-write-records-4 : tie.Need-slice-write-records-4
 slice-write-records-4 c =
     simp length-set (omega arith)
 
--- src/main.rt:269:15
 large-buffer-requires : tie.Need-large-buffer-requires
 large-buffer-requires c κs = search needs
 
--- src/main.rt:270:35
 slice-aggregate-plain : tie.Need-slice-aggregate-plain
 slice-aggregate-plain c = search needs
 
--- src/main.rt:270:5
 plain-requires : tie.Need-plain-requires
 plain-requires c κs = search needs
 
--- src/main.rt:252:1
 same-length : tie.Need-same-length
 same-length c = search needs
 
--- src/main.rt:252:1
 returns : tie.Need-returns
 returns c = search needs
 

@@ -1,7 +1,6 @@
 -- `finish` ends the call: refused, the buffers stay and the refusal is the answer; with room, `keep` writes the rest of the content.
 use native.Mathlib.Omega.{arith}
 use borrow.Author.Needs.{needs}
-use mathlib.Core.Path.{refl}
 use Rattle.replaced.specs.Work.{world, MayEnd}
 use Rattle.replaced.proofs.WorkLaws.{ended-refused, ended-done}
 use Rattle.replaced.proofs.finish.Statement.{statement}

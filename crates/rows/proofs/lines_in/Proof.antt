@@ -1,5 +1,4 @@
 -- A refusal's number is 0 in `answerOf` too.
-use native.Mathlib.Omega.{arith}
 use borrow.Author.Needs.{needs}
 use Rattle.recording.specs.Outcome.{answerOf}
 use Rattle.rows.proofs.lines_in.Statement.{statement}

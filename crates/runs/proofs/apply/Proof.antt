@@ -22,23 +22,18 @@ use Rattle.truncate.proofs.write_truncated_end.Reads as write-truncated-end-rea
 use Rattle.truncate.proofs.write_truncated_start.Reads as write-truncated-start-reads
 use Rattle.wrapped.proofs.write_wrapped.Reads as write-wrapped-reads
 
--- src/lib.rt:53:9
 write-truncated-start-requires : tie.Need-write-truncated-start-requires
 write-truncated-start-requires c κs = search needs
 
--- src/lib.rt:53:9
 same-length : tie.Need-same-length
 same-length c = search needs
 
--- src/lib.rt:53:9
 same-length-2 : tie.Need-same-length-2
 same-length-2 c = search needs
 
--- src/lib.rt:53:9
 same-length-3 : tie.Need-same-length-3
 same-length-3 c = search needs
 
--- src/lib.rt:53:9
 returns : tie.Need-returns
 unfolding linesLeft
 returns c =
@@ -49,23 +44,18 @@ returns c =
     let k = c .before .before .before .before .before .before .write-truncated-start in
     unlined (jobOf (a .kind) (a .number) q xs u) (truncateStart (a .number) q) (recording (a .content .now) (a .entries .now) (a .text .now)) (a .bytes .now) (a .numbers .now) (a .texts .now) (a .lines .now) _ _ _ (k .result) (job-start (a .kind) (a .number) q xs u (c .before .before .before .before .before .before .before .before .before .before .if1 .taken)) refl (k .ensures .0) (k .ensures .1 .0) (k .ensures .1 .1 .0) (k .ensures .1 .1 .1)
 
--- src/lib.rt:67:9
 write-truncated-end-requires : tie.Need-write-truncated-end-requires
 write-truncated-end-requires c κs = search needs
 
--- src/lib.rt:67:9
 same-length-4 : tie.Need-same-length-4
 same-length-4 c = search needs
 
--- src/lib.rt:67:9
 same-length-5 : tie.Need-same-length-5
 same-length-5 c = search needs
 
--- src/lib.rt:67:9
 same-length-6 : tie.Need-same-length-6
 same-length-6 c = search needs
 
--- src/lib.rt:67:9
 returns-2 : tie.Need-returns-2
 unfolding linesLeft
 returns-2 c =
@@ -76,23 +66,18 @@ returns-2 c =
     let k = c .before .before .before .before .before .before .write-truncated-end in
     unlined (jobOf (a .kind) (a .number) q xs u) (truncateEnd (a .number) q) (recording (a .content .now) (a .entries .now) (a .text .now)) (a .bytes .now) (a .numbers .now) (a .texts .now) (a .lines .now) _ _ _ (k .result) (job-end (a .kind) (a .number) q xs u (c .before .before .before .before .before .before .before .before .before .before .if2 .taken)) refl (k .ensures .0) (k .ensures .1 .0) (k .ensures .1 .1 .0) (k .ensures .1 .1 .1)
 
--- src/lib.rt:81:9
 write-padded-start-requires : tie.Need-write-padded-start-requires
 write-padded-start-requires c κs = search needs
 
--- src/lib.rt:81:9
 same-length-7 : tie.Need-same-length-7
 same-length-7 c = search needs
 
--- src/lib.rt:81:9
 same-length-8 : tie.Need-same-length-8
 same-length-8 c = search needs
 
--- src/lib.rt:81:9
 same-length-9 : tie.Need-same-length-9
 same-length-9 c = search needs
 
--- src/lib.rt:81:9
 returns-3 : tie.Need-returns-3
 unfolding linesLeft
 returns-3 c =
@@ -103,23 +88,18 @@ returns-3 c =
     let k = c .before .before .before .before .before .before .write-padded-start in
     unlined (jobOf (a .kind) (a .number) q xs u) (padStart (a .number) q) (recording (a .content .now) (a .entries .now) (a .text .now)) (a .bytes .now) (a .numbers .now) (a .texts .now) (a .lines .now) _ _ _ (k .result) (job-pad-start (a .kind) (a .number) q xs u (c .before .before .before .before .before .before .before .before .before .before .if3 .taken)) refl (k .ensures .0) (k .ensures .1 .0) (k .ensures .1 .1 .0) (k .ensures .1 .1 .1)
 
--- src/lib.rt:95:9
 write-padded-end-requires : tie.Need-write-padded-end-requires
 write-padded-end-requires c κs = search needs
 
--- src/lib.rt:95:9
 same-length-10 : tie.Need-same-length-10
 same-length-10 c = search needs
 
--- src/lib.rt:95:9
 same-length-11 : tie.Need-same-length-11
 same-length-11 c = search needs
 
--- src/lib.rt:95:9
 same-length-12 : tie.Need-same-length-12
 same-length-12 c = search needs
 
--- src/lib.rt:95:9
 returns-4 : tie.Need-returns-4
 unfolding linesLeft
 returns-4 c =
@@ -130,23 +110,18 @@ returns-4 c =
     let k = c .before .before .before .before .before .before .write-padded-end in
     unlined (jobOf (a .kind) (a .number) q xs u) (padEnd (a .number) q) (recording (a .content .now) (a .entries .now) (a .text .now)) (a .bytes .now) (a .numbers .now) (a .texts .now) (a .lines .now) _ _ _ (k .result) (job-pad-end (a .kind) (a .number) q xs u (c .before .before .before .before .before .before .before .before .before .before .if4 .taken)) refl (k .ensures .0) (k .ensures .1 .0) (k .ensures .1 .1 .0) (k .ensures .1 .1 .1)
 
--- src/lib.rt:109:9
 write-padded-centered-requires : tie.Need-write-padded-centered-requires
 write-padded-centered-requires c κs = search needs
 
--- src/lib.rt:109:9
 same-length-13 : tie.Need-same-length-13
 same-length-13 c = search needs
 
--- src/lib.rt:109:9
 same-length-14 : tie.Need-same-length-14
 same-length-14 c = search needs
 
--- src/lib.rt:109:9
 same-length-15 : tie.Need-same-length-15
 same-length-15 c = search needs
 
--- src/lib.rt:109:9
 returns-5 : tie.Need-returns-5
 unfolding linesLeft
 returns-5 c =
@@ -157,23 +132,18 @@ returns-5 c =
     let k = c .before .before .before .before .before .before .write-padded-centered in
     unlined (jobOf (a .kind) (a .number) q xs u) (padCentered (a .number) q) (recording (a .content .now) (a .entries .now) (a .text .now)) (a .bytes .now) (a .numbers .now) (a .texts .now) (a .lines .now) _ _ _ (k .result) (job-pad-centered (a .kind) (a .number) q xs u (c .before .before .before .before .before .before .before .before .before .before .if5 .taken)) refl (k .ensures .0) (k .ensures .1 .0) (k .ensures .1 .1 .0) (k .ensures .1 .1 .1)
 
--- src/lib.rt:123:9
 write-indented-requires : tie.Need-write-indented-requires
 write-indented-requires c κs = search needs
 
--- src/lib.rt:123:9
 same-length-16 : tie.Need-same-length-16
 same-length-16 c = search needs
 
--- src/lib.rt:123:9
 same-length-17 : tie.Need-same-length-17
 same-length-17 c = search needs
 
--- src/lib.rt:123:9
 same-length-18 : tie.Need-same-length-18
 same-length-18 c = search needs
 
--- src/lib.rt:123:9
 returns-6 : tie.Need-returns-6
 unfolding linesLeft
 returns-6 c =
@@ -184,27 +154,21 @@ returns-6 c =
     let k = c .before .before .before .before .before .before .write-indented in
     unlined (jobOf (a .kind) (a .number) q xs u) (indent q) (recording (a .content .now) (a .entries .now) (a .text .now)) (a .bytes .now) (a .numbers .now) (a .texts .now) (a .lines .now) _ _ _ (k .result) (job-indent (a .kind) (a .number) q xs u (c .before .before .before .before .before .before .before .before .before .before .if6 .taken)) refl (k .ensures .0) (k .ensures .1 .0) (k .ensures .1 .1 .0) (k .ensures .1 .1 .1)
 
--- src/lib.rt:136:9
 write-wrapped-requires : tie.Need-write-wrapped-requires
 write-wrapped-requires c κs = search needs
 
--- src/lib.rt:136:9
 same-length-19 : tie.Need-same-length-19
 same-length-19 c = search needs
 
--- src/lib.rt:136:9
 same-length-20 : tie.Need-same-length-20
 same-length-20 c = search needs
 
--- src/lib.rt:136:9
 same-length-21 : tie.Need-same-length-21
 same-length-21 c = search needs
 
--- src/lib.rt:136:9
 same-length-22 : tie.Need-same-length-22
 same-length-22 c = search needs
 
--- src/lib.rt:136:9
 returns-7 : tie.Need-returns-7
 returns-7 c =
     let a = c .before .before .before .before .before .before .before .before .before .before .before .before .before .before .before .before .before .before .before .before .before .before .before .before .before .before .before .before .before .before .before .before .args in
@@ -214,27 +178,21 @@ returns-7 c =
     let k = c .before .before .before .before .before .before .before .before .write-wrapped in
     lined (jobOf (a .kind) (a .number) q xs u) (wrap (a .number) false) (recording (a .content .now) (a .entries .now) (a .text .now)) (a .bytes .now) (a .numbers .now) (a .texts .now) (a .lines .now) _ (k .result) (job-wrap (a .kind) (a .number) q xs u (c .before .before .before .before .before .before .before .before .before .before .before .before .before .if7 .taken)) (k .ensures .0, k .ensures .1)
 
--- src/lib.rt:149:9
 write-wrapped-requires-2 : tie.Need-write-wrapped-requires-2
 write-wrapped-requires-2 c κs = search needs
 
--- src/lib.rt:149:9
 same-length-23 : tie.Need-same-length-23
 same-length-23 c = search needs
 
--- src/lib.rt:149:9
 same-length-24 : tie.Need-same-length-24
 same-length-24 c = search needs
 
--- src/lib.rt:149:9
 same-length-25 : tie.Need-same-length-25
 same-length-25 c = search needs
 
--- src/lib.rt:149:9
 same-length-26 : tie.Need-same-length-26
 same-length-26 c = search needs
 
--- src/lib.rt:149:9
 returns-8 : tie.Need-returns-8
 returns-8 c =
     let a = c .before .before .before .before .before .before .before .before .before .before .before .before .before .before .before .before .before .before .before .before .before .before .before .before .before .before .before .before .before .before .before .before .before .args in
@@ -244,23 +202,18 @@ returns-8 c =
     let k = c .before .before .before .before .before .before .before .before .write-wrapped2 in
     lined (jobOf (a .kind) (a .number) q xs u) (wrap (a .number) true) (recording (a .content .now) (a .entries .now) (a .text .now)) (a .bytes .now) (a .numbers .now) (a .texts .now) (a .lines .now) _ (k .result) (job-break (a .kind) (a .number) q xs u (c .before .before .before .before .before .before .before .before .before .before .before .before .before .if8 .taken)) (k .ensures .0, k .ensures .1)
 
--- src/lib.rt:161:5
 write-replaced-flat-requires : tie.Need-write-replaced-flat-requires
 write-replaced-flat-requires c κs = search needs
 
--- src/lib.rt:33:1
 same-length-27 : tie.Need-same-length-27
 same-length-27 c = search needs
 
--- src/lib.rt:33:1
 same-length-28 : tie.Need-same-length-28
 same-length-28 c = search needs
 
--- src/lib.rt:33:1
 same-length-29 : tie.Need-same-length-29
 same-length-29 c = search needs
 
--- src/lib.rt:33:1
 returns-9 : tie.Need-returns-9
 unfolding linesLeft
 returns-9 c =

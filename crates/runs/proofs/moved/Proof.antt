@@ -6,20 +6,16 @@ use Rattle.runs.proofs.moved.Tie as tie
 use Rattle.runs.proofs.moved.Reads as reads
 use Rattle.runs.proofs.moved.Lts as lts
 
--- src/lib.rt:178:31
 enum-told : tie.Need-enum-told
 enum-told c = search needs
 
--- src/lib.rt:180:19
 enum-known-a : tie.Need-enum-known-a
 enum-known-a c = search needs
 
--- src/lib.rt:174:1
 returns : tie.Need-returns
 unfolding moved
 returns c = search needs
 
--- src/lib.rt:174:1
 returns-2 : tie.Need-returns-2
 unfolding moved
 returns-2 c = rw (c .before .before .a .given .1)

@@ -26,52 +26,41 @@ abbrev μ-loop : tie.MeasureT-loop
 μ-loop calls second second-entries second-text records new bytes₀ numbers₀ texts₀ other-bytes₀ other-numbers₀ other-texts₀ lines₀ held₀ i₀ bytes numbers texts other-bytes other-numbers other-texts lines held i =
     length calls - i
 
--- src/lib.rt:277:5
 loop-holds : tie.Need-loop-holds Inv-loop μ-loop
 loop-holds c =
     record { sets = c .before .before .before .before .before .before .before .before .before .before .before .before .before .pre; rest = refl; within = omega arith; room = refl }
 
--- src/lib.rt:277:11
 add-loop : tie.Need-add-loop Inv-loop μ-loop
 add-loop c =
     omega (arith, c .loop .inv .within, c .before .before .before .before .before .before .before .before .before .before .before .before .before .before .good)
 
--- src/lib.rt:280:13
 mul-turn : tie.Need-mul-turn Inv-loop μ-loop
 mul-turn c = search needs
 
--- src/lib.rt:280:13
 shared-slice-read-turn : tie.Need-shared-slice-read-turn Inv-loop μ-loop
 shared-slice-read-turn c = search needs
 
--- src/lib.rt:281:19
 add-turn : tie.Need-add-turn Inv-loop μ-loop
 add-turn c = search needs
 
--- src/lib.rt:281:13
 mul-turn-2 : tie.Need-mul-turn-2 Inv-loop μ-loop
 mul-turn-2 c = search needs
 
--- src/lib.rt:281:13
 shared-slice-read-turn-2 : tie.Need-shared-slice-read-turn-2 Inv-loop μ-loop
 shared-slice-read-turn-2 c = search needs
 
--- src/lib.rt:278:9
 turn-requires : tie.Need-turn-requires Inv-loop μ-loop
 turn-requires c κs =
     c .before .before .before .before .before .before .before .before .before .before .loop .inv .sets
 
--- src/lib.rt:295:9
 add-i : tie.Need-add-i Inv-loop μ-loop
 add-i c =
     omega (arith, c .before .before .before .before .before .before .before .before .before .before .before .before .before .before .before .before .before .before .before .before .before .before .before .before .loop-test .taken, c .before .before .before .before .before .before .before .before .before .before .before .before .before .before .before .before .before .before .before .before .before .before .before .before .before .before .before .before .before .before .before .before .before .before .before .before .before .before .before .good)
 
--- src/lib.rt:277:5
 loop-less : tie.Need-loop-less Inv-loop μ-loop
 loop-less c =
     omega (arith, c .before .before .before .before .before .before .before .before .before .before .before .before .before .before .before .before .before .before .before .before .before .before .before .before .loop-test .taken)
 
--- src/lib.rt:277:5
 loop-again : tie.Need-loop-again Inv-loop μ-loop
 loop-again c =
     let a = c .before .before .before .before .before .before .before .before .before .before .before .before .before .before .before .before .before .before .before .before .before .before .before .before .before .before .before .before .before .before .before .before .before .before .before .before .before .before .before .args in
@@ -83,42 +72,34 @@ loop-again c =
     let k = c .before .before .before .before .before .before .before .before .before .before .before .before .before .before .turn in
     next q xs (a .new .now) (a .calls .now) r o (l .held) (l .i) _ _ _ _ _ _ _ (l .inv) (c .before .before .before .before .before .before .before .before .before .before .before .before .before .before .before .before .before .before .before .before .before .before .before .before .loop-test .taken) (k .result) _ _ _ _ _ _ _ (k .ensures .0) (k .ensures .1) (k .kept .1 .1 .1 .1 .1 .1 .1 .1 .0) (k .kept .1 .1 .1 .1 .1 .1 .1 .1 .1 .0) (k .kept .1 .1 .1 .1 .1 .1 .1 .1 .1 .1 .0) (k .kept .1 .1 .1 .1 .1 .1 .1 .1 .1 .1 .1 .1 .1 .1 .0)
 
--- src/lib.rt:254:1
 same-length : tie.Need-same-length Inv-loop μ-loop
 same-length c =
     ap (λ (o : Room). o .dataBytes) (c .before .loop .inv .room)
 
--- src/lib.rt:254:1
 same-length-2 : tie.Need-same-length-2 Inv-loop μ-loop
 same-length-2 c =
     ap (λ (o : Room). o .entryNumbers) (c .before .loop .inv .room)
 
--- src/lib.rt:254:1
 same-length-3 : tie.Need-same-length-3 Inv-loop μ-loop
 same-length-3 c =
     ap (λ (o : Room). o .text) (c .before .loop .inv .room)
 
--- src/lib.rt:254:1
 same-length-4 : tie.Need-same-length-4 Inv-loop μ-loop
 same-length-4 c =
     omega (arith, c .before .loop .inv .sets .like-bytes, c .before .before .before .before .before .before .before .before .before .before .before .before .before .before .before .pre .like-bytes, ap (λ (o : Room). o .dataBytes) (c .before .loop .inv .room))
 
--- src/lib.rt:254:1
 same-length-5 : tie.Need-same-length-5 Inv-loop μ-loop
 same-length-5 c =
     omega (arith, c .before .loop .inv .sets .like-numbers, c .before .before .before .before .before .before .before .before .before .before .before .before .before .before .before .pre .like-numbers, ap (λ (o : Room). o .entryNumbers) (c .before .loop .inv .room))
 
--- src/lib.rt:254:1
 same-length-6 : tie.Need-same-length-6 Inv-loop μ-loop
 same-length-6 c =
     omega (arith, c .before .loop .inv .sets .like-texts, c .before .before .before .before .before .before .before .before .before .before .before .before .before .before .before .pre .like-texts, ap (λ (o : Room). o .text) (c .before .loop .inv .room))
 
--- src/lib.rt:254:1
 same-length-7 : tie.Need-same-length-7 Inv-loop μ-loop
 same-length-7 c =
     ap (λ (o : Room). o .lines) (c .before .loop .inv .room)
 
--- src/lib.rt:254:1
 returns : tie.Need-returns Inv-loop μ-loop
 returns c =
     let a = c .before .before .before .before .before .before .before .before .before .before .before .before .before .before .before .args in

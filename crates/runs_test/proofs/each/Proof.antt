@@ -21,123 +21,97 @@ abbrev μ-loop : tie.MeasureT-loop
 μ-loop calls second second-entries second-text records new bytes₀ numbers₀ texts₀ other-bytes₀ other-numbers₀ other-texts₀ lines₀ held₀ i₀ bytes numbers texts other-bytes other-numbers other-texts lines held i =
     length calls - i
 
--- src/main.rt:85:5
 loop-holds : tie.Need-loop-holds Inv-loop μ-loop
 loop-holds c =
     (c .before .before .before .before .before .before .before .before .before .before .before .before .before .pre, omega arith, refl, refl, refl, refl, refl, refl, refl)
 
--- src/main.rt:85:11
 add-loop : tie.Need-add-loop Inv-loop μ-loop
 add-loop c =
     omega (arith, c .loop .inv .1, c .before .before .before .before .before .before .before .before .before .before .before .before .before .before .good)
 
--- src/main.rt:86:24
 add-numbers : tie.Need-add-numbers Inv-loop μ-loop
 add-numbers c = search needs
 
--- src/main.rt:86:14
 mul-numbers : tie.Need-mul-numbers Inv-loop μ-loop
 mul-numbers c = search needs
 
--- src/main.rt:86:14
 sub-numbers : tie.Need-sub-numbers Inv-loop μ-loop
 sub-numbers c = search needs
 
--- src/main.rt:86:14
 part-numbers-start : tie.Need-part-numbers-start Inv-loop μ-loop
 part-numbers-start c = search needs
 
--- src/main.rt:86:14
 part-numbers-end : tie.Need-part-numbers-end Inv-loop μ-loop
 part-numbers-end c = search needs
 
--- src/main.rt:86:9
 numbers-requires : tie.Need-numbers-requires Inv-loop μ-loop
 numbers-requires c κs = search needs
 
--- src/main.rt:89:23
 add-run-calls : tie.Need-add-run-calls Inv-loop μ-loop
 add-run-calls c = search needs
 
--- src/main.rt:89:13
 mul-run-calls : tie.Need-mul-run-calls Inv-loop μ-loop
 mul-run-calls c = search needs
 
--- src/main.rt:89:13
 sub-run-calls : tie.Need-sub-run-calls Inv-loop μ-loop
 sub-run-calls c = search needs
 
--- src/main.rt:89:13
 part-run-calls-start : tie.Need-part-run-calls-start Inv-loop μ-loop
 part-run-calls-start c = search needs
 
--- src/main.rt:89:13
 part-run-calls-end : tie.Need-part-run-calls-end Inv-loop μ-loop
 part-run-calls-end c = search needs
 
--- src/main.rt:87:9
 run-calls-requires : tie.Need-run-calls-requires Inv-loop μ-loop
 run-calls-requires c κs =
     c .before .before .before .before .before .before .before .before .before .before .before .loop .inv .0
 
--- src/main.rt:103:9
 show-requires : tie.Need-show-requires Inv-loop μ-loop
 show-requires c κs =
     c .before .before .before .before .before .before .before .before .before .before .before .before .before .before .before .before .before .before .before .before .run-calls .ensures .0
 
--- src/main.rt:112:9
 add-i : tie.Need-add-i Inv-loop μ-loop
 add-i c =
     omega (arith, c .before .before .before .before .before .before .before .before .before .before .before .before .before .before .before .before .before .before .before .before .before .before .before .before .before .before .before .before .before .before .before .before .loop-test .taken, c .before .before .before .before .before .before .before .before .before .before .before .before .before .before .before .before .before .before .before .before .before .before .before .before .before .before .before .before .before .before .before .before .before .before .before .before .before .before .before .before .before .before .before .before .before .before .before .good)
 
--- src/main.rt:85:5
 loop-less : tie.Need-loop-less Inv-loop μ-loop
 loop-less c =
     omega (arith, c .before .before .before .before .before .before .before .before .before .before .before .before .before .before .before .before .before .before .before .before .before .before .before .before .before .before .before .before .before .before .before .before .loop-test .taken)
 
--- src/main.rt:85:5
 loop-again : tie.Need-loop-again Inv-loop μ-loop
 loop-again c =
     let k = c .before .before .before .before .before .before .before .before .before .before .before .before .before .before .before .before .before .before .before .before .before .run-calls in
     let v = c .before .before .before .before .before .before .before .before .before .before .before .before .before .before .before .before .before .before .before .before .before .before .before .before .before .before .before .before .before .before .before .before .before .loop .inv in
     (k .ensures .0, omega (arith, c .before .before .before .before .before .before .before .before .before .before .before .before .before .before .before .before .before .before .before .before .before .before .before .before .before .before .before .before .before .before .before .before .loop-test .taken), k .kept .1 .1 .1 .1 .1 .1 .1 .0 ∙ v .2, k .kept .1 .1 .1 .1 .1 .1 .1 .1 .0 ∙ v .3, k .kept .1 .1 .1 .1 .1 .1 .1 .1 .1 .0 ∙ v .4, k .kept .1 .1 .1 .1 .1 .1 .1 .1 .1 .1 .0 ∙ v .5, k .kept .1 .1 .1 .1 .1 .1 .1 .1 .1 .1 .1 .0 ∙ v .6, k .kept .1 .1 .1 .1 .1 .1 .1 .1 .1 .1 .1 .1 .0 ∙ v .7, k .kept .1 .1 .1 .1 .1 .1 .1 .1 .1 .1 .1 .1 .1 .0 ∙ v .8)
 
--- src/main.rt:64:1
 same-length : tie.Need-same-length Inv-loop μ-loop
 same-length c =
     c .before .loop .inv .2
 
--- src/main.rt:64:1
 same-length-2 : tie.Need-same-length-2 Inv-loop μ-loop
 same-length-2 c =
     c .before .loop .inv .3
 
--- src/main.rt:64:1
 same-length-3 : tie.Need-same-length-3 Inv-loop μ-loop
 same-length-3 c =
     c .before .loop .inv .4
 
--- src/main.rt:64:1
 same-length-4 : tie.Need-same-length-4 Inv-loop μ-loop
 same-length-4 c =
     c .before .loop .inv .5
 
--- src/main.rt:64:1
 same-length-5 : tie.Need-same-length-5 Inv-loop μ-loop
 same-length-5 c =
     c .before .loop .inv .6
 
--- src/main.rt:64:1
 same-length-6 : tie.Need-same-length-6 Inv-loop μ-loop
 same-length-6 c =
     c .before .loop .inv .7
 
--- src/main.rt:64:1
 same-length-7 : tie.Need-same-length-7 Inv-loop μ-loop
 same-length-7 c =
     c .before .loop .inv .8
 
--- src/main.rt:64:1
 returns : tie.Need-returns Inv-loop μ-loop
 returns c =
     c .before .loop .inv .0

@@ -9,59 +9,45 @@ use Rattle.runs_test.proofs.show.Lts as lts
 use Rattle.io.proofs.write_all.Reads as write-all-reads
 use Rattle.runs_test.proofs.show_recording.Reads as show-recording-reads
 
--- src/main.rt:47:26
 slice-aggregate-write-all : tie.Need-slice-aggregate-write-all
 slice-aggregate-write-all c = search needs
 
--- src/main.rt:47:9
 write-all-requires : tie.Need-write-all-requires
 write-all-requires c κs = search needs
 
--- src/main.rt:49:13
 slice-aggregate-show-recording : tie.Need-slice-aggregate-show-recording
 slice-aggregate-show-recording c = simp length-take (omega (arith, c .before .before .before .before .before .before .before .before .before .before .pre .bytes))
 
--- src/main.rt:50:13
 slice-aggregate-show-recording-2 : tie.Need-slice-aggregate-show-recording-2
 slice-aggregate-show-recording-2 c = simp length-take (omega (arith, c .before .before .before .before .before .before .before .before .before .before .before .pre .numbers))
 
--- src/main.rt:51:13
 slice-aggregate-show-recording-3 : tie.Need-slice-aggregate-show-recording-3
 slice-aggregate-show-recording-3 c = simp length-take (omega (arith, c .before .before .before .before .before .before .before .before .before .before .before .before .pre .texts))
 
--- src/main.rt:48:9
 show-recording-requires : tie.Need-show-recording-requires
 show-recording-requires c κs = search needs
 
--- src/main.rt:53:9
 returns : tie.Need-returns
 returns c = search needs
 
--- src/main.rt:55:22
 slice-aggregate-write-all-2 : tie.Need-slice-aggregate-write-all-2
 slice-aggregate-write-all-2 c = search needs
 
--- src/main.rt:55:5
 write-all-requires-2 : tie.Need-write-all-requires-2
 write-all-requires-2 c κs = search needs
 
--- src/main.rt:57:9
 slice-aggregate-show-recording-4 : tie.Need-slice-aggregate-show-recording-4
 slice-aggregate-show-recording-4 c = simp length-take (omega (arith, c .before .before .before .before .before .before .before .before .before .before .pre .bytes, c .before .before .before .before .before .before .before .before .before .before .pre .like-bytes))
 
--- src/main.rt:58:9
 slice-aggregate-show-recording-5 : tie.Need-slice-aggregate-show-recording-5
 slice-aggregate-show-recording-5 c = simp length-take (omega (arith, c .before .before .before .before .before .before .before .before .before .before .before .pre .numbers, c .before .before .before .before .before .before .before .before .before .before .before .pre .like-numbers))
 
--- src/main.rt:59:9
 slice-aggregate-show-recording-6 : tie.Need-slice-aggregate-show-recording-6
 slice-aggregate-show-recording-6 c = simp length-take (omega (arith, c .before .before .before .before .before .before .before .before .before .before .before .before .pre .texts, c .before .before .before .before .before .before .before .before .before .before .before .before .pre .like-texts))
 
--- src/main.rt:56:5
 show-recording-requires-2 : tie.Need-show-recording-requires-2
 show-recording-requires-2 c κs = search needs
 
--- src/main.rt:35:1
 returns-2 : tie.Need-returns-2
 returns-2 c = search needs
 

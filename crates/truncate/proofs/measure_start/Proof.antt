@@ -11,50 +11,39 @@ use Rattle.chars.proofs.truncate_start_pos.Reads as truncate-start-pos-reads
 use Rattle.truncate.proofs.less.Reads as less-reads
 use Rattle.truncate.proofs.trimmed_from.Reads as trimmed-from-reads
 
--- src/lib.rt:105:9
 text-width-requires : tie.Need-text-width-requires
 text-width-requires c κs = search needs
 
--- src/lib.rt:109:22
 trimmed-from-requires : tie.Need-trimmed-from-requires
 trimmed-from-requires c κs = search needs
 
--- src/lib.rt:107:9
 returns : tie.Need-returns
 returns c =
     let a = c .before .before .before .before .before .args in
     let n = c .trimmed-from in
     (start-plan-whole (a .max-width) (a .content .now) (a .ellipsis .now) (c .before .before .text-width .result) (c .before .before .text-width .ensures .0) (n .result) (c .before .if1 .taken) (n .ensures .0), (n .ensures .1, omega arith))
 
--- src/lib.rt:114:9
 text-width-requires-2 : tie.Need-text-width-requires-2
 text-width-requires-2 c κs = search needs
 
--- src/lib.rt:115:47
 less-requires : tie.Need-less-requires
 less-requires c κs = search needs
 
--- src/lib.rt:115:9
 truncate-start-pos-requires : tie.Need-truncate-start-pos-requires
 truncate-start-pos-requires c κs = search needs
 
--- src/lib.rt:116:9
 truncate-start-pos-requires-2 : tie.Need-truncate-start-pos-requires-2
 truncate-start-pos-requires-2 c κs = search needs
 
--- src/lib.rt:119:18
 trimmed-from-requires-2 : tie.Need-trimmed-from-requires-2
 trimmed-from-requires-2 c κs = search needs
 
--- src/lib.rt:120:19
 trimmed-from-requires-3 : tie.Need-trimmed-from-requires-3
 trimmed-from-requires-3 c κs = search needs
 
--- src/lib.rt:121:16
 add-t13 : tie.Need-add-t13
 add-t13 c = search needs
 
--- src/lib.rt:99:1
 returns-2 : tie.Need-returns-2
 returns-2 c =
     let a = c .before .before .before .before .before .before .before .before .before .before .before .before .args in

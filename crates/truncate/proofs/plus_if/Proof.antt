@@ -6,17 +6,14 @@ use Rattle.truncate.proofs.plus_if.Tie as tie
 use Rattle.truncate.proofs.plus_if.Reads as reads
 use Rattle.truncate.proofs.plus_if.Lts as lts
 
--- src/lib.rt:55:16
 add-result : tie.Need-add-result
 add-result c = search needs
 
--- src/lib.rt:55:9
 returns : tie.Need-returns
 unfolding plusIf
 returns c =
     simp (c .if1 .taken)
 
--- src/lib.rt:50:1
 returns-2 : tie.Need-returns-2
 unfolding plusIf
 returns-2 c =

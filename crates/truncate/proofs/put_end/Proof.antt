@@ -14,7 +14,6 @@ use Rattle.truncate.proofs.put_end.Lts as lts
 use Rattle.truncate.proofs.put_up_to.Reads as put-up-to-reads
 use Rattle.writer.proofs.put_recording.Reads as put-recording-reads
 
--- src/lib.rt:224:9
 put-recording-requires : tie.Need-put-recording-requires
 unfolding out
 put-recording-requires c κs =
@@ -23,19 +22,15 @@ put-recording-requires c κs =
     let e = end-whole (a .p) (recording (a .content .now) (a .entries .now) (a .text .now)) (recording (a .ellipsis .now) (a .ellipsis-entries .now) (a .ellipsis-text .now)) (not-true (a .p .cut) (c .before .before .before .if1 .taken)) in
     (p .0, rw e at (p .1 .1 .1))
 
--- src/lib.rt:224:9
 same-length : tie.Need-same-length
 same-length c = search needs
 
--- src/lib.rt:224:9
 same-length-2 : tie.Need-same-length-2
 same-length-2 c = search needs
 
--- src/lib.rt:224:9
 same-length-3 : tie.Need-same-length-3
 same-length-3 c = search needs
 
--- src/lib.rt:224:9
 returns : tie.Need-returns
 unfolding out
 returns c =
@@ -43,7 +38,6 @@ returns c =
     let e = end-whole (a .p) (recording (a .content .now) (a .entries .now) (a .text .now)) (recording (a .ellipsis .now) (a .ellipsis-entries .now) (a .ellipsis-text .now)) (not-true (a .p .cut) (c .before .before .before .before .before .before .before .before .before .before .if1 .taken)) in
     c .before .before .before .before .before .before .put-recording .ensures .0 ∙ ap (λ (x : List Item). add x (blank (a .bytes .now) (a .numbers .now) (a .texts .now))) (sym e)
 
--- src/lib.rt:226:9
 put-up-to-requires : tie.Need-put-up-to-requires
 unfolding out
 put-up-to-requires c κs =
@@ -52,7 +46,6 @@ put-up-to-requires c κs =
     let e = end-cut (a .p) (recording (a .content .now) (a .entries .now) (a .text .now)) (recording (a .ellipsis .now) (a .ellipsis-entries .now) (a .ellipsis-text .now)) (not-false (a .p .cut) (c .before .before .before .if1 .left)) in
     (p .0, (p .1 .1 .0 .0, fits-first _ _ _ _ e (p .1 .1 .1)))
 
--- src/lib.rt:236:5
 put-up-to-requires-2 : tie.Need-put-up-to-requires-2
 unfolding out
 put-up-to-requires-2 c κs =
@@ -61,19 +54,15 @@ put-up-to-requires-2 c κs =
     let e = end-cut (a .p) (recording (a .content .now) (a .entries .now) (a .text .now)) (recording (a .ellipsis .now) (a .ellipsis-entries .now) (a .ellipsis-text .now)) (not-false (a .p .cut) (c .before .before .before .before .before .before .before .before .before .before .before .before .before .if1 .left)) in
     (p .1 .0, (p .1 .1 .0 .1, fits-then _ _ _ _ _ e (p .1 .1 .1) (c .before .before .before .before .before .before .before .before .before .put-up-to .ensures)))
 
--- src/lib.rt:198:1
 same-length-4 : tie.Need-same-length-4
 same-length-4 c = search needs
 
--- src/lib.rt:198:1
 same-length-5 : tie.Need-same-length-5
 same-length-5 c = search needs
 
--- src/lib.rt:198:1
 same-length-6 : tie.Need-same-length-6
 same-length-6 c = search needs
 
--- src/lib.rt:198:1
 returns-2 : tie.Need-returns-2
 unfolding out
 returns-2 c =

@@ -15,7 +15,6 @@ use Rattle.truncate.proofs.put_from.Lts as lts
 use Rattle.writer.proofs.keep.Reads as keep-reads
 use Rattle.writer.proofs.skip.Reads as skip-reads
 
--- src/lib.rt:184:9
 skip-requires : tie.Need-skip-requires
 unfolding out
 skip-requires c κs =
@@ -23,7 +22,6 @@ skip-requires c κs =
     let p = c .before .before .before .before .before .before .before .before .before .pre in
     (ready-start _ _ _ _ refl refl (p .0), ((omega arith, p .1 .0), first-room entriesOnly (λ (x : List Item). x) _ _ _ _ _ (edit-from (a .n) (a .content .now) (a .entries .now) (a .text .now)) _ refl refl _ (p .1 .1)))
 
--- src/lib.rt:185:5
 keep-requires : tie.Need-keep-requires
 unfolding out
 keep-requires c κs =
@@ -32,19 +30,15 @@ keep-requires c κs =
     let k = c .before .before .before .before .before .before .before .before .before .skip .ensures in
     (k .1 .1 .0, ((omega (arith, k .1 .1 .1, p .1 .0), omega arith), second-room entriesOnly (λ (x : List Item). x) _ _ _ _ _ (edit-from (a .n) (a .content .now) (a .entries .now) (a .text .now)) _ refl refl _ (p .1 .1) _ _ (k .0) (k .1 .0) (k .1 .1 .1)))
 
--- src/lib.rt:162:1
 same-length : tie.Need-same-length
 same-length c = search needs
 
--- src/lib.rt:162:1
 same-length-2 : tie.Need-same-length-2
 same-length-2 c = search needs
 
--- src/lib.rt:162:1
 same-length-3 : tie.Need-same-length-3
 same-length-3 c = search needs
 
--- src/lib.rt:162:1
 returns : tie.Need-returns
 unfolding out
 returns c =

@@ -13,7 +13,6 @@ use Rattle.truncate.proofs.put_start.Reads as reads
 use Rattle.truncate.proofs.put_start.Lts as lts
 use Rattle.truncate.proofs.put_from.Reads as put-from-reads
 
--- src/lib.rt:275:9
 put-from-requires : tie.Need-put-from-requires
 unfolding out
 put-from-requires c κs =
@@ -22,19 +21,15 @@ put-from-requires c κs =
     let e = start-whole (a .p) (recording (a .content .now) (a .entries .now) (a .text .now)) (recording (a .ellipsis .now) (a .ellipsis-entries .now) (a .ellipsis-text .now)) (not-true (a .p .cut) (c .before .before .before .if1 .taken)) in
     (p .0, (p .1 .1 .0 .0, rw e at (p .1 .1 .1)))
 
--- src/lib.rt:275:9
 same-length : tie.Need-same-length
 same-length c = search needs
 
--- src/lib.rt:275:9
 same-length-2 : tie.Need-same-length-2
 same-length-2 c = search needs
 
--- src/lib.rt:275:9
 same-length-3 : tie.Need-same-length-3
 same-length-3 c = search needs
 
--- src/lib.rt:275:9
 returns : tie.Need-returns
 unfolding out
 returns c =
@@ -42,7 +37,6 @@ returns c =
     let e = start-whole (a .p) (recording (a .content .now) (a .entries .now) (a .text .now)) (recording (a .ellipsis .now) (a .ellipsis-entries .now) (a .ellipsis-text .now)) (not-true (a .p .cut) (c .before .before .before .before .before .before .before .before .before .before .if1 .taken)) in
     c .before .before .before .before .before .before .put-from .ensures ∙ ap (λ (x : List Item). add x (blank (a .bytes .now) (a .numbers .now) (a .texts .now))) (sym e)
 
--- src/lib.rt:286:9
 put-from-requires-2 : tie.Need-put-from-requires-2
 unfolding out
 put-from-requires-2 c κs =
@@ -51,7 +45,6 @@ put-from-requires-2 c κs =
     let e = start-cut (a .p) (recording (a .content .now) (a .entries .now) (a .text .now)) (recording (a .ellipsis .now) (a .ellipsis-entries .now) (a .ellipsis-text .now)) (not-false (a .p .cut) (c .before .before .before .if1 .left)) in
     (p .1 .0, (p .1 .1 .0 .1, fits-first _ _ _ _ e (p .1 .1 .1)))
 
--- src/lib.rt:296:5
 put-from-requires-3 : tie.Need-put-from-requires-3
 unfolding out
 put-from-requires-3 c κs =
@@ -60,19 +53,15 @@ put-from-requires-3 c κs =
     let e = start-cut (a .p) (recording (a .content .now) (a .entries .now) (a .text .now)) (recording (a .ellipsis .now) (a .ellipsis-entries .now) (a .ellipsis-text .now)) (not-false (a .p .cut) (c .before .before .before .before .before .before .before .before .before .before .before .before .before .if1 .left)) in
     (p .0, (p .1 .1 .0 .0, fits-then _ _ _ _ _ e (p .1 .1 .1) (c .before .before .before .before .before .before .before .before .before .put-from2 .ensures)))
 
--- src/lib.rt:249:1
 same-length-4 : tie.Need-same-length-4
 same-length-4 c = search needs
 
--- src/lib.rt:249:1
 same-length-5 : tie.Need-same-length-5
 same-length-5 c = search needs
 
--- src/lib.rt:249:1
 same-length-6 : tie.Need-same-length-6
 same-length-6 c = search needs
 
--- src/lib.rt:249:1
 returns-2 : tie.Need-returns-2
 unfolding out
 returns-2 c =

@@ -15,7 +15,6 @@ use Rattle.truncate.proofs.put_up_to.Lts as lts
 use Rattle.writer.proofs.keep.Reads as keep-reads
 use Rattle.writer.proofs.skip.Reads as skip-reads
 
--- src/lib.rt:148:9
 keep-requires : tie.Need-keep-requires
 unfolding out
 keep-requires c κs =
@@ -23,7 +22,6 @@ keep-requires c κs =
     let p = c .before .before .before .before .before .before .before .before .before .pre in
     (ready-start _ _ _ _ refl refl (p .0), ((omega arith, p .1 .0), first-room (λ (x : List Item). x) entriesOnly _ _ _ _ _ (edit-up-to (a .n) (a .content .now) (a .entries .now) (a .text .now)) _ refl refl _ (p .1 .1)))
 
--- src/lib.rt:149:5
 skip-requires : tie.Need-skip-requires
 unfolding out
 skip-requires c κs =
@@ -32,19 +30,15 @@ skip-requires c κs =
     let k = c .before .before .before .before .before .before .before .before .before .keep .ensures in
     (k .1 .1 .0, ((omega (arith, k .1 .1 .1, p .1 .0), omega arith), second-room (λ (x : List Item). x) entriesOnly _ _ _ _ _ (edit-up-to (a .n) (a .content .now) (a .entries .now) (a .text .now)) _ refl refl _ (p .1 .1) _ _ (k .0) (k .1 .0) (k .1 .1 .1)))
 
--- src/lib.rt:126:1
 same-length : tie.Need-same-length
 same-length c = search needs
 
--- src/lib.rt:126:1
 same-length-2 : tie.Need-same-length-2
 same-length-2 c = search needs
 
--- src/lib.rt:126:1
 same-length-3 : tie.Need-same-length-3
 same-length-3 c = search needs
 
--- src/lib.rt:126:1
 returns : tie.Need-returns
 unfolding out
 returns c =

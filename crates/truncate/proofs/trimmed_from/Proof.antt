@@ -7,28 +7,22 @@ use Rattle.truncate.proofs.trimmed_from.Reads as reads
 use Rattle.truncate.proofs.trimmed_from.Lts as lts
 use Rattle.chars.proofs.trim_start_zero_width_chars.Reads as trim-start-zero-width-chars-reads
 
--- src/lib.rt:66:44
 sub-trim-start-zero-width-chars : tie.Need-sub-trim-start-zero-width-chars
 sub-trim-start-zero-width-chars c = search needs
 
--- src/lib.rt:66:44
 part-trim-start-zero-width-chars-start : tie.Need-part-trim-start-zero-width-chars-start
 part-trim-start-zero-width-chars-start c = search needs
 
--- src/lib.rt:66:44
 part-trim-start-zero-width-chars-end : tie.Need-part-trim-start-zero-width-chars-end
 part-trim-start-zero-width-chars-end c = search needs
 
--- src/lib.rt:66:9
 trim-start-zero-width-chars-requires : tie.Need-trim-start-zero-width-chars-requires
 trim-start-zero-width-chars-requires c κs = search needs
 
--- src/lib.rt:67:5
 sub-result : tie.Need-sub-result
 sub-result c =
     trimmed (c .before .before .before .args .s .now) (c .trim-start-zero-width-chars .result .now) (c .before .before .before .args .start) (c .before .before .before .pre) (c .trim-start-zero-width-chars .ensures) .0
 
--- src/lib.rt:61:1
 returns : tie.Need-returns
 returns c =
     let t = trimmed (c .before .before .before .args .s .now) (c .trim-start-zero-width-chars .result .now) (c .before .before .before .args .start) (c .before .before .before .pre) (c .trim-start-zero-width-chars .ensures) in

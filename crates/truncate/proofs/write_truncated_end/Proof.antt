@@ -19,17 +19,14 @@ use Rattle.truncate.proofs.plus_if.Reads as plus-if-reads
 use Rattle.truncate.proofs.put_end.Reads as put-end-reads
 use Rattle.writer.proofs.settle.Reads as settle-reads
 
--- src/lib.rt:316:9
 check-requires : tie.Need-check-requires
 unfolding leadTable
 check-requires c κs =
     refl
 
--- src/lib.rt:318:26
 enum-known-checked : tie.Need-enum-known-checked
 enum-known-checked c = search needs
 
--- src/lib.rt:319:13
 returns : tie.Need-returns
 unfolding secondFault replacementFault linesLeft
 returns c =
@@ -38,21 +35,17 @@ returns c =
     let x = c .before .checked .given in
     content-refused (a .content .now) (a .entries .now) (a .text .now) (a .ellipsis .now) (a .ellipsis-entries .now) (a .ellipsis-text .now) (a .bytes .now) (a .numbers .now) (a .texts .now) (truncateEnd (a .max-width) (recording (a .ellipsis .now) (a .ellipsis-entries .now) (a .ellipsis-text .now))) (k .result) (x .0 .0) (k .ensures .0) (x .1)
 
--- src/lib.rt:321:23
 enum-known-checked-2 : tie.Need-enum-known-checked-2
 enum-known-checked-2 c = search needs
 
--- src/lib.rt:323:9
 check-requires-2 : tie.Need-check-requires-2
 unfolding leadTable
 check-requires-2 c κs =
     refl
 
--- src/lib.rt:325:26
 enum-known-second : tie.Need-enum-known-second
 enum-known-second c = search needs
 
--- src/lib.rt:326:13
 returns-2 : tie.Need-returns-2
 unfolding secondFault replacementFault linesLeft
 returns-2 c =
@@ -64,17 +57,14 @@ returns-2 c =
     let y = c .before .second .given in
     second-refused (a .content .now) (a .entries .now) (a .text .now) (a .ellipsis .now) (a .ellipsis-entries .now) (a .ellipsis-text .now) (a .bytes .now) (a .numbers .now) (a .texts .now) (truncateEnd (a .max-width) (recording (a .ellipsis .now) (a .ellipsis-entries .now) (a .ellipsis-text .now))) (x .0 .0) f refl (l .result) (y .0 .0) (l .ensures .0) (y .1)
 
--- src/lib.rt:328:23
 enum-known-second-2 : tie.Need-enum-known-second-2
 enum-known-second-2 c = search needs
 
--- src/lib.rt:330:9
 measure-end-requires : tie.Need-measure-end-requires
 unfolding leadTable
 measure-end-requires c κs =
     refl
 
--- src/lib.rt:332:9
 add-settle : tie.Need-add-settle
 add-settle c =
     let a = c .before .before .before .before .before .before .before .before .before .before .before .before .before .before .before .before .before .before .before .before .before .before .args in
@@ -87,7 +77,6 @@ add-settle c =
     let g = checked-fine (a .ellipsis .now) (a .ellipsis-entries .now) (a .ellipsis-text .now) (y .0 .0) (l .result) (y .1) (l .ensures .0) (l .ensures .1 .0) (l .ensures .1 .1) in
     omega (arith, f .data-short, g .data-short, m .ensures .1 .0, m .ensures .1 .1)
 
--- src/lib.rt:333:9
 plus-if-requires : tie.Need-plus-if-requires
 plus-if-requires c κs =
     let a = c .before .before .before .before .before .before .before .before .before .before .before .before .before .before .before .before .before .before .before .before .before .before .args in
@@ -100,7 +89,6 @@ plus-if-requires c κs =
     let g = checked-fine (a .ellipsis .now) (a .ellipsis-entries .now) (a .ellipsis-text .now) (y .0 .0) (l .result) (y .1) (l .ensures .0) (l .ensures .1 .0) (l .ensures .1 .1) in
     omega (arith, f .entries-short, g .entries-short)
 
--- src/lib.rt:334:9
 plus-if-requires-2 : tie.Need-plus-if-requires-2
 plus-if-requires-2 c κs =
     let a = c .before .before .before .before .before .before .before .before .before .before .before .before .before .before .before .before .before .before .before .before .before .before .before .args in
@@ -113,15 +101,12 @@ plus-if-requires-2 c κs =
     let g = checked-fine (a .ellipsis .now) (a .ellipsis-entries .now) (a .ellipsis-text .now) (y .0 .0) (l .result) (y .1) (l .ensures .0) (l .ensures .1 .0) (l .ensures .1 .1) in
     omega (arith, f .text-short, g .text-short)
 
--- src/lib.rt:331:9
 settle-requires : tie.Need-settle-requires
 settle-requires c κs = search needs
 
--- src/lib.rt:342:26
 enum-known-verdict : tie.Need-enum-known-verdict
 enum-known-verdict c = search needs
 
--- src/lib.rt:343:13
 returns-3 : tie.Need-returns-3
 unfolding secondFault replacementFault linesLeft
 returns-3 c =
@@ -142,7 +127,6 @@ returns-3 c =
 enum-told : tie.Need-enum-told
 enum-told c = search needs
 
--- src/lib.rt:347:9
 put-end-requires : tie.Need-put-end-requires
 unfolding secondFault replacementFault linesLeft
 put-end-requires c κs =
@@ -160,19 +144,15 @@ put-end-requires c κs =
     let z = c .before .before .before .enum-told .given in
     (f .whole, (g .whole, (m .ensures .1, room-left (a .content .now) (a .entries .now) (a .text .now) (a .ellipsis .now) (a .ellipsis-entries .now) (a .ellipsis-text .now) (a .bytes .now) (a .numbers .now) (a .texts .now) (truncateEnd (a .max-width) (recording (a .ellipsis .now) (a .ellipsis-entries .now) (a .ellipsis-text .now))) (x .0 .0) f refl (y .0 .0) g refl refl (endItems (m .result) (recording (a .content .now) (a .entries .now) (a .text .now)) (recording (a .ellipsis .now) (a .ellipsis-entries .now) (a .ellipsis-text .now))) (end-items (a .max-width) (recording (a .content .now) (a .entries .now) (a .text .now)) (recording (a .ellipsis .now) (a .ellipsis-entries .now) (a .ellipsis-text .now)) (m .result) (m .ensures .0)) (m .result .content + m .result .ellipsis) (n .result) (u .result) (end-data (a .content .now) (a .entries .now) (a .text .now) (a .ellipsis .now) (a .ellipsis-entries .now) (a .ellipsis-text .now) (x .0 .0) (y .0 .0) f g (a .max-width) (m .result) (m .ensures .0) (m .ensures .1 .0) (m .ensures .1 .1)) (n .ensures ∙ end-count (a .content .now) (a .entries .now) (a .text .now) (a .ellipsis .now) (a .ellipsis-entries .now) (a .ellipsis-text .now) (x .0 .0) (y .0 .0) f g (a .max-width) (m .result)) (u .ensures ∙ end-text (a .content .now) (a .entries .now) (a .text .now) (a .ellipsis .now) (a .ellipsis-entries .now) (a .ellipsis-text .now) (x .0 .0) (y .0 .0) f g (a .max-width) (m .result)) (v .result) (v .ensures) (z .1))))
 
--- src/lib.rt:300:1
 same-length : tie.Need-same-length
 same-length c = search needs
 
--- src/lib.rt:300:1
 same-length-2 : tie.Need-same-length-2
 same-length-2 c = search needs
 
--- src/lib.rt:300:1
 same-length-3 : tie.Need-same-length-3
 same-length-3 c = search needs
 
--- src/lib.rt:300:1
 returns-4 : tie.Need-returns-4
 unfolding secondFault replacementFault linesLeft
 returns-4 c =

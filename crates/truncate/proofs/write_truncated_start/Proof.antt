@@ -20,17 +20,14 @@ use Rattle.truncate.proofs.plus_if.Reads as plus-if-reads
 use Rattle.truncate.proofs.put_start.Reads as put-start-reads
 use Rattle.writer.proofs.settle.Reads as settle-reads
 
--- src/lib.rt:384:9
 check-requires : tie.Need-check-requires
 unfolding leadTable
 check-requires c κs =
     refl
 
--- src/lib.rt:386:26
 enum-known-checked : tie.Need-enum-known-checked
 enum-known-checked c = search needs
 
--- src/lib.rt:387:13
 returns : tie.Need-returns
 unfolding secondFault replacementFault linesLeft
 returns c =
@@ -39,21 +36,17 @@ returns c =
     let x = c .before .checked .given in
     content-refused (a .content .now) (a .entries .now) (a .text .now) (a .ellipsis .now) (a .ellipsis-entries .now) (a .ellipsis-text .now) (a .bytes .now) (a .numbers .now) (a .texts .now) (truncateStart (a .max-width) (recording (a .ellipsis .now) (a .ellipsis-entries .now) (a .ellipsis-text .now))) (k .result) (x .0 .0) (k .ensures .0) (x .1)
 
--- src/lib.rt:389:23
 enum-known-checked-2 : tie.Need-enum-known-checked-2
 enum-known-checked-2 c = search needs
 
--- src/lib.rt:391:9
 check-requires-2 : tie.Need-check-requires-2
 unfolding leadTable
 check-requires-2 c κs =
     refl
 
--- src/lib.rt:393:26
 enum-known-second : tie.Need-enum-known-second
 enum-known-second c = search needs
 
--- src/lib.rt:394:13
 returns-2 : tie.Need-returns-2
 unfolding secondFault replacementFault linesLeft
 returns-2 c =
@@ -65,25 +58,20 @@ returns-2 c =
     let y = c .before .second .given in
     second-refused (a .content .now) (a .entries .now) (a .text .now) (a .ellipsis .now) (a .ellipsis-entries .now) (a .ellipsis-text .now) (a .bytes .now) (a .numbers .now) (a .texts .now) (truncateStart (a .max-width) (recording (a .ellipsis .now) (a .ellipsis-entries .now) (a .ellipsis-text .now))) (x .0 .0) f refl (l .result) (y .0 .0) (l .ensures .0) (y .1)
 
--- src/lib.rt:396:23
 enum-known-second-2 : tie.Need-enum-known-second-2
 enum-known-second-2 c = search needs
 
--- src/lib.rt:398:9
 measure-start-requires : tie.Need-measure-start-requires
 unfolding leadTable
 measure-start-requires c κs =
     refl
 
--- src/lib.rt:400:10
 sub-settle : tie.Need-sub-settle
 sub-settle c = search needs
 
--- src/lib.rt:400:40
 sub-settle-2 : tie.Need-sub-settle-2
 sub-settle-2 c = search needs
 
--- src/lib.rt:400:9
 add-settle : tie.Need-add-settle
 add-settle c =
     let a = c .before .before .before .before .before .before .before .before .before .before .before .before .before .before .before .before .before .before .before .before .before .before .before .args in
@@ -96,7 +84,6 @@ add-settle c =
     let g = checked-fine (a .ellipsis .now) (a .ellipsis-entries .now) (a .ellipsis-text .now) (y .0 .0) (l .result) (y .1) (l .ensures .0) (l .ensures .1 .0) (l .ensures .1 .1) in
     omega (arith, f .data-short, g .data-short)
 
--- src/lib.rt:401:9
 plus-if-requires : tie.Need-plus-if-requires
 plus-if-requires c κs =
     let a = c .before .before .before .before .before .before .before .before .before .before .before .before .before .before .before .before .before .before .before .before .before .before .before .args in
@@ -109,7 +96,6 @@ plus-if-requires c κs =
     let g = checked-fine (a .ellipsis .now) (a .ellipsis-entries .now) (a .ellipsis-text .now) (y .0 .0) (l .result) (y .1) (l .ensures .0) (l .ensures .1 .0) (l .ensures .1 .1) in
     omega (arith, f .entries-short, g .entries-short)
 
--- src/lib.rt:402:9
 plus-if-requires-2 : tie.Need-plus-if-requires-2
 plus-if-requires-2 c κs =
     let a = c .before .before .before .before .before .before .before .before .before .before .before .before .before .before .before .before .before .before .before .before .before .before .before .before .args in
@@ -122,15 +108,12 @@ plus-if-requires-2 c κs =
     let g = checked-fine (a .ellipsis .now) (a .ellipsis-entries .now) (a .ellipsis-text .now) (y .0 .0) (l .result) (y .1) (l .ensures .0) (l .ensures .1 .0) (l .ensures .1 .1) in
     omega (arith, f .text-short, g .text-short)
 
--- src/lib.rt:399:9
 settle-requires : tie.Need-settle-requires
 settle-requires c κs = search needs
 
--- src/lib.rt:410:26
 enum-known-verdict : tie.Need-enum-known-verdict
 enum-known-verdict c = search needs
 
--- src/lib.rt:411:13
 returns-3 : tie.Need-returns-3
 unfolding secondFault replacementFault linesLeft
 returns-3 c =
@@ -151,7 +134,6 @@ returns-3 c =
 enum-told : tie.Need-enum-told
 enum-told c = search needs
 
--- src/lib.rt:415:9
 put-start-requires : tie.Need-put-start-requires
 unfolding secondFault replacementFault linesLeft
 put-start-requires c κs =
@@ -169,19 +151,15 @@ put-start-requires c κs =
     let z = c .before .before .before .enum-told .given in
     (f .whole, (g .whole, (m .ensures .1, room-left (a .content .now) (a .entries .now) (a .text .now) (a .ellipsis .now) (a .ellipsis-entries .now) (a .ellipsis-text .now) (a .bytes .now) (a .numbers .now) (a .texts .now) (truncateStart (a .max-width) (recording (a .ellipsis .now) (a .ellipsis-entries .now) (a .ellipsis-text .now))) (x .0 .0) f refl (y .0 .0) g refl refl (startItems (m .result) (recording (a .content .now) (a .entries .now) (a .text .now)) (recording (a .ellipsis .now) (a .ellipsis-entries .now) (a .ellipsis-text .now))) (start-items (a .max-width) (recording (a .content .now) (a .entries .now) (a .text .now)) (recording (a .ellipsis .now) (a .ellipsis-entries .now) (a .ellipsis-text .now)) (m .result) (m .ensures .0)) ((length (a .content .now) - m .result .content) + (length (a .ellipsis .now) - m .result .ellipsis)) (n .result) (u .result) (start-data (a .content .now) (a .entries .now) (a .text .now) (a .ellipsis .now) (a .ellipsis-entries .now) (a .ellipsis-text .now) (x .0 .0) (y .0 .0) f g (a .max-width) (m .result) (m .ensures .0)) (n .ensures ∙ start-count (a .content .now) (a .entries .now) (a .text .now) (a .ellipsis .now) (a .ellipsis-entries .now) (a .ellipsis-text .now) (x .0 .0) (y .0 .0) f g (a .max-width) (m .result)) (u .ensures ∙ start-text (a .content .now) (a .entries .now) (a .text .now) (a .ellipsis .now) (a .ellipsis-entries .now) (a .ellipsis-text .now) (x .0 .0) (y .0 .0) f g (a .max-width) (m .result)) (v .result) (v .ensures) (z .1))))
 
--- src/lib.rt:368:1
 same-length : tie.Need-same-length
 same-length c = search needs
 
--- src/lib.rt:368:1
 same-length-2 : tie.Need-same-length-2
 same-length-2 c = search needs
 
--- src/lib.rt:368:1
 same-length-3 : tie.Need-same-length-3
 same-length-3 c = search needs
 
--- src/lib.rt:368:1
 returns-4 : tie.Need-returns-4
 unfolding secondFault replacementFault linesLeft
 returns-4 c =

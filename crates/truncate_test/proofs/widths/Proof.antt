@@ -1,5 +1,4 @@
 -- Eight turns.
-use native.Mathlib.Omega.{arith}
 use borrow.Author.Needs.{needs}
 use Prim.Native.Nat.{_-_, _≤_}
 use Rattle.truncate_test.proofs.widths.Statement.{statement}

@@ -1,5 +1,4 @@
 -- Both are as long, and the loop stays within.
-use native.Mathlib.Omega.{arith}
 use borrow.Author.Needs.{needs}
 use lib.ListN.{length}
 use Prim.Native.Nat.{_-_, _≤_}

@@ -1,5 +1,4 @@
 -- Each turn stays within the line and passes one field.
-use native.Mathlib.Omega.{arith}
 use borrow.Author.Needs.{needs}
 use lib.ListN.{length}
 use Prim.Native.Nat.{_-_, _≤_}

@@ -1,5 +1,4 @@
 -- A line ends at or after its start, and there are no more lines than bytes.
-use native.Mathlib.Omega.{arith}
 use borrow.Author.Needs.{needs}
 use lib.ListN.{length}
 use Prim.Native.Nat.{_+_, _-_, _≤_}

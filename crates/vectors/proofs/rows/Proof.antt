@@ -1,5 +1,4 @@
 -- The loop stays within the table.
-use native.Mathlib.Omega.{arith}
 use borrow.Author.Needs.{needs}
 use Prim.Native.Nat.{_-_, _≤_}
 use Rattle.vectors.proofs.rows.Statement.{statement}

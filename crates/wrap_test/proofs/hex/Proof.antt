@@ -1,7 +1,7 @@
 -- Each number is there, and the loop ends.
 use native.Mathlib.Omega.{arith}
 use borrow.Author.Needs.{needs}
-use Prim.Native.Nat.{ℕ, _-_, _≤_}
+use Prim.Native.Nat.{_-_, _≤_}
 use lib.ListN.{length}
 use Rattle.wrap_test.proofs.hex.Statement.{statement}
 use Rattle.wrap_test.proofs.hex.Tie as tie

@@ -1,7 +1,7 @@
 -- A lent part is as long as its room.
 use native.Mathlib.Omega.{arith}
 use borrow.Author.Needs.{needs}
-use lib.ListN.{length, length-take}
+use lib.ListN.{length-take}
 use Rattle.wrap_test.proofs.record_into.Statement.{statement}
 use Rattle.wrap_test.proofs.record_into.Tie as tie
 use Rattle.wrap_test.proofs.record_into.Reads as reads

@@ -4,18 +4,18 @@ use borrow.Author.Needs.{needs}
 use Rattle.writer.proofs.Carry.{State, TurnRoom, room-turn, turn-wrote, bytes-wrote, add-nil, fits-now, long-now, whole, entry-place, ok, entry-is, fits-turn, step, front-last, finish}
 use Rattle.recording.proofs.ItemsLaws.{data-bytes}
 use Rattle.buffer.proofs.Laws.{length-part}
-use Rattle.writer.specs.Write.{Out, out, add, Fits, Ready, left, placeOf, itemAt}
+use Rattle.writer.specs.Write.{out, add, Fits, Ready, left, placeOf, itemAt}
 use Rattle.writer.specs.declared.Cursor.{Cursor}
 use Rattle.recording.specs.Refusals.{badShape}
-use Rattle.recording.specs.Edit.{front, back, entriesOnly}
+use Rattle.recording.specs.Edit.{front, back}
 use Rattle.recording.specs.Recording.{Item, byteItems, numbersOf, entriesOf, textOf, entriesFrom}
 use Rattle.recording.specs.declared.Entry.{Entry}
 use Rattle.buffer.specs.Place.{overAt, part}
-use lib.ListN.{length, take, drop}
-use mathlib.Core.Path.{_≡_, refl, sym, ap, _∙_}
-use mathlib.Core.List.{List, [], _∷_, _++_}
-use mathlib.Core.Bool.{true, false}
-use Prim.Native.Nat.{ℕ, _+_, _-_, _*_, _≤_, _<_}
+use lib.ListN.{length, drop}
+use mathlib.Core.Path.{_≡_, refl, ap, _∙_}
+use mathlib.Core.List.{List, [], _∷_}
+use mathlib.Core.Bool.{false}
+use Prim.Native.Nat.{ℕ, _+_, _-_, _≤_, _<_}
 use Rattle.writer.proofs.keep.Statement.{statement}
 use Rattle.writer.proofs.keep.Tie as tie
 use Rattle.writer.proofs.keep.Reads as reads
@@ -105,21 +105,17 @@ abbrev μ-loop : tie.MeasureT-loop
 μ-loop bytes₀ numbers₀ texts₀ content entries text n c₀ p₀ bytes numbers texts c p =
     length entries - c .k
 
--- src/lib.rt:134:9
 place-at-requires : tie.Need-place-at-requires Inv-loop μ-loop
 place-at-requires c κs = search needs
 
--- src/lib.rt:135:5
 loop-holds : tie.Need-loop-holds Inv-loop μ-loop
 loop-holds c =
     record { done = []; wrote = add-nil _; rest = refl; behind = refl; ready = c .before .before .before .before .before .before .before .pre .0; here = c .before .before .before .before .before .before .before .pre .1 .0 .0; next = c .place-at .ensures }
 
--- src/lib.rt:136:13
 entry-at-requires : tie.Need-entry-at-requires Inv-loop μ-loop
 entry-at-requires c κs =
     entire _ _ _ _ _ _ _ _ _ _ _ _ _ (c .before .loop .inv) (c .before .before .before .before .before .before .before .before .before .pre .1 .0 .1) (c .before .before .before .before .before .before .before .before .before .pre .1 .1) (c .loop-test .taken)
 
--- src/lib.rt:137:9
 put-bytes-requires : tie.Need-put-bytes-requires Inv-loop μ-loop
 put-bytes-requires c κs =
     let pre = c .before .before .before .before .before .before .before .before .before .before .before .pre in
@@ -128,27 +124,23 @@ put-bytes-requires c κs =
     let r = roomy _ _ _ _ _ _ _ _ _ _ _ _ _ (c .before .before .before .loop .inv) (pre .1 .0 .1) (pre .1 .1) more _ (c .before .entry-at .ensures) in
     (omega (arith, f .0, f .3), omega (arith, more, pre .1 .0 .1), r .dataBytes)
 
--- src/lib.rt:138:9
 put-entry-requires : tie.Need-put-entry-requires Inv-loop μ-loop
 put-entry-requires c κs =
     let pre = c .before .before .before .before .before .before .before .before .before .before .before .before .before .before .before .before .pre in
     asked _ _ _ _ _ _ _ _ _ _ _ _ _ (c .before .before .before .before .before .before .before .before .loop .inv) (pre .1 .0 .1) (pre .1 .1) (c .before .before .before .before .before .before .before .loop-test .taken) _ (c .before .before .before .before .before .before .entry-at .ensures) _ (c .before .before .before .before .put-bytes .ensures .0) (omega (arith, c .before .before .before .before .before .before .before .before .before .before .before .before .before .before .before .before .good))
 
--- src/lib.rt:139:9
 place-at-requires-2 : tie.Need-place-at-requires-2 Inv-loop μ-loop
 place-at-requires-2 c κs =
     let pre = c .before .before .before .before .before .before .before .before .before .before .before .before .before .before .before .before .before .before .before .before .before .pre in
     let w = entire _ _ _ _ _ _ _ _ _ _ _ _ _ (c .before .before .before .before .before .before .before .before .before .before .before .before .before .loop .inv) (pre .1 .0 .1) (pre .1 .1) (c .before .before .before .before .before .before .before .before .before .before .before .before .loop-test .taken) in
     omega (arith, w, c .before .before .before .before .before .before .before .before .before .put-bytes .ensures .0 .1, c .before .before .before .before .put-entry .ensures .0 .1)
 
--- src/lib.rt:135:5
 loop-less : tie.Need-loop-less Inv-loop μ-loop
 loop-less c =
     let pre = c .before .before .before .before .before .before .before .before .before .before .before .before .before .before .before .before .before .before .before .before .before .before .pre in
     let w = entire _ _ _ _ _ _ _ _ _ _ _ _ _ (c .before .before .before .before .before .before .before .before .before .before .before .before .before .before .loop .inv) (pre .1 .0 .1) (pre .1 .1) (c .before .before .before .before .before .before .before .before .before .before .before .before .before .loop-test .taken) in
     omega (arith, w, c .before .before .before .before .before .before .before .before .before .before .put-bytes .ensures .0 .1, c .before .before .before .before .before .put-entry .ensures .0 .1)
 
--- src/lib.rt:135:5
 loop-again : tie.Need-loop-again Inv-loop μ-loop
 loop-again c =
     let pre = c .before .before .before .before .before .before .before .before .before .before .before .before .before .before .before .before .before .before .before .before .before .before .pre in
@@ -156,29 +148,24 @@ loop-again c =
     let e = c .before .before .before .before .before .put-entry .ensures in
     turned _ _ _ _ _ _ _ _ _ _ _ _ _ (c .before .before .before .before .before .before .before .before .before .before .before .before .before .before .loop .inv) (pre .1 .0 .1) (pre .1 .1) (c .before .before .before .before .before .before .before .before .before .before .before .before .before .loop-test .taken) _ (c .before .before .before .before .before .before .before .before .before .before .before .before .entry-at .ensures) _ _ _ _ _ _ (b .1) (b .0) (e .0) (e .1 .0) (e .1 .1) (c .place-at2 .ensures)
 
--- src/lib.rt:141:5
 put-bytes-requires-2 : tie.Need-put-bytes-requires-2 Inv-loop μ-loop
 put-bytes-requires-2 c κs =
     let s = c .before .before .loop .inv in
     let pre = c .before .before .before .before .before .before .before .before .before .before .pre in
     (s .here, pre .1 .0 .1, last-room _ _ _ _ _ _ _ _ _ _ _ _ _ s (pre .1 .0 .1) (pre .1 .1) (c .before .loop-test .left))
 
--- src/lib.rt:116:1
 same-length : tie.Need-same-length Inv-loop μ-loop
 same-length c =
     c .before .before .put-bytes2 .kept .0 ∙ now-long _ _ _ _ _ _ _ _ _ _ _ _ _ (c .before .before .before .before .before .loop .inv) (c .before .before .before .before .before .before .before .before .before .before .before .before .before .pre .1 .0 .1) (c .before .before .before .before .before .before .before .before .before .before .before .before .before .pre .1 .1) .0
 
--- src/lib.rt:116:1
 same-length-2 : tie.Need-same-length-2 Inv-loop μ-loop
 same-length-2 c =
     now-long _ _ _ _ _ _ _ _ _ _ _ _ _ (c .before .before .before .before .before .loop .inv) (c .before .before .before .before .before .before .before .before .before .before .before .before .before .pre .1 .0 .1) (c .before .before .before .before .before .before .before .before .before .before .before .before .before .pre .1 .1) .1
 
--- src/lib.rt:116:1
 same-length-3 : tie.Need-same-length-3 Inv-loop μ-loop
 same-length-3 c =
     now-long _ _ _ _ _ _ _ _ _ _ _ _ _ (c .before .before .before .before .before .loop .inv) (c .before .before .before .before .before .before .before .before .before .before .before .before .before .pre .1 .0 .1) (c .before .before .before .before .before .before .before .before .before .before .before .before .before .pre .1 .1) .2
 
--- src/lib.rt:116:1
 returns : tie.Need-returns Inv-loop μ-loop
 returns c =
     let pre = c .before .before .before .before .before .before .before .before .before .before .before .before .before .pre in

@@ -3,39 +3,32 @@ use native.Mathlib.Omega.{arith}
 use borrow.Author.Needs.{needs}
 use Rattle.writer.specs.Write.{placeOf}
 use Rattle.recording.proofs.EntryLaws.{entries-few, entries-next}
-use lib.ListN.{length, drop, length-drop}
-use mathlib.Core.Path.{_≡_, refl, sym, ap, _∙_}
-use Prim.Native.Nat.{ℕ, suc, _+_, _-_, _≤_, _<_}
+use lib.ListN.{drop, length-drop}
+use Prim.Native.Nat.{_-_}
 use Rattle.writer.proofs.place_at.Statement.{statement}
 use Rattle.writer.proofs.place_at.Tie as tie
 use Rattle.writer.proofs.place_at.Reads as reads
 use Rattle.writer.proofs.place_at.Lts as lts
 
--- src/lib.rt:34:8
 sub-if1 : tie.Need-sub-if1
 sub-if1 c = search needs
 
--- src/lib.rt:35:9
 returns : tie.Need-returns
 unfolding placeOf
 returns c =
     let a = c .before .args in
     let z = entries-few (drop (a .k) (a .entries .now)) (omega (arith, length-drop (a .k) (a .entries .now), c .if1 .taken)) in rw z
 
--- src/lib.rt:37:5
 mul-result : tie.Need-mul-result
 mul-result c = search needs
 
--- src/lib.rt:37:5
 shared-slice-read-result : tie.Need-shared-slice-read-result
 shared-slice-read-result c = search needs
 
--- src/lib.rt:37:5
 cast-result : tie.Need-cast-result
 cast-result c =
     omega (arith, c .shared-slice-known .given (c .before .before .args .k))
 
--- src/lib.rt:30:1
 returns-2 : tie.Need-returns-2
 unfolding placeOf
 returns-2 c =

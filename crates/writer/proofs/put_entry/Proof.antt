@@ -2,7 +2,7 @@
 use native.Mathlib.Omega.{arith}
 use borrow.Author.Needs.{needs}
 use Rattle.writer.proofs.Laws.{entry-written, text-written}
-use mathlib.Core.Path.{_≡_, refl, _∙_}
+use mathlib.Core.Path.{refl, _∙_}
 use Rattle.writer.proofs.put_entry.Statement.{statement}
 use Rattle.writer.proofs.put_entry.Tie as tie
 use Rattle.writer.proofs.put_entry.Reads as reads
@@ -11,61 +11,47 @@ use Rattle.buffer.proofs.put.Reads as put-reads
 use Rattle.writer.proofs.set_entry.Reads as set-entry-reads
 use Rattle.writer.proofs.start_of.Reads as start-of-reads
 
--- src/lib.rt:93:17
 cast-start : tie.Need-cast-start
 cast-start c = search needs
 
--- src/lib.rt:94:23
 cast-end : tie.Need-cast-end
 cast-end c = search needs
 
--- src/lib.rt:94:15
 add-end : tie.Need-add-end
 add-end c = search needs
 
--- src/lib.rt:99:23
 cast-t13 : tie.Need-cast-t13
 cast-t13 c = search needs
 
--- src/lib.rt:101:37
 cast-start-of : tie.Need-cast-start-of
 cast-start-of c = search needs
 
--- src/lib.rt:101:20
 start-of-requires : tie.Need-start-of-requires
 start-of-requires c κs = search needs
 
--- src/lib.rt:95:5
 set-entry-requires : tie.Need-set-entry-requires
 set-entry-requires c κs = search needs
 
--- src/lib.rt:105:9
 put-requires : tie.Need-put-requires
 put-requires c κs = search needs
 
--- src/lib.rt:107:13
 cast-t9 : tie.Need-cast-t9
 cast-t9 c = search needs
 
--- src/lib.rt:108:12
 add-t19 : tie.Need-add-t19
 add-t19 c =
     omega (arith, c .before .before .before .before .before .before .before .before .before .before .before .before .before .before .before .before .before .before .pre)
 
--- src/lib.rt:110:12
 add-t20 : tie.Need-add-t20
 add-t20 c =
     omega (arith, c .before .before .before .before .before .before .before .before .before .before .before .before .before .before .before .before .before .before .before .pre, c .before .before .before .before .before .before .before .before .before .before .before .before .before .before .before .before .before .before .before .good)
 
--- src/lib.rt:78:1
 same-length : tie.Need-same-length
 same-length c = search needs
 
--- src/lib.rt:78:1
 same-length-2 : tie.Need-same-length-2
 same-length-2 c = search needs
 
--- src/lib.rt:78:1
 returns : tie.Need-returns
 returns c =
     let pre = c .before .before .before .before .before .before .before .before .before .before .before .before .before .before .before .before .before .before .before .pre in

@@ -5,7 +5,7 @@ use Rattle.writer.proofs.Steps.{front-start, ready-start, keep-all}
 use Rattle.writer.specs.Write.{out, add}
 use Rattle.recording.specs.Recording.{Item}
 use lib.ListN.{length}
-use mathlib.Core.Path.{_≡_, refl, ap, _∙_}
+use mathlib.Core.Path.{refl, ap, _∙_}
 use mathlib.Core.List.{List}
 use Rattle.writer.proofs.put_recording.Statement.{statement}
 use Rattle.writer.proofs.put_recording.Tie as tie
@@ -13,7 +13,6 @@ use Rattle.writer.proofs.put_recording.Reads as reads
 use Rattle.writer.proofs.put_recording.Lts as lts
 use Rattle.writer.proofs.keep.Reads as keep-reads
 
--- src/lib.rt:215:9
 keep-requires : tie.Need-keep-requires
 unfolding out
 keep-requires c κs =
@@ -21,19 +20,15 @@ keep-requires c κs =
     let e = front-start (s .content .now) (s .entries .now) (s .text .now) (record { at = 0; k = 0; d = s .c .d; e = s .c .e; t = s .c .t }) refl refl (length (s .content .now)) ∙ keep-all (s .content .now) (s .entries .now) (s .text .now) in
     (ready-start _ _ _ _ refl refl (c .before .before .before .before .before .before .before .before .before .pre .0), ((omega arith, omega arith), rw e (c .before .before .before .before .before .before .before .before .before .pre .1)))
 
--- src/lib.rt:194:1
 same-length : tie.Need-same-length
 same-length c = search needs
 
--- src/lib.rt:194:1
 same-length-2 : tie.Need-same-length-2
 same-length-2 c = search needs
 
--- src/lib.rt:194:1
 same-length-3 : tie.Need-same-length-3
 same-length-3 c = search needs
 
--- src/lib.rt:194:1
 returns : tie.Need-returns
 unfolding out
 returns c =

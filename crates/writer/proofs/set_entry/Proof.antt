@@ -8,58 +8,45 @@ use Rattle.writer.proofs.set_entry.Tie as tie
 use Rattle.writer.proofs.set_entry.Reads as reads
 use Rattle.writer.proofs.set_entry.Lts as lts
 
--- src/lib.rt:45:5
 mul-numbers : tie.Need-mul-numbers
 mul-numbers c = search needs
 
--- src/lib.rt:45:5
 slice-write-numbers : tie.Need-slice-write-numbers
 slice-write-numbers c = search needs
 
--- src/lib.rt:46:13
 add-numbers : tie.Need-add-numbers
 add-numbers c = search needs
 
--- src/lib.rt:46:5
 mul-numbers-2 : tie.Need-mul-numbers-2
 mul-numbers-2 c = search needs
 
--- src/lib.rt:46:5
 slice-write-numbers-2 : tie.Need-slice-write-numbers-2
 slice-write-numbers-2 c =
     simp length-set (omega arith)
 
--- src/lib.rt:47:13
 add-numbers-2 : tie.Need-add-numbers-2
 add-numbers-2 c = search needs
 
--- src/lib.rt:47:5
 mul-numbers-3 : tie.Need-mul-numbers-3
 mul-numbers-3 c = search needs
 
--- src/lib.rt:47:5
 slice-write-numbers-3 : tie.Need-slice-write-numbers-3
 slice-write-numbers-3 c =
     simp length-set (omega arith)
 
--- src/lib.rt:48:13
 add-numbers-3 : tie.Need-add-numbers-3
 add-numbers-3 c = search needs
 
--- src/lib.rt:48:5
 mul-numbers-4 : tie.Need-mul-numbers-4
 mul-numbers-4 c = search needs
 
--- src/lib.rt:48:5
 slice-write-numbers-4 : tie.Need-slice-write-numbers-4
 slice-write-numbers-4 c =
     simp length-set (omega arith)
 
--- src/lib.rt:41:1
 same-length : tie.Need-same-length
 same-length c = search needs
 
--- src/lib.rt:41:1
 returns : tie.Need-returns
 returns c =
     four-stores _ _ _ _ _ _ (c .pre)

@@ -2,18 +2,18 @@
 use native.Mathlib.Omega.{arith}
 use borrow.Author.Needs.{needs}
 use Rattle.writer.proofs.Carry.{State, TurnRoom, room-turn, turnItems, turn-wrote, bytes-wrote, over-none, add-nil, long-now, whole, ok, entry-is, fits-turn, step, finish, only-append, only-bytes, only-none, only-entry}
-use Rattle.writer.specs.Write.{Out, out, add, Fits, Ready, left, placeOf, itemAt}
+use Rattle.writer.specs.Write.{out, add, Fits, Ready, left, placeOf, itemAt}
 use Rattle.writer.specs.declared.Cursor.{Cursor}
 use Rattle.recording.specs.Refusals.{badShape}
 use Rattle.recording.specs.Edit.{front, back, entriesOnly}
-use Rattle.recording.specs.Recording.{Item, byteItems, numbersOf, entriesOf, textOf, entriesFrom}
+use Rattle.recording.specs.Recording.{Item, numbersOf, entriesOf, textOf, entriesFrom}
 use Rattle.recording.specs.declared.Entry.{Entry}
 use Rattle.buffer.specs.Place.{overAt, part}
-use lib.ListN.{length, take, drop}
+use lib.ListN.{length, drop}
 use mathlib.Core.Path.{_≡_, refl, sym, ap, _∙_}
-use mathlib.Core.List.{List, [], _∷_, _++_}
-use mathlib.Core.Bool.{true, false}
-use Prim.Native.Nat.{ℕ, _+_, _-_, _*_, _≤_, _<_}
+use mathlib.Core.List.{List, [], _∷_}
+use mathlib.Core.Bool.{false}
+use Prim.Native.Nat.{ℕ, _+_, _-_, _≤_, _<_}
 use Rattle.writer.proofs.skip.Statement.{statement}
 use Rattle.writer.proofs.skip.Tie as tie
 use Rattle.writer.proofs.skip.Reads as reads
@@ -84,56 +84,46 @@ abbrev μ-loop : tie.MeasureT-loop
 μ-loop bytes numbers₀ texts₀ content entries text n c₀ p₀ numbers texts c p =
     length entries - c .k
 
--- src/lib.rt:171:9
 place-at-requires : tie.Need-place-at-requires Inv-loop μ-loop
 place-at-requires c κs = search needs
 
--- src/lib.rt:172:5
 loop-holds : tie.Need-loop-holds Inv-loop μ-loop
 loop-holds c =
     record { done = []; wrote = add-nil _; rest = refl; behind = refl; ready = c .before .before .before .before .before .before .before .pre .0; here = c .before .before .before .before .before .before .before .pre .1 .0 .0; next = c .place-at .ensures }
 
--- src/lib.rt:173:13
 entry-at-requires : tie.Need-entry-at-requires Inv-loop μ-loop
 entry-at-requires c κs =
     entire _ _ _ _ _ _ _ _ _ _ _ _ (c .before .loop .inv) (c .before .before .before .before .before .before .before .before .before .pre .1 .0 .1) (c .before .before .before .before .before .before .before .before .before .pre .1 .1) (c .loop-test .taken)
 
--- src/lib.rt:174:9
 put-entry-requires : tie.Need-put-entry-requires Inv-loop μ-loop
 put-entry-requires c κs =
     let pre = c .before .before .before .before .before .before .before .before .before .before .before .before .pre in
     asked _ _ _ _ _ _ _ _ _ _ _ _ (c .before .before .before .before .loop .inv) (pre .1 .0 .1) (pre .1 .1) (c .before .before .before .loop-test .taken) _ (c .before .before .entry-at .ensures) (omega (arith, c .before .before .before .before .before .before .before .before .before .before .before .before .good))
 
--- src/lib.rt:175:9
 place-at-requires-2 : tie.Need-place-at-requires-2 Inv-loop μ-loop
 place-at-requires-2 c κs =
     let pre = c .before .before .before .before .before .before .before .before .before .before .before .before .before .before .before .before .before .pre in
     omega (arith, entire _ _ _ _ _ _ _ _ _ _ _ _ (c .before .before .before .before .before .before .before .before .before .loop .inv) (pre .1 .0 .1) (pre .1 .1) (c .before .before .before .before .before .before .before .before .loop-test .taken), c .before .before .before .before .put-entry .ensures .0 .1)
 
--- src/lib.rt:172:5
 loop-less : tie.Need-loop-less Inv-loop μ-loop
 loop-less c =
     let pre = c .before .before .before .before .before .before .before .before .before .before .before .before .before .before .before .before .before .before .pre in
     omega (arith, entire _ _ _ _ _ _ _ _ _ _ _ _ (c .before .before .before .before .before .before .before .before .before .before .loop .inv) (pre .1 .0 .1) (pre .1 .1) (c .before .before .before .before .before .before .before .before .before .loop-test .taken), c .before .before .before .before .before .put-entry .ensures .0 .1)
 
--- src/lib.rt:172:5
 loop-again : tie.Need-loop-again Inv-loop μ-loop
 loop-again c =
     let pre = c .before .before .before .before .before .before .before .before .before .before .before .before .before .before .before .before .before .before .pre in
     let e = c .before .before .before .before .before .put-entry .ensures in
     turned _ _ _ _ _ _ _ _ _ _ _ _ (c .before .before .before .before .before .before .before .before .before .before .loop .inv) (pre .1 .0 .1) (pre .1 .1) (c .before .before .before .before .before .before .before .before .before .loop-test .taken) _ (c .before .before .before .before .before .before .before .before .entry-at .ensures) _ _ _ _ (e .0) (e .1 .0) (e .1 .1) (c .place-at2 .ensures)
 
--- src/lib.rt:153:1
 same-length : tie.Need-same-length Inv-loop μ-loop
 same-length c =
     now-long _ _ _ _ _ _ _ _ _ _ _ _ (c .before .loop .inv) (c .before .before .before .before .before .before .before .before .before .pre .1 .0 .1) (c .before .before .before .before .before .before .before .before .before .pre .1 .1) .0
 
--- src/lib.rt:153:1
 same-length-2 : tie.Need-same-length-2 Inv-loop μ-loop
 same-length-2 c =
     now-long _ _ _ _ _ _ _ _ _ _ _ _ (c .before .loop .inv) (c .before .before .before .before .before .before .before .before .before .pre .1 .0 .1) (c .before .before .before .before .before .before .before .before .before .pre .1 .1) .1
 
--- src/lib.rt:153:1
 returns : tie.Need-returns Inv-loop μ-loop
 returns c =
     let e = ended _ _ _ _ _ _ _ _ _ _ _ _ (c .before .loop .inv) (c .before .before .before .before .before .before .before .before .before .pre .1 .0 .1) (c .before .before .before .before .before .before .before .before .before .pre .1 .1) (c .loop-test .left) _ (refl, refl, refl, refl, refl) in

@@ -1,6 +1,4 @@
 -- `start_of`: by the two cases of the kind.
-use native.Mathlib.Omega.{arith}
-use borrow.Author.Needs.{needs}
 use Rattle.writer.specs.Write.{startOf}
 use mathlib.Core.Path.{_≡_, refl}
 use Prim.Native.Nat.{ℕ, zero, suc}
@@ -15,13 +13,11 @@ other zero u h = refl
 other (suc zero) u h = absurd (h refl)
 other (suc (suc k)) u h = refl
 
--- src/lib.rt:56:9
 returns : tie.Need-returns
 unfolding startOf
 returns c =
     rw (c .if1 .taken)
 
--- src/lib.rt:52:1
 returns-2 : tie.Need-returns-2
 returns-2 c =
     other _ _ (c .if1 .left)
