@@ -1,4 +1,4 @@
--- The answer is `wellFormed`: every character so far is well-formed, so those from the place on decide.
+-- The answer is `wellFormed`: every character so far, those of the blocks first, is well-formed, so those from the place on decide.
 use native.Mathlib.Omega.{arith}
 use borrow.Author.Needs.{needs}
 use mathlib.Core.Path.{_≡_, refl, sym, ap, _∙_}
@@ -14,6 +14,7 @@ use Rattle.chars.proofs.well_formed.Tie as tie
 use Rattle.chars.proofs.well_formed.Reads as reads
 use Rattle.chars.proofs.well_formed.Lts as lts
 use Rattle.chars.proofs.seen_any.Reads as seen-any-reads
+use Rattle.chars.proofs.blocks_end.Reads as blocks-end-reads
 
 record So-far (s : List ℕ) (at : ℕ) : Type 0 where
   within : at ≤ length s
@@ -35,8 +36,10 @@ abbrev μ-loop : tie.MeasureT-loop
 μ-loop t s at₀ at = length s - at
 
 loop-holds : tie.Need-loop-holds Inv-loop μ-loop
-unfolding wellFormed
-loop-holds c = record { within = omega arith; rest = refl }
+loop-holds c = record { within = c .blocks-end .ensures .1; rest = c .blocks-end .ensures .0 }
+
+blocks-end-requires : tie.Need-blocks-end-requires Inv-loop μ-loop
+blocks-end-requires c κs = search needs
 
 shared-slice-read-if1 : tie.Need-shared-slice-read-if1 Inv-loop μ-loop
 shared-slice-read-if1 c = search needs
@@ -50,7 +53,7 @@ loop-less c = search needs
 loop-again : tie.Need-loop-again Inv-loop μ-loop
 loop-again c =
     let l = c .before .before .before in
-    let s = l .before .before .args .s .now in
+    let s = l .before .before .before .args .s .now in
     let at = l .loop .at in
     let ascii : getD s at 0 < 128 = omega (arith, c .if1 .taken) in
     let n = ok-next s at 1 (c .before .before .loop-test .taken) (sym (ascii-len s at ascii)) true (ascii-ok s at ascii) in
@@ -63,7 +66,7 @@ returns : tie.Need-returns Inv-loop μ-loop
 returns c =
     let l = c .before .before .before .before .before in
     let p = c .before .seen-any in
-    let s = l .before .before .args .s .now in
+    let s = l .before .before .before .args .s .now in
     let at = l .loop .at in
     let bad = is-false (charIn at s .ok) (omega (arith, p .ensures .0 .1)) in
     let n = ok-next s at _ (c .before .before .before .before .loop-test .taken) (p .ensures .0 .0) false bad in
@@ -79,7 +82,7 @@ loop-again-2 : tie.Need-loop-again-2 Inv-loop μ-loop
 loop-again-2 c =
     let l = c .before .before .before .before .before in
     let p = c .before .seen-any in
-    let s = l .before .before .args .s .now in
+    let s = l .before .before .before .args .s .now in
     let at = l .loop .at in
     let good = is-true (charIn at s .ok) (λ e. omega (arith, e, p .ensures .0 .1, c .if2 .left)) in
     let n = ok-next s at _ (c .before .before .before .before .loop-test .taken) (p .ensures .0 .0) true good in
@@ -88,7 +91,7 @@ loop-again-2 c =
 returns-2 : tie.Need-returns-2 Inv-loop μ-loop
 returns-2 c =
     let l = c .before in
-    sym (ap allOk (chars-end (l .before .before .args .s .now) (l .loop .at) (c .loop-test .left))) ∙ l .loop .inv .rest
+    sym (ap allOk (chars-end (l .before .before .before .args .s .now) (l .loop .at) (c .loop-test .left))) ∙ l .loop .inv .rest
 
 pub well-formed-spec : {M : Type 1} → statement M
 well-formed-spec =
@@ -96,6 +99,7 @@ well-formed-spec =
     (tie.spec
     Inv-loop
     μ-loop
+    blocks-end-requires
     loop-holds
     shared-slice-read-if1
     add-at
