@@ -11,12 +11,12 @@ use lib.ListN.{length, drop, getD}
 use borrow.Author.Tests.{leb-true, leb-false}
 use Rattle.chars.specs.Utf8.{Span, span, table37, rowOf}
 use Rattle.chars.specs.Leads.{columns}
-use Rattle.chars.specs.Chars.{charIn, chars, widthOf, allOk, wellFormed}
+use Rattle.chars.specs.Chars.{charIn, chars, allOk, wellFormed}
 use Rattle.chars.specs.Read.{readOf}
 use Rattle.chars.specs.declared.Read.{Read}
-use Rattle.chars.specs.Blocks.{Ended, Fits, fore, EndsAt, FitsAt, Fitting, Printable}
+use Rattle.chars.specs.Blocks.{Ended, Fits, fore, EndsAt, FitsAt, Fitting, Plain}
 use Rattle.chars.proofs.ReaderLaws.{good, readBy, read-by, read-in, two-bytes, three-bytes, four-bytes, in-span, above}
-use Rattle.chars.proofs.FoldLaws.{ascii-len, ascii-ok, plain, width-next, ok-next}
+use Rattle.chars.proofs.FoldLaws.{ascii-len, ascii-ok, ok-next}
 
 pub cond-le : (t : Bool) (p q n : ℕ) → p ≤ n → q ≤ n → cond t p q ≤ n
 cond-le true p q n h k = h
@@ -37,33 +37,16 @@ fits-by w x y z low high p q true o c l h f g e =
     }
 fits-by w x y z low high p q false o c l h f g e = record { lead = λ d. g e; more = λ d. absurd (d (c refl)) }
 
--- ── stretches
--- one place more of a stretch at whose places P holds
-pub all-more : (P : ℕ → Type 0) (a b : ℕ) → ((i : ℕ) → a ≤ i → i < b → P i) → P b → (i : ℕ) → a ≤ i → i < suc b → P i
-all-more P a b f g i p q = go (leb b i) refl
-  where
-    go : (t : Bool) → leb b i ≡ t → P i
-    go true e =
-        let k : b ≡ i = omega (arith, leb-true b i e, q) in
-        subst P k g
-    go false e = f i p (leb-false b i e)
-
--- printable bytes are as wide as they are many
-pub printable-run : (n : ℕ) (s : List ℕ) (at : ℕ) → at + n ≤ length s → Printable at (at + n) s → widthOf (chars (drop at s)) ≡ n + widthOf (chars (drop (at + n) s))
-printable-run zero s at h p =
-    let e : at ≡ at + 0 = omega arith in
-    ap (λ (m : ℕ). widthOf (chars (drop m s))) e ∙ omega arith
-printable-run (suc n) s at h p =
-    let b = p at (omega arith) (omega arith) in
-    let c = plain s at (b .0) (b .1) in
-    let w = width-next s at 1 1 (omega arith) (sym (c .0)) (sym (c .1)) in
-    let r = printable-run n s (at + 1) (omega arith) (λ i q u. p i (omega arith) (omega arith)) in
-    let e : at + 1 + n ≡ at + suc n = omega arith in
-    omega (arith, w, r, ap (λ (m : ℕ). widthOf (chars (drop m s))) e)
-
+-- ── stretches that fit
 module _ (s : List ℕ) where
-  fitting-more : (a b : ℕ) → Fitting a b s → FitsAt b s → Fitting a (suc b) s
-  fitting-more = all-more (λ (i : ℕ). FitsAt i s)
+  pub fitting-more : (a b : ℕ) → Fitting a b s → FitsAt b s → Fitting a (suc b) s
+  fitting-more a b f g i p q = go (leb b i) refl
+    where
+      go : (t : Bool) → leb b i ≡ t → FitsAt i s
+      go true e =
+          let k : b ≡ i = omega (arith, leb-true b i e, q) in
+          subst (λ (n : ℕ). FitsAt n s) k g
+      go false e = f i p (leb-false b i e)
 
   pub fitting-join : (a b c d : ℕ) → Fitting a b s → Fitting c d s → c ≤ b → Fitting a d s
   fitting-join a b c d f g h i p q = go (leb b i) refl
@@ -95,7 +78,7 @@ module _ (s : List ℕ) where
   first-three x y z = fitting-more 0 2 (fitting-more 0 1 (fitting-more 0 0 (λ i p q. absurd (omega arith)) x) y) z
 
   -- ASCII fits where no sequence is open, and opens none
-  pub plain-fits : (n a : ℕ) → EndsAt a s → ((i : ℕ) → a ≤ i → i < a + n → getD s i 0 < 128) → Fitting a (a + n) s
+  pub plain-fits : (n a : ℕ) → EndsAt a s → Plain a (a + n) s → Fitting a (a + n) s
   plain-fits zero a h p = λ i q r. absurd (omega (arith, q, r))
   plain-fits (suc n) a h p =
       let z : getD s a 0 < 128 = p a (omega arith) (omega arith) in

@@ -34,6 +34,6 @@ FitsAt i s = Fits (fore s i) (fore s (suc i)) (fore s (suc (suc i))) (getD s i 0
 abbrev pub Fitting : ℕ → ℕ → List ℕ → Type 0
 Fitting a b s = (i : ℕ) → a ≤ i → i < b → FitsAt i s
 
--- the bytes from a to b are printable ASCII, so that each is a character of width 1
-abbrev pub Printable : ℕ → ℕ → List ℕ → Type 0
-Printable a b s = (i : ℕ) → a ≤ i → i < b → (0x20 ≤ getD s i 0) × (getD s i 0 ≤ 0x7E)
+-- the bytes from a to b are ASCII
+abbrev pub Plain : ℕ → ℕ → List ℕ → Type 0
+Plain a b s = (i : ℕ) → a ≤ i → i < b → getD s i 0 < 128

@@ -5,14 +5,14 @@
 ghost use mathlib.Core.Path.{_≡_};
 ghost use mathlib.Core.Bool.{true, false, cond};
 ghost use mathlib.Core.List.{_∷_, [], tail};
-ghost use Prim.Native.Nat.{ℕ, _+_, _-_, _*_, _/_, _%_, _≤_, _<_};
+ghost use Prim.Native.Nat.{_+_, _-_, _*_, _/_, _%_, _≤_, _<_};
 ghost use lib.ListN.{length, drop, getD};
 ghost use Rattle.chars.specs.Utf8.{rowOf, within};
 ghost use Rattle.chars.specs.Leads.{leadTable, columns};
 ghost use Rattle.chars.specs.Width.{charWidth};
-ghost use Rattle.chars.specs.Chars.{charAt, charIn, chars, wide, widthOf, textWidth, allOk, wellFormed};
+ghost use Rattle.chars.specs.Chars.{charAt, charIn, chars, wide, textWidth, allOk, wellFormed};
 ghost use Rattle.chars.specs.Read.{readOf};
-ghost use Rattle.chars.specs.Blocks.{Ended, Fits, EndsAt, Fitting, Printable};
+ghost use Rattle.chars.specs.Blocks.{Ended, Fits, EndsAt, Fitting, Plain};
 ghost use Rattle.chars.specs.Cut.{truncateEndPos, truncateEndWidth, truncateStartPos, truncateStartWidth, zeroWidthLen};
 
 // What a byte says that leads a sequence: the sequence's length (0: it leads none) and the second byte's bounds.
@@ -274,84 +274,14 @@ pub fn seen_at(t: &[u16; 256], s: &[u8], at: usize) -> Seen
     Seen { len: 1, width: 1 }
 }
 
-fn larger(a: u8, b: u8) -> u8
-    ensures { λ r. ⌜ (a ≤ r) × (b ≤ r) ⌝ }
-{
-    if a < b {
-        return b;
-    }
-    a
-}
-
-// The largest of the 32 bytes from `at` on. No way out before the end: so the compiler does 16 at once.
-fn largest_byte(s: &[u8], at: usize) -> u8
-    requires { ⌜ at + 32 ≤ length (now s) ⌝ }
-    ensures { λ r. ⌜ ((i : ℕ) → at ≤ i → i < at + 32 → getD (now (s .entry)) i 0 ≤ r) ⌝ }
-{
-    let mut high: u8 = 0;
-    let mut i = 0;
-    while i < 32 {
-        high = larger(high, s[at + i]);
-        i += 1;
-    }
-    high
-}
-
-// 1 if z is outside the bounds, else 0.
-fn outside(low: u8, high: u8, z: u8) -> u8
-    ensures { λ r. ⌜ (r ≡ 0 → (low ≤ z) × (z ≤ high)) ⌝ }
-    ensures { λ r. ⌜ r ≤ 1 ⌝ }
-{
-    if z < low {
-        return 1;
-    }
-    if high < z {
-        return 1;
-    }
-    0
-}
-
-// Whether the 32 bytes from `at` on are printable ASCII.
-fn printable_block(s: &[u8], at: usize) -> bool
-    requires { ⌜ at + 32 ≤ length (now s) ⌝ }
-    ensures { λ r. ⌜ (r ≡ true → Printable at (at + 32) (now (s .entry))) ⌝ }
-{
-    let mut other: u8 = 0;
-    let mut i = 0;
-    while i < 32 {
-        other += outside(0x20, 0x7E, s[at + i]);
-        i += 1;
-    }
-    other == 0
-}
-
-// How far a text is printable ASCII, in blocks of 32 bytes: each of these is a character of width 1.
-// The largest byte is found at once, so other texts lose little.
-fn printable_end(s: &[u8]) -> usize
-    ensures { λ r. ⌜ r + widthOf (chars (drop r (now (s .entry)))) ≡ textWidth (now (s .entry)) ⌝ }
-    ensures { λ r. ⌜ r ≤ length (now (s .entry)) ⌝ }
-{
-    let mut at = 0;
-    while at + 32 <= s.len() {
-        if 0x7E < largest_byte(s, at) {
-            return at;
-        }
-        if !printable_block(s, at) {
-            return at;
-        }
-        at += 32;
-    }
-    at
-}
-
 // The width of a text.
 pub fn text_width(t: &[u16; 256], s: &[u8]) -> u64
     requires { ⌜ now t ≡ leadTable ⌝ }
     ensures { λ r. ⌜ r ≡ textWidth (now (s .entry)) ⌝ }
     ensures { λ r. ⌜ r ≤ 2 * length (now (s .entry)) ⌝ }
 {
-    let mut at = printable_end(s);
-    let mut sum = at as u64;
+    let mut at = 0;
+    let mut sum: u64 = 0;
     while at < s.len() {
         let c = seen_at(t, s, at);
         sum += c.width as u64;
@@ -383,6 +313,20 @@ fn second_high(y: u8) -> u8
         return 0x8F;
     }
     0xBF
+}
+
+// 1 if z is outside the bounds, else 0.
+fn outside(low: u8, high: u8, z: u8) -> u8
+    ensures { λ r. ⌜ (r ≡ 0 → (low ≤ z) × (z ≤ high)) ⌝ }
+    ensures { λ r. ⌜ r ≤ 1 ⌝ }
+{
+    if z < low {
+        return 1;
+    }
+    if high < z {
+        return 1;
+    }
+    0
 }
 
 // 1 if z leads no sequence, else 0.
@@ -461,12 +405,35 @@ fn fitting_block(s: &[u8], from: usize) -> bool
     bad == 0
 }
 
+fn larger(a: u8, b: u8) -> u8
+    ensures { λ r. ⌜ (a ≤ r) × (b ≤ r) ⌝ }
+{
+    if a < b {
+        return b;
+    }
+    a
+}
+
+// Whether the 32 bytes from `at` on are ASCII.
+fn plain_block(s: &[u8], at: usize) -> bool
+    requires { ⌜ at + 32 ≤ length (now s) ⌝ }
+    ensures { λ r. ⌜ (r ≡ true → Plain at (at + 32) (now (s .entry))) ⌝ }
+{
+    let mut high: u8 = 0;
+    let mut i = 0;
+    while i < 32 {
+        high = larger(high, s[at + i]);
+        i += 1;
+    }
+    high < 128
+}
+
 // Whether the 32 bytes from `at` on can follow those before them. ASCII is tested first: it takes a tenth of the time.
 fn block_fits(s: &[u8], at: usize) -> bool
     requires { ⌜ (3 ≤ at) × (at + 32 ≤ length (now s)) ⌝ }
     ensures { λ r. ⌜ (r ≡ true → Fitting at (at + 32) (now (s .entry))) ⌝ }
 {
-    if largest_byte(s, at) < 128 {
+    if plain_block(s, at) {
         return last_boundary(s, at - 3) == at;
     }
     fitting_block(s, at - 3)

@@ -12,10 +12,10 @@ use Rattle.chars.proofs.block_fits.Reads as reads
 use Rattle.chars.proofs.block_fits.Lts as lts
 use Rattle.chars.proofs.fitting_block.Reads as fitting-block-reads
 use Rattle.chars.proofs.last_boundary.Reads as last-boundary-reads
-use Rattle.chars.proofs.largest_byte.Reads as largest-byte-reads
+use Rattle.chars.proofs.plain_block.Reads as plain-block-reads
 
-largest-byte-requires : tie.Need-largest-byte-requires
-largest-byte-requires c κs = search needs
+plain-block-requires : tie.Need-plain-block-requires
+plain-block-requires c κs = search needs
 
 sub-last-boundary : tie.Need-sub-last-boundary
 sub-last-boundary c = search needs
@@ -28,7 +28,7 @@ returns c =
     let x = c .before .before .before .before .args in
     let b = c .last-boundary in
     let k : x .at - 3 + 3 ≡ x .at = omega arith in
-    λ e. plain-fits (x .s .now) 32 (x .at) (subst (λ (n : ℕ). EndsAt n (x .s .now)) k (b .ensures .0 .0 (omega (arith, k, eqb-true (b .result) (x .at) e)))) (λ i p q. omega (arith, c .before .before .largest-byte .ensures i p q, c .before .if1 .taken))
+    λ e. plain-fits (x .s .now) 32 (x .at) (subst (λ (n : ℕ). EndsAt n (x .s .now)) k (b .ensures .0 .0 (omega (arith, k, eqb-true (b .result) (x .at) e)))) (c .before .before .plain-block .ensures (c .before .if1 .taken))
 
 sub-fitting-block : tie.Need-sub-fitting-block
 sub-fitting-block c = search needs
@@ -43,7 +43,7 @@ pub block-fits-spec : {M : Type 1} → statement M
 block-fits-spec =
     tie.close
     (tie.spec
-    largest-byte-requires
+    plain-block-requires
     sub-last-boundary
     last-boundary-requires
     returns

@@ -1,4 +1,4 @@
--- The sum is `textWidth`: at each place, the sum so far, that of the printable blocks first, and the width of the characters from there on make it.
+-- The sum is `textWidth`: at each place, the sum so far and the width of the characters from there on make it.
 use native.Mathlib.Omega.{arith}
 use borrow.Author.Needs.{needs}
 use mathlib.Core.Path.{_≡_, ap}
@@ -13,7 +13,6 @@ use Rattle.chars.proofs.text_width.Tie as tie
 use Rattle.chars.proofs.text_width.Reads as reads
 use Rattle.chars.proofs.text_width.Lts as lts
 use Rattle.chars.proofs.seen_at.Reads as seen-at-reads
-use Rattle.chars.proofs.printable_end.Reads as printable-end-reads
 
 record So-far (s : List ℕ) (at sum : ℕ) : Type 0 where
   within : at ≤ length s
@@ -27,13 +26,9 @@ Inv-loop t s at₀ sum₀ at sum = So-far s at sum
 abbrev μ-loop : tie.MeasureT-loop
 μ-loop t s at₀ sum₀ at sum = length s - at
 
-printable-end-requires : tie.Need-printable-end-requires Inv-loop μ-loop
-printable-end-requires c κs = search needs
-
 loop-holds : tie.Need-loop-holds Inv-loop μ-loop
-loop-holds c =
-    let p = c .printable-end .ensures in
-    record { within = p .1; small = omega arith; whole = p .0 }
+unfolding textWidth
+loop-holds c = record { within = omega arith; small = omega arith; whole = omega arith }
 
 seen-at-requires : tie.Need-seen-at-requires Inv-loop μ-loop
 seen-at-requires c κs = search needs
@@ -54,13 +49,13 @@ loop-again : tie.Need-loop-again Inv-loop μ-loop
 loop-again c =
     let r = c .before .before .seen-at in
     let l = c .before .before .before .before in
-    let n = width-next (l .before .before .before .args .s .now) (l .loop .at) (r .result .len) (r .result .width) (c .before .before .before .loop-test .taken) (r .ensures .0 .0) (r .ensures .0 .1) in
+    let n = width-next (l .before .before .args .s .now) (l .loop .at) (r .result .len) (r .result .width) (c .before .before .before .loop-test .taken) (r .ensures .0 .0) (r .ensures .0 .1) in
     record { within = omega arith; small = omega arith; whole = omega (arith, n, l .loop .inv .whole) }
 
 returns : tie.Need-returns Inv-loop μ-loop
 returns c =
     let l = c .before in
-    let none = ap widthOf (chars-end (l .before .before .before .args .s .now) (l .loop .at) (c .loop-test .left)) in
+    let none = ap widthOf (chars-end (l .before .before .args .s .now) (l .loop .at) (c .loop-test .left)) in
     (omega (arith, none, l .loop .inv .whole), omega (arith, l .loop .inv .small, l .loop .inv .within))
 
 pub text-width-spec : {M : Type 1} → statement M
@@ -69,7 +64,6 @@ text-width-spec =
     (tie.spec
     Inv-loop
     μ-loop
-    printable-end-requires
     loop-holds
     seen-at-requires
     cast-sum

@@ -3,17 +3,30 @@ use native.Mathlib.Omega.{arith}
 use borrow.Author.Needs.{needs}
 use Prim.Native.Nat.{ℕ, _+_, _-_, _≤_, _<_}
 use mathlib.Core.List.{List}
+use mathlib.Core.Bool.{Bool, true, false}
+use mathlib.Core.Path.{_≡_, refl, subst}
+use lib.Dec.{leb}
 use lib.ListN.{getD}
-use Rattle.chars.proofs.BlockLaws.{all-more}
-use Rattle.chars.proofs.largest_byte.Statement.{statement}
-use Rattle.chars.proofs.largest_byte.Tie as tie
-use Rattle.chars.proofs.largest_byte.Reads as reads
-use Rattle.chars.proofs.largest_byte.Lts as lts
+use borrow.Author.Tests.{leb-true, leb-false, ltb-true}
+use Rattle.chars.proofs.plain_block.Statement.{statement}
+use Rattle.chars.proofs.plain_block.Tie as tie
+use Rattle.chars.proofs.plain_block.Reads as reads
+use Rattle.chars.proofs.plain_block.Lts as lts
 use Rattle.chars.proofs.larger.Reads as larger-reads
 
 record So-far (s : List ℕ) (at high i : ℕ) : Type 0 where
   within : i ≤ 32
   below : (k : ℕ) → at ≤ k → k < at + i → getD s k 0 ≤ high
+
+below-more : (s : List ℕ) (at high r i : ℕ) → ((k : ℕ) → at ≤ k → k < at + i → getD s k 0 ≤ high) → high ≤ r → getD s (at + i) 0 ≤ r
+    → (k : ℕ) → at ≤ k → k < at + (i + 1) → getD s k 0 ≤ r
+below-more s at high r i f p q k u v = go (leb (at + i) k) refl
+  where
+    go : (t : Bool) → leb (at + i) k ≡ t → getD s k 0 ≤ r
+    go true e =
+        let j : at + i ≡ k = omega (arith, leb-true (at + i) k e, v) in
+        subst (λ (n : ℕ). getD s n 0 ≤ r) j q
+    go false e = omega (arith, f k u (leb-false (at + i) k e), p)
 
 abbrev Inv-loop : tie.InvT-loop
 Inv-loop s at high₀ i₀ high i = So-far s at high i
@@ -44,14 +57,16 @@ loop-again c =
     let l = c .before .before .before in
     let x = l .before .before .args in
     let u = c .larger .ensures in
-    let k = all-more (λ (j : ℕ). getD (x .s .now) j 0 ≤ c .larger .result) (x .at) (x .at + l .loop .i) (λ j p q. omega (arith, l .loop .inv .below j p q, u .0)) (u .1) in
-    record { within = omega arith; below = λ j p q. k j p (omega (arith, q)) }
+    let k = below-more (x .s .now) (x .at) (l .loop .high) (c .larger .result) (l .loop .i) (l .loop .inv .below) (u .0) (u .1) in
+    record { within = omega arith; below = k }
 
 returns : tie.Need-returns Inv-loop μ-loop
-returns c = λ k p q. c .before .loop .inv .below k p (omega (arith, q, c .loop-test .left))
+returns c =
+    let l = c .before in
+    λ e k p q. omega (arith, ltb-true (l .loop .high) 128 e, l .loop .inv .below k p (omega (arith, q, c .loop-test .left)))
 
-pub largest-byte-spec : {M : Type 1} → statement M
-largest-byte-spec =
+pub plain-block-spec : {M : Type 1} → statement M
+plain-block-spec =
     tie.close
     (tie.spec
     Inv-loop
