@@ -476,12 +476,13 @@ fn blocks_end(s: &[u8]) -> usize
     last_boundary(s, n - 3)
 }
 
-// Whether each character of a text is well-formed.
-pub fn well_formed(t: &[u16; 256], s: &[u8]) -> bool
+// Whether each character from `from` on is well-formed.
+fn well_formed_from(t: &[u16; 256], s: &[u8], from: usize) -> bool
     requires { ⌜ now t ≡ leadTable ⌝ }
-    ensures { λ r. ⌜ r ≡ wellFormed (now (s .entry)) ⌝ }
+    requires { ⌜ from ≤ length (now s) ⌝ }
+    ensures { λ r. ⌜ r ≡ allOk (chars (drop from (now (s .entry)))) ⌝ }
 {
-    let mut at = blocks_end(s);
+    let mut at = from;
     while at < s.len() {
         if s[at] < 128 {
             at += 1;
@@ -494,6 +495,26 @@ pub fn well_formed(t: &[u16; 256], s: &[u8]) -> bool
         at += p / 8;
     }
     true
+}
+
+// Whether each character of a text is well-formed, by blocks first. It stays a call.
+pub fn long_well_formed(t: &[u16; 256], s: &[u8]) -> bool
+    requires { ⌜ now t ≡ leadTable ⌝ }
+    ensures { λ r. ⌜ r ≡ wellFormed (now (s .entry)) ⌝ }
+{
+    let at = blocks_end(s);
+    well_formed_from(t, s, at)
+}
+
+// Whether each character of a text is well-formed. Short texts, as labels are, pay for no call: this is small enough to be inlined.
+pub fn well_formed(t: &[u16; 256], s: &[u8]) -> bool
+    requires { ⌜ now t ≡ leadTable ⌝ }
+    ensures { λ r. ⌜ r ≡ wellFormed (now (s .entry)) ⌝ }
+{
+    if 35 <= s.len() {
+        return long_well_formed(t, &s[0..]);
+    }
+    well_formed_from(t, s, 0)
 }
 
 // A place in a text, and the width of the part that is kept.

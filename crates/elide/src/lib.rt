@@ -137,10 +137,10 @@ fn fault(t: &[u16; 256], text: &[u8], ellipsis: &[u8]) -> u8
     if LIMIT < ellipsis.len() {
         return 1;
     }
-    if !chars::well_formed(t, text) {
+    if !chars::long_well_formed(t, text) {
         return 7;
     }
-    if !chars::well_formed(t, ellipsis) {
+    if !chars::long_well_formed(t, ellipsis) {
         return 7;
     }
     0
