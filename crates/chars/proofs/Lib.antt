@@ -6,3 +6,4 @@ pub mod Leads
 pub mod ReaderLaws
 pub mod WidthLaws
 pub mod FoldLaws
+pub mod BlockLaws

@@ -1,15 +1,18 @@
 -- Cutting to max and then leaving characters until the ellipsis fits is one cut, to max less the ellipsis: so the code cuts once.
 -- The idea: both keep the longest stretch at the other side that is narrow enough.
-use Prim.Native.Nat.{ℕ, _+_, _-_, _≤_}
+use Prim.Native.Nat.{ℕ, _+_, _-_, _≤_, _<_}
 use native.Mathlib.Omega.{arith}
 use mathlib.Core.Bool.{Bool, true, false, cond}
 use mathlib.Core.Path.{_≡_, refl, sym, ap, _∙_}
 use mathlib.Core.List.{List, [], _∷_, _++_, reverse, reverse-reverse}
 use lib.Dec.{leb, ltb, eqb}
-use borrow.Author.Tests.{leb-false, leb-true, lt-leb, eq-eqb, ne-eqb, ltb-false}
+use lib.ListN.{length, drop, length-append}
+use lib.Seq.{drop-append-seam}
+use borrow.Author.Tests.{leb-false, leb-true, le-leb, lt-leb, eq-eqb, ne-eqb, ltb-false}
 use Rattle.chars.specs.Chars.{Character, chars, bytesOf, wide, widthOf, textWidth}
-use Rattle.chars.specs.Cut.{keptWithin}
-use Rattle.chars.proofs.CutLaws.{longest, kept-back, kept-within, width-reverse}
+use Rattle.chars.specs.Cut.{keptWithin, truncateEndPos, truncateEndWidth}
+use Rattle.chars.proofs.CharsLaws.{Valid, bytes-chars, bytes-append, width-append, valid-chars, valid-suffix, chars-rest}
+use Rattle.chars.proofs.CutLaws.{longest, keptRest, split-kept, kept-back, kept-within, width-reverse}
 use Rattle.recording.specs.Recording.{Bytes}
 use Rattle.elide.specs.Elide.{leaving, cutAtStart, fitAtEnd, fitAtStart, elideEnd, elideStart, elided, trimmed}
 
@@ -59,6 +62,66 @@ fit-end m e cs =
     let w : widthOf kept - (m - e) ≡ widthOf (reverse kept) - (m - e) = omega (arith, width-reverse kept) in
     ap (λ (n : ℕ). reverse (leaving n (reverse kept))) w ∙ ap reverse (leaving-longest (m - e) (reverse kept)) ∙ sym (kept-back (m - e) (reverse kept))
     ∙ ap (keptWithin (m - e)) (reverse-reverse kept) ∙ kept-twice (m - e) m cs (omega arith)
+
+-- ── a cut that goes on from a narrower one
+kept-on : (a m : ℕ) (cs : List Character) → a ≤ m → keptWithin m cs ≡ keptWithin a cs ++ keptWithin (m - widthOf (keptWithin a cs)) (keptRest a cs)
+kept-on a m [] h = refl
+kept-on a m (c ∷ cs) h = go (leb (wide c) a) refl (kept-on (a - wide c) (m - wide c) cs (omega arith))
+  where
+    go : (t : Bool) → leb (wide c) a ≡ t
+        → keptWithin (m - wide c) cs ≡ keptWithin (a - wide c) cs ++ keptWithin ((m - wide c) - widthOf (keptWithin (a - wide c) cs)) (keptRest (a - wide c) cs)
+        → cond (leb (wide c) m) (c ∷ keptWithin (m - wide c) cs) []
+        ≡ cond t (c ∷ keptWithin (a - wide c) cs) [] ++ keptWithin (m - widthOf (cond t (c ∷ keptWithin (a - wide c) cs) [])) (cond t (keptRest (a - wide c) cs) (c ∷ cs))
+    go true e ih =
+        let w : ℕ = widthOf (keptWithin (a - wide c) cs) in
+        let k : (m - wide c) - w ≡ m - (wide c + w) = omega arith in
+        simp (le-leb (wide c) m (omega (arith, leb-true (wide c) a e))) (ap (λ (l : List Character). c ∷ l) (ih ∙ ap (λ (n : ℕ). keptWithin (a - wide c) cs ++ keptWithin n (keptRest (a - wide c) cs)) k))
+    go false e ih = let k : m - 0 ≡ m = omega arith in rw k
+
+-- the place and the width of a cut, from those of a narrower one and those of the cut of the rest
+pub cut-on : (a m : ℕ) (s : Bytes) → a ≤ m
+    → (truncateEndPos m s ≡ truncateEndPos a s + truncateEndPos (m - truncateEndWidth a s) (drop (truncateEndPos a s) s))
+    × (truncateEndWidth m s ≡ truncateEndWidth a s + truncateEndWidth (m - truncateEndWidth a s) (drop (truncateEndPos a s) s))
+unfolding truncateEndPos truncateEndWidth
+cut-on a m s h =
+    let xs : List Character = keptWithin a (chars s) in
+    let ys : List Character = keptRest a (chars s) in
+    let e : chars s ≡ xs ++ ys = split-kept a (chars s) in
+    let rest : chars (drop (length (bytesOf xs)) s) ≡ ys =
+    ap chars (ap (drop (length (bytesOf xs))) (sym (bytes-chars s) ∙ ap bytesOf e ∙ bytes-append xs ys) ∙ drop-append-seam (bytesOf xs) (bytesOf ys)) ∙ chars-rest s xs ys e in
+    let k : keptWithin m (chars s) ≡ xs ++ keptWithin (m - widthOf xs) (chars (drop (length (bytesOf xs)) s)) =
+    kept-on a m (chars s) h ∙ ap (λ (l : List Character). xs ++ keptWithin (m - widthOf xs) l) (sym rest) in
+    let zs : List Character = keptWithin (m - widthOf xs) (chars (drop (length (bytesOf xs)) s)) in
+    (ap (λ (l : List Character). length (bytesOf l)) k ∙ ap length (bytes-append xs zs) ∙ length-append (bytesOf xs) (bytesOf zs), ap widthOf k ∙ width-append xs zs)
+
+-- ── a text fits if its cut reaches its end
+kept-whole : (m : ℕ) (cs : List Character) → widthOf cs ≤ m → keptWithin m cs ≡ cs
+kept-whole m [] h = refl
+kept-whole m (c ∷ cs) h = rw (le-leb (wide c) m (omega arith), kept-whole (m - wide c) cs (omega arith))
+
+pub fits-whole : (m : ℕ) (s : Bytes) → textWidth s ≤ m → (truncateEndPos m s ≡ length s) × (truncateEndWidth m s ≡ textWidth s)
+unfolding truncateEndPos truncateEndWidth textWidth
+fits-whole m s h = let k = kept-whole m (chars s) h in (ap (λ (l : List Character). length (bytesOf l)) k ∙ ap length (bytes-chars s), ap widthOf k)
+
+pub reaches-end : (m : ℕ) (s : Bytes) → truncateEndPos m s ≡ length s → textWidth s ≤ m
+unfolding truncateEndPos textWidth
+reaches-end m s h = go (keptRest m (chars s)) (split-kept m (chars s))
+  where
+    go : (ys : List Character) → chars s ≡ keptWithin m (chars s) ++ ys → widthOf (chars s) ≤ m
+    go [] e = omega (arith, ap widthOf e, width-append (keptWithin m (chars s)) [], kept-within m (chars s))
+    go (y ∷ ys) e =
+        let kept : List Character = keptWithin m (chars s) in
+        let v : Valid (y ∷ ys) = valid-suffix kept (y ∷ ys) (rw e at (valid-chars s)) in
+        let n : length s ≡ length (bytesOf kept) + length (y .text ++ bytesOf ys) =
+        ap length (sym (bytes-chars s) ∙ ap bytesOf e ∙ bytes-append kept (y ∷ ys)) ∙ length-append (bytesOf kept) (y .text ++ bytesOf ys) in
+        absurd (omega (arith, n, h, length-append (y .text) (bytesOf ys), ap length (v .0 .text)))
+
+pub passes-max : (m : ℕ) (s : Bytes) → (truncateEndPos m s ≡ length s → ⊥) → m < textWidth s
+passes-max m s h = go (leb (textWidth s) m) refl
+  where
+    go : (t : Bool) → leb (textWidth s) m ≡ t → m < textWidth s
+    go true e = absurd (h (fits-whole m s (leb-true (textWidth s) m e) .0))
+    go false e = leb-false (textWidth s) m e
 
 -- no result is wider than max
 longest-within : (m : ℕ) (cs : List Character) → widthOf (longest m cs) ≤ m

@@ -39,23 +39,25 @@ fn trimmed_pos(t: &[u16; 256], s: &[u8], total: u64, max: u64) -> chars::Cut
 }
 
 // The text's part comes first. The text is cut once, to max less the ellipsis: that leaves what the Rust's two cuts leave.
+// A text fits if its cut to max reaches its end. The second cut goes on from the first, so nothing is read twice, and nothing behind max.
 fn pieces_end(t: &[u16; 256], text: &[u8], ellipsis: &[u8], max: u64) -> Pieces
     requires { ⌜ now t ≡ leadTable ⌝ }
     ensures { λ r. ⌜ (part (r .from) (r .to) (now (text .entry)) ++ part (r .begin) (r .end) (now (ellipsis .entry)) ≡ elideEnd max (now (text .entry)) (now (ellipsis .entry)) .text) × (r .width ≡ elideEnd max (now (text .entry)) (now (ellipsis .entry)) .columns) ⌝ }
     ensures { λ r. ⌜ (r .from ≤ r .to) × (r .to ≤ length (now (text .entry))) × (r .begin ≤ r .end) × (r .end ≤ length (now (ellipsis .entry))) ⌝ }
 {
-    let width = chars::text_width(t, text);
-    if width <= max {
-        return Pieces {
-            from: 0,
-            to: text.len(),
-            begin: 0,
-            end: 0,
-            width: width,
-        };
-    }
+    let n = text.len();
     let mark = chars::text_width(t, ellipsis);
     if max < mark {
+        let all = chars::truncate_end_pos(t, text, max);
+        if all.pos == n {
+            return Pieces {
+                from: 0,
+                to: n,
+                begin: 0,
+                end: 0,
+                width: all.width,
+            };
+        }
         let k = chars::truncate_end_pos(t, ellipsis, max);
         return Pieces {
             from: 0,
@@ -66,9 +68,20 @@ fn pieces_end(t: &[u16; 256], text: &[u8], ellipsis: &[u8], max: u64) -> Pieces
         };
     }
     let k = chars::truncate_end_pos(t, text, max - mark);
+    let at = k.pos;
+    let more = chars::truncate_end_pos(t, &text[at..], max - k.width);
+    if at + more.pos == n {
+        return Pieces {
+            from: 0,
+            to: n,
+            begin: 0,
+            end: 0,
+            width: k.width + more.width,
+        };
+    }
     Pieces {
         from: 0,
-        to: k.pos,
+        to: at,
         begin: 0,
         end: ellipsis.len(),
         width: k.width + mark,
@@ -124,10 +137,10 @@ fn fault(t: &[u16; 256], text: &[u8], ellipsis: &[u8]) -> u8
     if LIMIT < ellipsis.len() {
         return 1;
     }
-    if !chars::well_formed(t, text) {
+    if !chars::long_well_formed(t, text) {
         return 7;
     }
-    if !chars::well_formed(t, ellipsis) {
+    if !chars::long_well_formed(t, ellipsis) {
         return 7;
     }
     0
