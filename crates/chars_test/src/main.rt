@@ -253,6 +253,23 @@ fn trims() {
     trim(b"\xCC");
 }
 
+// Texts of 35 bytes and more are checked in blocks: ASCII, wide, a sequence across the end of a block; then a byte too many, a sequence that is cut off, a surrogate, a lead byte at the end.
+fn blocks() {
+    show(b"abcdefghijklmnopqrstuvwxyz0123456789");
+    show(
+        b"\xE6\x9C\xA8\xE6\x9C\xA8\xE6\x9C\xA8\xE6\x9C\xA8\xE6\x9C\xA8\xE6\x9C\xA8\xE6\x9C\xA8\xE6\x9C\xA8\xE6\x9C\xA8\xE6\x9C\xA8\xE6\x9C\xA8\xE6\x9C\xA8",
+    );
+    show(b"abcdefghijklmnopqrstuvwxyz0123456\xF0\x9F\x8C\xB2");
+    show(b"abcdefghijklmnopqrst\x80uvwxyz01234567");
+    show(
+        b"\xE6\x9C\xA8\xE6\x9C\xA8\xE6\x9C\xA8\xE6\x9C\xA8\xE6\x9C\xA8\xE6\x9C\xA8\xE6\x9C\xA8\xE6\x9C\xA8\xE6\x9C\xA8\xE6\x9C\xA8\xE6\x9C\xA8\xE6\x9C",
+    );
+    show(
+        b"\xE6\x9C\xA8\xE6\x9C\xA8\xE6\x9C\xA8\xE6\x9C\xA8\xE6\x9C\xA8\xE6\x9C\xA8\xE6\x9C\xA8\xE6\x9C\xA8\xE6\x9C\xA8\xE6\x9C\xA8\xE6\x9C\xA8\xED\xA0\x80",
+    );
+    show(b"abcdefghijklmnopqrstuvwxyz01234567\xC3");
+}
+
 fn main() {
     ill_formed();
     rows();
@@ -264,4 +281,5 @@ fn main() {
     wide_ranges();
     cuts();
     trims();
+    blocks();
 }
