@@ -3,7 +3,7 @@
 use Prim.Native.Nat.{ℕ, zero, suc, _+_, _-_, _≤_, _<_}
 use native.Mathlib.Omega.{arith}
 use native.Mathlib.Numerals.{add-one, add-two, add-three}
-use mathlib.Core.Bool.{Bool, true, false, cond, _&&_}
+use mathlib.Core.Bool.{Bool, true, false, cond}
 use mathlib.Core.Path.{_≡_, refl, sym, ap, _∙_, subst}
 use mathlib.Core.List.{List, [], _∷_, tail}
 use lib.Dec.{leb, T}
@@ -14,7 +14,7 @@ use Rattle.chars.specs.Leads.{columns}
 use Rattle.chars.specs.Chars.{charIn, chars, allOk, wellFormed}
 use Rattle.chars.specs.Read.{readOf}
 use Rattle.chars.specs.declared.Read.{Read}
-use Rattle.chars.specs.Blocks.{Ended, Fits, fore, EndsAt, FitsAt, Fitting, Plain}
+use Rattle.chars.specs.Blocks.{Ended, Fits, EndsAt, FitsAt, Fitting, Plain}
 use Rattle.chars.proofs.ReaderLaws.{good, readBy, read-by, read-in, two-bytes, three-bytes, four-bytes, in-span, above}
 use Rattle.chars.proofs.FoldLaws.{ascii-len, ascii-ok, ok-next}
 

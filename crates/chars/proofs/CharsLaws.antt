@@ -10,7 +10,8 @@ use lib.ListN.{length, take, drop, getD, take-append-drop, length-drop, length-a
 use lib.Seq.{take-append-seam, length-take-le, drop-cons, drop-drop}
 use Rattle.chars.specs.Utf8.{Row, within, table37, leads, rowIn, rowOf, matched, tailLen, complete, codePoint}
 use Rattle.chars.specs.Width.{Range, ranges, widthIn, charWidth}
-use Rattle.chars.specs.Chars.{Character, charAt, charIn, charsFrom, chars, bytesOf, widthOf, textWidth}
+use Rattle.chars.specs.Chars.{Character, charAt, charIn, charsFrom, chars, bytesOf, widthOf}
+use Rattle.chars.proofs.Table.{and-left, and-right}
 
 -- ── the bytes of the characters
 pub bytes-from : (k : ℕ) (bs : List ℕ) → bytesOf (charsFrom k bs) ≡ drop k bs
@@ -123,11 +124,6 @@ pub width-append : (xs ys : List Character) → widthOf (xs ++ ys) ≡ widthOf x
 width-append [] ys = omega arith
 width-append (x ∷ xs) ys = omega (arith, width-append xs ys)
 
--- the width of a text is that of its beginning and that of its rest, where it is cut at a character's place
-pub width-cut : (s : List ℕ) (xs ys : List Character) → chars s ≡ xs ++ ys → textWidth s ≡ textWidth (bytesOf xs) + textWidth (bytesOf ys)
-unfolding textWidth
-width-cut s xs ys e = rw (e, chars-beginning s xs ys e, chars-rest s xs ys e) (width-append xs ys)
-
 -- ── one character further
 -- the characters after some bytes that belong to a character before
 pub chars-skip : (k : ℕ) (bs : List ℕ) → charsFrom k bs ≡ chars (drop k bs)
@@ -163,12 +159,6 @@ allShort (r ∷ rs) = leb (length r) 4 && allShort rs
 abbrev allNarrow : List Range → Bool
 allNarrow [] = true
 allNarrow (r ∷ rs) = leb (r .columns) 2 && allNarrow rs
-
-and-left : (a b : Bool) → T (a && b) → T a
-and-left true b t = tt
-
-and-right : (a b : Bool) → T (a && b) → T b
-and-right true b t = t
 
 row-short : (rs : List Row) (b : ℕ) → T (allShort rs) → length (rowIn rs b) ≤ 4
 row-short [] b h = omega arith

@@ -54,6 +54,10 @@ kept-within m (c ∷ cs) = go (leb (wide c) m) refl (kept-within (m - wide c) cs
     go false e h = omega arith
 
 -- ── the greedy choice from the end
+pub kept-whole : (m : ℕ) (cs : List Character) → widthOf cs ≤ m → keptWithin m cs ≡ cs
+kept-whole m [] h = refl
+kept-whole m (c ∷ cs) h = rw (le-leb (wide c) m (omega arith), kept-whole (m - wide c) cs (omega arith))
+
 kept-all : (m : ℕ) (xs ys : List Character) → widthOf xs ≤ m → keptWithin m (xs ++ ys) ≡ xs ++ keptWithin (m - widthOf xs) ys
 kept-all m [] ys h = let e : m - 0 ≡ m = omega arith in rw e
 kept-all m (x ∷ xs) ys h =
@@ -73,9 +77,9 @@ pub width-reverse : (cs : List Character) → widthOf (reverse cs) ≡ widthOf c
 width-reverse [] = refl
 width-reverse (c ∷ cs) = ap widthOf (reverse-cons c cs) ∙ omega (arith, width-append (reverse cs) (c ∷ []), width-reverse cs)
 
-longest-all : (m : ℕ) (cs : List Character) → widthOf cs ≤ m → longest m cs ≡ cs
-longest-all m [] h = refl
-longest-all m (c ∷ cs) h = rw (le-leb (wide c + widthOf cs) m h)
+pub longest-whole : (m : ℕ) (cs : List Character) → widthOf cs ≤ m → longest m cs ≡ cs
+longest-whole m [] h = refl
+longest-whole m (c ∷ cs) h = rw (le-leb (wide c + widthOf cs) m h)
 
 -- from the last character back = the longest ending
 pub kept-back : (m : ℕ) (cs : List Character) → keptWithin m (reverse cs) ≡ reverse (longest m cs)
@@ -90,7 +94,7 @@ kept-back m (c ∷ cs) = ap (λ (l : List Character). keptWithin m l) (reverse-c
     go false e true e′ ih =
         let k = leb-false (wide c + widthOf cs) m e in
         let k′ = leb-true (widthOf cs) m e′ in
-        kept-all m (reverse cs) (c ∷ []) (omega (arith, width-reverse cs)) ∙ rw (lt-leb (wide c) (m - widthOf (reverse cs)) (omega (arith, width-reverse cs)), longest-all m cs k′) (append-nil (reverse cs))
+        kept-all m (reverse cs) (c ∷ []) (omega (arith, width-reverse cs)) ∙ rw (lt-leb (wide c) (m - widthOf (reverse cs)) (omega (arith, width-reverse cs)), longest-whole m cs k′) (append-nil (reverse cs))
     go false e false e′ ih = kept-part m (reverse cs) (c ∷ []) (omega (arith, width-reverse cs, leb-false (widthOf cs) m e′)) ∙ ih
 
 length-reverse : (cs : List Character) → length (bytesOf (reverse cs)) ≡ length (bytesOf cs)

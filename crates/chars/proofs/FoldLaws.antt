@@ -111,8 +111,3 @@ longest-next m s at n more e h =
     let k : chars (drop at s) ≡ charIn at s ∷ chars (drop (at + n) s) = rw e (char-next s at more) in
     let j : m < wide (charIn at s) + widthOf (chars (drop (at + n) s)) = rw k at h in
     rw (k, lt-leb (wide (charIn at s) + widthOf (chars (drop (at + n) s))) m j)
-
--- what is left is narrow enough, so it is kept
-pub longest-whole : (m : ℕ) (cs : List Character) → widthOf cs ≤ m → longest m cs ≡ cs
-longest-whole m [] h = refl
-longest-whole m (c ∷ cs) h = rw (le-leb (wide c + widthOf cs) m h)

@@ -15,7 +15,7 @@ use Rattle.chars.specs.Read.{readOf}
 use Rattle.chars.specs.declared.Read.{Read}
 use Rattle.chars.proofs.Table.{and-left, and-right}
 
-and-false : (t : Bool) → (t && false) ≡ false
+pub and-false : (t : Bool) → (t && false) ≡ false
 and-false true = refl
 and-false false = refl
 

@@ -13,6 +13,7 @@ use borrow.Author.Tests.{leb-true, le-leb, lt-leb, eq-eqb}
 use Rattle.chars.specs.Utf8.{Row, within, table37, leads, rowIn, rowOf, matched, tailLen, complete, begins, fills, anyRow, initialPart, wellFormedSequence, MaximalSubpart}
 use Rattle.chars.specs.Chars.{charAt}
 use Rattle.chars.proofs.CharsLaws.{matched-le, tail-le}
+use Rattle.chars.proofs.Table.{and-left, and-right}
 
 -- ── only the row of the lead byte counts
 abbrev above : ℕ → List Row → Bool
@@ -24,12 +25,6 @@ abbrev apart : List Row → Bool
 apart [] = true
 apart ([] ∷ rs) = false
 apart ((c ∷ cs) ∷ rs) = above (c .high) rs && apart rs
-
-and-left : (a b : Bool) → T (a && b) → T a
-and-left true b t = tt
-
-and-right : (a b : Bool) → T (a && b) → T b
-and-right true b t = t
 
 -- a test of rows that fails wherever b does not stand in the first column
 module _ (f : Row → Bool) (b : ℕ) (bad : (r : Row) → leads r b ≡ false → f r ≡ false) where

@@ -12,7 +12,7 @@ use borrow.Author.Tests.{leb-false, leb-true, le-leb, lt-leb, eq-eqb, ne-eqb, lt
 use Rattle.chars.specs.Chars.{Character, chars, bytesOf, wide, widthOf, textWidth}
 use Rattle.chars.specs.Cut.{keptWithin, truncateEndPos, truncateEndWidth}
 use Rattle.chars.proofs.CharsLaws.{Valid, bytes-chars, bytes-append, width-append, valid-chars, valid-suffix, chars-rest}
-use Rattle.chars.proofs.CutLaws.{longest, keptRest, split-kept, kept-back, kept-within, width-reverse}
+use Rattle.chars.proofs.CutLaws.{longest, keptRest, split-kept, kept-back, kept-within, width-reverse, kept-whole}
 use Rattle.recording.specs.Recording.{Bytes}
 use Rattle.elide.specs.Elide.{leaving, cutAtStart, fitAtEnd, fitAtStart, elideEnd, elideStart, elided, trimmed}
 
@@ -95,10 +95,6 @@ cut-on a m s h =
     (ap (λ (l : List Character). length (bytesOf l)) k ∙ ap length (bytes-append xs zs) ∙ length-append (bytesOf xs) (bytesOf zs), ap widthOf k ∙ width-append xs zs)
 
 -- ── a text fits if its cut reaches its end
-kept-whole : (m : ℕ) (cs : List Character) → widthOf cs ≤ m → keptWithin m cs ≡ cs
-kept-whole m [] h = refl
-kept-whole m (c ∷ cs) h = rw (le-leb (wide c) m (omega arith), kept-whole (m - wide c) cs (omega arith))
-
 pub fits-whole : (m : ℕ) (s : Bytes) → textWidth s ≤ m → (truncateEndPos m s ≡ length s) × (truncateEndWidth m s ≡ textWidth s)
 unfolding truncateEndPos truncateEndWidth textWidth
 fits-whole m s h = let k = kept-whole m (chars s) h in (ap (λ (l : List Character). length (bytesOf l)) k ∙ ap length (bytes-chars s), ap widthOf k)

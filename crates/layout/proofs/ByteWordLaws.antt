@@ -151,14 +151,6 @@ runs-unrun r [] o c s = runs-step r [] refl (o .0) c s
 runs-unrun r (q ∷ rs) o c s = runs-step r (q ∷ rs) (runs-unrun q rs (o .1) (c .1) (inl (c .0 .1))) (o .0) c s
 
 -- the first word of a line, as the document says it: t runs to the next 20, n bytes 20 come after it, and y does not begin with one
-pub first-not-space : (y : List ℕ) → AllOf NoNewline y → ((b : ℕ) (z : List ℕ) → y ≡ b ∷ z → eqb b 0x20 ≡ false) → FirstText (byteWords y)
-first-not-space [] h f = tt
-first-not-space (b ∷ y) h f = rw (f b y refl) (go (byteWords y))
-  where
-    go : (rs : List ByteWord) → FirstText (byteBefore b rs)
-    go [] = refl
-    go (w ∷ ws) = refl
-
 pub runs-word : (t : List ℕ) (n : ℕ) (y : List ℕ) → AllOf Inner t → FirstText (byteWords y) → ((0 < n) ⊎ ((y ≡ []) × (isNil t ≡ false))) → byteWords (t ++ (spaces n ++ y)) ≡ byteWord t n ∷ byteWords y
 runs-word t zero y h f (inl z) = absurd (omega arith)
 runs-word t (suc n) y h f (inl z) = runs-text t (spaces (suc n) ++ y) h ∙ ap (λ (l : List ByteWord). addText t l) (runs-spaces (suc n) y f) ∙ add-some t (suc n) (byteWords y)

@@ -27,9 +27,6 @@ firstOf-zero n ns h = go (eqb n 0) refl h
     go true e g = (eqb-true n 0 e, g)
     go false e g = absurd (eqb-false n 0 e g)
 
-pub firstOf-more : (n : ℕ) (ns : List ℕ) → n ≡ 0 → firstOf ns ≡ 0 → firstOf (n ∷ ns) ≡ 0
-firstOf-more n ns e g = rw e g
-
 pub refuseIf-zero : (b : Bool) (n : ℕ) → refuseIf b (suc n) ≡ 0 → b ≡ false
 refuseIf-zero true n h = absurd (omega arith)
 refuseIf-zero false n h = refl

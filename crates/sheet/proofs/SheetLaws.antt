@@ -10,6 +10,7 @@ use lib.Seq.{take-suc, drop-cons, set-at, append-snoc, length-take-le}
 use borrow.Author.Tests.{le-leb, lt-leb, eq-eqb, ne-eqb, lt-ltb, le-ltb, ltb-true, ltb-false}
 use native.Mathlib.Numerals.{add-one}
 use Rattle.chars.specs.Utf8.{within}
+use Rattle.chars.proofs.ReaderLaws.{and-false}
 use Rattle.recording.specs.Recording.{Bytes, isNil}
 use Rattle.sheet.specs.Sheet.{upTo, after, sheetLine, ontoLine, sheetLines, isDigit, allDigits, valueFrom, noLeadingZero, smallDigits, isBreak, breakOf, nibble, isHex, allHex, fromPairs, isDash}
 
@@ -100,10 +101,6 @@ module _ (s : Bytes) (i : ℕ) (more : i < length s) where
 
 pub value-big : (n : ℕ) (s : Bytes) → 4294967295 < n → leb (valueFrom n s) 4294967295 ≡ false
 value-big n s h = lt-leb (valueFrom n s) 4294967295 (omega (arith, value-grows n s))
-
-and-false : (t : Bool) → (t && false) ≡ false
-and-false true = refl
-and-false false = refl
 
 -- digits that are none, or too large, have no value; the others have theirs
 pub not-digits : (s : Bytes) → allDigits s ≡ false → 4294967296 ≡ cond (smallDigits s) (valueFrom 0 s) 4294967296

@@ -9,8 +9,8 @@ use lib.Dec.{leb, ltb, eqb}
 use lib.ListN.{length, drop, length-drop}
 use borrow.Author.Tests.{le-leb, eqb-true}
 use Rattle.chars.specs.Chars.{Character, chars, bytesOf, wide, widthOf}
-use Rattle.chars.specs.Cut.{keptWithin}
 use Rattle.chars.proofs.CharsLaws.{bytes-chars, valid-chars, width-bound}
+use Rattle.chars.proofs.CutLaws.{kept-whole}
 use Rattle.recording.specs.Refusals.{dataLimit}
 use Rattle.layout.specs.Wrap.{Line, wrapLines}
 use Rattle.layout.proofs.WordLaws.{wrap-ordered}
@@ -22,14 +22,10 @@ use Rattle.line.proofs.RestLaws.{rest-all, rest-start, going-last, going-line, 
 use Rattle.wrap.specs.WrapBytes.{shownBytes}
 
 -- ── a word that is not broken
-kept-all : (m : ℕ) (cs : List Character) → widthOf cs ≤ m → keptWithin m cs ≡ cs
-kept-all m [] h = refl
-kept-all m (c ∷ cs) h = rw (le-leb (wide c) m (omega arith)) (ap (λ (l : List Character). c ∷ l) (kept-all (m - wide c) cs (omega arith)))
-
 head-all : (m : ℕ) (cs : List Character) → widthOf cs ≤ m → headOf m cs ≡ cs
 unfolding headOf
 head-all m [] h = refl
-head-all m (c ∷ cs) h = rw (le-leb (wide c) m (omega arith)) (ap (λ (l : List Character). c ∷ l) (kept-all (m - wide c) cs (omega arith)))
+head-all m (c ∷ cs) h = rw (le-leb (wide c) m (omega arith)) (ap (λ (l : List Character). c ∷ l) (kept-whole (m - wide c) cs (omega arith)))
 
 head-word : (m : ℕ) (d : List ℕ) → 2 * length d ≤ m → headLen m d ≡ length (wordText d)
 unfolding headLen firstHead

@@ -1,7 +1,7 @@
 -- While nothing bad was found, the places so far fit.
 use native.Mathlib.Omega.{arith}
 use borrow.Author.Needs.{needs}
-use Prim.Native.Nat.{ℕ, _+_, _-_, _≤_, _<_}
+use Prim.Native.Nat.{ℕ, _+_, _-_, _≤_}
 use mathlib.Core.Path.{_≡_, subst}
 use borrow.Author.Tests.{eqb-true}
 use mathlib.Core.List.{List}

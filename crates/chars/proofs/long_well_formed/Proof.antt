@@ -1,7 +1,6 @@
 -- The characters before the blocks' end are well-formed, so those after it decide.
 use borrow.Author.Needs.{needs}
 use mathlib.Core.Path.{_∙_}
-use Rattle.chars.specs.Chars.{wellFormed}
 use Rattle.chars.proofs.long_well_formed.Statement.{statement}
 use Rattle.chars.proofs.long_well_formed.Tie as tie
 use Rattle.chars.proofs.long_well_formed.Reads as reads

@@ -1,5 +1,4 @@
 -- ASCII leads itself; else the bounds decide.
-use native.Mathlib.Omega.{arith}
 use borrow.Author.Needs.{needs}
 use Rattle.chars.proofs.no_lead.Statement.{statement}
 use Rattle.chars.proofs.no_lead.Tie as tie

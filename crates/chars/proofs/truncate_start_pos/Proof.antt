@@ -7,8 +7,8 @@ use Prim.Native.Nat.{ℕ, _-_, _≤_, _<_}
 use lib.ListN.{length, drop, length-drop}
 use Rattle.chars.specs.Chars.{Character, chars, bytesOf, widthOf, textWidth}
 use Rattle.chars.proofs.CharsLaws.{bytes-chars, valid-chars, width-bound}
-use Rattle.chars.proofs.CutLaws.{longest, start-pos, start-width}
-use Rattle.chars.proofs.FoldLaws.{width-next, some-left, longest-next, longest-whole}
+use Rattle.chars.proofs.CutLaws.{longest, start-pos, start-width, longest-whole}
+use Rattle.chars.proofs.FoldLaws.{width-next, some-left, longest-next}
 use Rattle.chars.proofs.truncate_start_pos.Statement.{statement}
 use Rattle.chars.proofs.truncate_start_pos.Tie as tie
 use Rattle.chars.proofs.truncate_start_pos.Reads as reads

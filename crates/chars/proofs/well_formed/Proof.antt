@@ -1,5 +1,4 @@
 -- All characters are those from 0 on.
-use native.Mathlib.Omega.{arith}
 use borrow.Author.Needs.{needs}
 use mathlib.Core.Path.{_∙_, ap}
 use borrow.Rule.Slice.PartAt.{part-to-end}

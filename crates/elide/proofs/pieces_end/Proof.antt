@@ -2,7 +2,7 @@
 use native.Mathlib.Omega.{arith}
 use borrow.Author.Needs.{needs}
 use mathlib.Core.Path.{_∙_, sym}
-use Prim.Native.Nat.{_+_, _-_}
+use Prim.Native.Nat.{_-_}
 use Rattle.elide.proofs.ElideLaws.{fits-whole, reaches-end, passes-max}
 use Rattle.elide.proofs.PartLaws.{two-cuts, end-uncut, end-alone, end-both}
 use Rattle.elide.proofs.pieces_end.Statement.{statement}
