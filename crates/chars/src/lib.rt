@@ -11,7 +11,7 @@ ghost use Rattle.chars.specs.Utf8.{rowOf, within};
 ghost use Rattle.chars.specs.Leads.{leadTable, columns};
 ghost use Rattle.chars.specs.Width.{charWidth};
 ghost use Rattle.chars.specs.Chars.{charAt, charIn, chars, wide, textWidth, allOk, wellFormed};
-ghost use Rattle.chars.specs.Read.{readOf};
+ghost use Rattle.chars.specs.Read.{readOf, illFormed};
 ghost use Rattle.chars.specs.Blocks.{Ended, Fits, EndsAt, Fitting, Plain};
 ghost use Rattle.chars.specs.Cut.{truncateEndPos, truncateEndWidth, truncateStartPos, truncateStartWidth, zeroWidthLen};
 
@@ -41,6 +41,17 @@ pub struct Read {
     pub ok: bool,
 }
 
+// An ill-formed subpart of len bytes.
+fn ill_formed(len: usize) -> Read
+    ensures { λ r. ⌜ r ≡ illFormed len ⌝ }
+{
+    Read {
+        code: 0xFFFD,
+        len: len,
+        ok: false,
+    }
+}
+
 // The character that a leads, where b, c and d follow. A byte that is not there is 0, which continues no sequence.
 fn decode(t: &[u16; 256], a: u8, b: u8, c: u8, d: u8) -> Read
     requires { ⌜ now t ≡ leadTable ⌝ }
@@ -51,11 +62,7 @@ fn decode(t: &[u16; 256], a: u8, b: u8, c: u8, d: u8) -> Read
     let low = l.low;
     let high = l.high;
     if n == 0 {
-        return Read {
-            code: 0xFFFD,
-            len: 1,
-            ok: false,
-        };
+        return ill_formed(1);
     }
     if n == 1 {
         return Read {
@@ -65,18 +72,10 @@ fn decode(t: &[u16; 256], a: u8, b: u8, c: u8, d: u8) -> Read
         };
     }
     if b < low {
-        return Read {
-            code: 0xFFFD,
-            len: 1,
-            ok: false,
-        };
+        return ill_formed(1);
     }
     if high < b {
-        return Read {
-            code: 0xFFFD,
-            len: 1,
-            ok: false,
-        };
+        return ill_formed(1);
     }
     if n == 2 {
         return Read {
@@ -86,18 +85,10 @@ fn decode(t: &[u16; 256], a: u8, b: u8, c: u8, d: u8) -> Read
         };
     }
     if c < 0x80 {
-        return Read {
-            code: 0xFFFD,
-            len: 2,
-            ok: false,
-        };
+        return ill_formed(2);
     }
     if 0xBF < c {
-        return Read {
-            code: 0xFFFD,
-            len: 2,
-            ok: false,
-        };
+        return ill_formed(2);
     }
     if n == 3 {
         return Read {
@@ -107,18 +98,10 @@ fn decode(t: &[u16; 256], a: u8, b: u8, c: u8, d: u8) -> Read
         };
     }
     if d < 0x80 {
-        return Read {
-            code: 0xFFFD,
-            len: 3,
-            ok: false,
-        };
+        return ill_formed(3);
     }
     if 0xBF < d {
-        return Read {
-            code: 0xFFFD,
-            len: 3,
-            ok: false,
-        };
+        return ill_formed(3);
     }
     Read {
         code: (a as u32) % 8 * 262144

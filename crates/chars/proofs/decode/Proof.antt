@@ -11,6 +11,7 @@ use Rattle.chars.proofs.decode.Statement.{statement}
 use Rattle.chars.proofs.decode.Tie as tie
 use Rattle.chars.proofs.decode.Reads as reads
 use Rattle.chars.proofs.decode.Lts as lts
+use Rattle.chars.proofs.ill_formed.Reads as ill-formed-reads
 use Rattle.chars.proofs.lead_in.Reads as lead-in-reads
 
 -- what the lead byte's row says of the answer
@@ -25,12 +26,15 @@ by-row c =
 lead-in-requires : tie.Need-lead-in-requires
 lead-in-requires c κs = search needs
 
+ill-formed-requires : tie.Need-ill-formed-requires
+ill-formed-requires c κs = search needs
+
 returns : tie.Need-returns
 returns c =
-    let m = c .before in
+    let m = c .before .before in
     let l = m .lead-in .result in
     let x = m .before .args in
-    no-lead (x .a) (x .b) (x .c) (x .d) (l .low) (l .high) (l .len) (c .if1 .taken) ∙ by-row m
+    c .ill-formed .ensures ∙ no-lead (x .a) (x .b) (x .c) (x .d) (l .low) (l .high) (l .len) (c .before .if1 .taken) ∙ by-row m
 
 returns-2 : tie.Need-returns-2
 returns-2 c =
@@ -39,19 +43,25 @@ returns-2 c =
     let x = m .before .args in
     one-byte (x .a) (x .b) (x .c) (x .d) (l .low) (l .high) (l .len) (c .if2 .taken) ∙ by-row m
 
+ill-formed-requires-2 : tie.Need-ill-formed-requires-2
+ill-formed-requires-2 c κs = search needs
+
 returns-3 : tie.Need-returns-3
 returns-3 c =
-    let m = c .before .before .before in
-    let l = m .lead-in .result in
-    let x = m .before .args in
-    no-second (x .a) (x .b) (x .c) (x .d) (l .low) (l .high) (l .len) (omega arith) (below _ _ _ (c .if3 .taken)) ∙ by-row m
-
-returns-4 : tie.Need-returns-4
-returns-4 c =
     let m = c .before .before .before .before in
     let l = m .lead-in .result in
     let x = m .before .args in
-    no-second (x .a) (x .b) (x .c) (x .d) (l .low) (l .high) (l .len) (omega arith) (above _ _ _ (c .if4 .taken)) ∙ by-row m
+    c .ill-formed2 .ensures ∙ no-second (x .a) (x .b) (x .c) (x .d) (l .low) (l .high) (l .len) (omega arith) (below _ _ _ (c .before .if3 .taken)) ∙ by-row m
+
+ill-formed-requires-3 : tie.Need-ill-formed-requires-3
+ill-formed-requires-3 c κs = search needs
+
+returns-4 : tie.Need-returns-4
+returns-4 c =
+    let m = c .before .before .before .before .before in
+    let l = m .lead-in .result in
+    let x = m .before .args in
+    c .ill-formed3 .ensures ∙ no-second (x .a) (x .b) (x .c) (x .d) (l .low) (l .high) (l .len) (omega arith) (above _ _ _ (c .before .if4 .taken)) ∙ by-row m
 
 mul-t14 : tie.Need-mul-t14
 mul-t14 c = search needs
@@ -66,19 +76,25 @@ returns-5 c =
     let x = m .before .args in
     two-bytes (x .a) (x .b) (x .c) (x .d) (l .low) (l .high) (l .len) (c .if5 .taken) (in-span _ _ _ (c .before .before .if3 .left) (c .before .if4 .left)) ∙ by-row m
 
+ill-formed-requires-4 : tie.Need-ill-formed-requires-4
+ill-formed-requires-4 c κs = search needs
+
 returns-6 : tie.Need-returns-6
 returns-6 c =
-    let m = c .before .before .before .before .before .before in
-    let l = m .lead-in .result in
-    let x = m .before .args in
-    no-third (x .a) (x .b) (x .c) (x .d) (l .low) (l .high) (l .len) (omega arith) (in-span _ _ _ (c .before .before .before .if3 .left) (c .before .before .if4 .left)) (below _ _ _ (c .if6 .taken)) ∙ by-row m
-
-returns-7 : tie.Need-returns-7
-returns-7 c =
     let m = c .before .before .before .before .before .before .before in
     let l = m .lead-in .result in
     let x = m .before .args in
-    no-third (x .a) (x .b) (x .c) (x .d) (l .low) (l .high) (l .len) (omega arith) (in-span _ _ _ (c .before .before .before .before .if3 .left) (c .before .before .before .if4 .left)) (above _ _ _ (c .if7 .taken)) ∙ by-row m
+    c .ill-formed4 .ensures ∙ no-third (x .a) (x .b) (x .c) (x .d) (l .low) (l .high) (l .len) (omega arith) (in-span _ _ _ (c .before .before .before .before .if3 .left) (c .before .before .before .if4 .left)) (below _ _ _ (c .before .if6 .taken)) ∙ by-row m
+
+ill-formed-requires-5 : tie.Need-ill-formed-requires-5
+ill-formed-requires-5 c κs = search needs
+
+returns-7 : tie.Need-returns-7
+returns-7 c =
+    let m = c .before .before .before .before .before .before .before .before in
+    let l = m .lead-in .result in
+    let x = m .before .args in
+    c .ill-formed5 .ensures ∙ no-third (x .a) (x .b) (x .c) (x .d) (l .low) (l .high) (l .len) (omega arith) (in-span _ _ _ (c .before .before .before .before .before .if3 .left) (c .before .before .before .before .if4 .left)) (above _ _ _ (c .before .if7 .taken)) ∙ by-row m
 
 mul-t20 : tie.Need-mul-t20
 mul-t20 c = search needs
@@ -99,19 +115,25 @@ returns-8 c =
     let x = m .before .args in
     three-bytes (x .a) (x .b) (x .c) (x .d) (l .low) (l .high) (l .len) (c .if8 .taken) (in-span _ _ _ (c .before .before .before .before .before .if3 .left) (c .before .before .before .before .if4 .left)) (in-span _ _ _ (c .before .before .if6 .left) (c .before .if7 .left)) ∙ by-row m
 
+ill-formed-requires-6 : tie.Need-ill-formed-requires-6
+ill-formed-requires-6 c κs = search needs
+
 returns-9 : tie.Need-returns-9
 returns-9 c =
-    let m = c .before .before .before .before .before .before .before .before .before in
-    let l = m .lead-in .result in
-    let x = m .before .args in
-    no-fourth (x .a) (x .b) (x .c) (x .d) (l .low) (l .high) (l .len) (omega arith) (in-span _ _ _ (c .before .before .before .before .before .before .if3 .left) (c .before .before .before .before .before .if4 .left)) (in-span _ _ _ (c .before .before .before .if6 .left) (c .before .before .if7 .left)) (below _ _ _ (c .if9 .taken)) ∙ by-row m
-
-returns-10 : tie.Need-returns-10
-returns-10 c =
     let m = c .before .before .before .before .before .before .before .before .before .before in
     let l = m .lead-in .result in
     let x = m .before .args in
-    no-fourth (x .a) (x .b) (x .c) (x .d) (l .low) (l .high) (l .len) (omega arith) (in-span _ _ _ (c .before .before .before .before .before .before .before .if3 .left) (c .before .before .before .before .before .before .if4 .left)) (in-span _ _ _ (c .before .before .before .before .if6 .left) (c .before .before .before .if7 .left)) (above _ _ _ (c .if10 .taken)) ∙ by-row m
+    c .ill-formed6 .ensures ∙ no-fourth (x .a) (x .b) (x .c) (x .d) (l .low) (l .high) (l .len) (omega arith) (in-span _ _ _ (c .before .before .before .before .before .before .before .if3 .left) (c .before .before .before .before .before .before .if4 .left)) (in-span _ _ _ (c .before .before .before .before .if6 .left) (c .before .before .before .if7 .left)) (below _ _ _ (c .before .if9 .taken)) ∙ by-row m
+
+ill-formed-requires-7 : tie.Need-ill-formed-requires-7
+ill-formed-requires-7 c κs = search needs
+
+returns-10 : tie.Need-returns-10
+returns-10 c =
+    let m = c .before .before .before .before .before .before .before .before .before .before .before in
+    let l = m .lead-in .result in
+    let x = m .before .args in
+    c .ill-formed7 .ensures ∙ no-fourth (x .a) (x .b) (x .c) (x .d) (l .low) (l .high) (l .len) (omega arith) (in-span _ _ _ (c .before .before .before .before .before .before .before .before .if3 .left) (c .before .before .before .before .before .before .before .if4 .left)) (in-span _ _ _ (c .before .before .before .before .before .if6 .left) (c .before .before .before .before .if7 .left)) (above _ _ _ (c .before .if10 .taken)) ∙ by-row m
 
 mul-t30 : tie.Need-mul-t30
 mul-t30 c = search needs
@@ -143,21 +165,28 @@ decode-spec =
     tie.close
     (tie.spec
     lead-in-requires
+    ill-formed-requires
     returns
     returns-2
+    ill-formed-requires-2
     returns-3
+    ill-formed-requires-3
     returns-4
     mul-t14
     add-t17
     returns-5
+    ill-formed-requires-4
     returns-6
+    ill-formed-requires-5
     returns-7
     mul-t20
     mul-t23
     add-t24
     add-t27
     returns-8
+    ill-formed-requires-6
     returns-9
+    ill-formed-requires-7
     returns-10
     mul-t30
     mul-t33
