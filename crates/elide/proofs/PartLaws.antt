@@ -36,24 +36,6 @@ two-cuts a m s p w q v h e f g k =
     let y : v ≡ truncateEndWidth (m - truncateEndWidth a s) (drop (truncateEndPos a s) s) = k ∙ λ i. truncateEndWidth (m - f i) (r i) in
     (omega (arith, e, x, c .0), omega (arith, f, y, c .1))
 
--- likewise at the start, where the rest is what is before the cut
-pub two-cuts-back : (a m : ℕ) (s : Bytes) (p w q v : ℕ) → a ≤ m → p ≡ truncateStartPos a s → w ≡ truncateStartWidth a s
-    → q ≡ truncateStartPos (m - w) (part 0 p s) → v ≡ truncateStartWidth (m - w) (part 0 p s)
-    → (q ≡ truncateStartPos m s) × (w + v ≡ truncateStartWidth m s)
-two-cuts-back a m s p w q v h e f g k =
-    let c = cut-back-on a s m h in
-    let r : part 0 p s ≡ take (truncateStartPos a s) s = front p s ∙ ap (λ (j : ℕ). take j s) e in
-    let x : q ≡ truncateStartPos (m - truncateStartWidth a s) (take (truncateStartPos a s) s) = g ∙ λ i. truncateStartPos (m - f i) (r i) in
-    let y : v ≡ truncateStartWidth (m - truncateStartWidth a s) (take (truncateStartPos a s) s) = k ∙ λ i. truncateStartWidth (m - f i) (r i) in
-    (x ∙ sym (c .0), omega (arith, f, y, c .1))
-
-pub part-well-formed : (a : ℕ) (s : Bytes) (p : ℕ) → wellFormed s ≡ true → p ≡ truncateStartPos a s → wellFormed (part 0 p s) ≡ true
-part-well-formed a s p h e = ap wellFormed (front p s ∙ ap (λ (j : ℕ). take j s) e) ∙ well-formed-before a s h
-
-pub cut-width : (m : ℕ) (s : Bytes) → truncateStartWidth m s ≡ widthOf (cutAtStart m (chars s))
-unfolding truncateStartWidth
-cut-width m s = sym (width-reverse (keptWithin m (reverse (chars s))))
-
 module _ (m : ℕ) (s e : Bytes) where
   pub end-uncut : textWidth s ≤ m → (part 0 (length s) s ++ part 0 0 e ≡ elideEnd m s e .text) × (textWidth s ≡ elideEnd m s e .columns)
   unfolding elideEnd
@@ -75,7 +57,26 @@ module _ (m : ℕ) (s e : Bytes) where
         simp (lt-ltb m (textWidth s) h, le-ltb m (textWidth e) k, f),
       )
 
-  -- ── at the start
+-- ── at the start
+-- as `two-cuts`; the rest is what is before the cut
+pub two-cuts-back : (a m : ℕ) (s : Bytes) (p w q v : ℕ) → a ≤ m → p ≡ truncateStartPos a s → w ≡ truncateStartWidth a s
+    → q ≡ truncateStartPos (m - w) (part 0 p s) → v ≡ truncateStartWidth (m - w) (part 0 p s)
+    → (q ≡ truncateStartPos m s) × (w + v ≡ truncateStartWidth m s)
+two-cuts-back a m s p w q v h e f g k =
+    let c = cut-back-on a s m h in
+    let r : part 0 p s ≡ take (truncateStartPos a s) s = front p s ∙ ap (λ (j : ℕ). take j s) e in
+    let x : q ≡ truncateStartPos (m - truncateStartWidth a s) (take (truncateStartPos a s) s) = g ∙ λ i. truncateStartPos (m - f i) (r i) in
+    let y : v ≡ truncateStartWidth (m - truncateStartWidth a s) (take (truncateStartPos a s) s) = k ∙ λ i. truncateStartWidth (m - f i) (r i) in
+    (x ∙ sym (c .0), omega (arith, f, y, c .1))
+
+pub part-well-formed : (a : ℕ) (s : Bytes) (p : ℕ) → wellFormed s ≡ true → p ≡ truncateStartPos a s → wellFormed (part 0 p s) ≡ true
+part-well-formed a s p h e = ap wellFormed (front p s ∙ ap (λ (j : ℕ). take j s) e) ∙ well-formed-before a s h
+
+pub cut-width : (m : ℕ) (s : Bytes) → truncateStartWidth m s ≡ widthOf (cutAtStart m (chars s))
+unfolding truncateStartWidth
+cut-width m s = sym (width-reverse (keptWithin m (reverse (chars s))))
+
+module _ (m : ℕ) (s e : Bytes) where
   pub start-uncut : textWidth s ≤ m → (part 0 0 e ++ part 0 (length s) s ≡ elideStart m s e .text) × (textWidth s ≡ elideStart m s e .columns)
   unfolding elideStart
   start-uncut h = (simp (le-ltb m (textWidth s) h) (whole s), simp (le-ltb m (textWidth s) h))
