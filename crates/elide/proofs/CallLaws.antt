@@ -51,6 +51,18 @@ pub no-fault : (s e : Bytes) (k : ℕ) → k ≡ plainFault s e → (k ≡ 1 →
 unfolding plainFault
 no-fault s e k h p q = fault-by (ltb dataLimit (length s)) (ltb dataLimit (length e)) (not (wellFormed s && wellFormed e)) k h p q
 
+-- without a fault both are well-formed
+sound-by : (a b x y : Bool) → firstOf (refuseIf a 1 ∷ refuseIf b 1 ∷ refuseIf (not (x && y)) 7 ∷ []) ≡ 0 → (x ≡ true) × (y ≡ true)
+sound-by true b x y e = absurd (omega (arith, e))
+sound-by false true x y e = absurd (omega (arith, e))
+sound-by false false false y e = absurd (omega (arith, e))
+sound-by false false true false e = absurd (omega (arith, e))
+sound-by false false true true e = (refl, refl)
+
+pub sound : (s e : Bytes) → plainFault s e ≡ 0 → (wellFormed s ≡ true) × (wellFormed e ≡ true)
+unfolding plainFault
+sound s e h = sound-by (ltb dataLimit (length s)) (ltb dataLimit (length e)) (wellFormed s) (wellFormed e) h
+
 -- ── the result's size
 module _ (n w : ℕ) (s : Bytes) where
   pub over-limit : 1048576 < length s → settle noFaults (plainRoom n) (plainResult s w) ≡ refused 9

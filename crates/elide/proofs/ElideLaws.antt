@@ -2,18 +2,20 @@
 -- The idea: both keep the longest stretch at the other side that is narrow enough.
 use Prim.Native.Nat.{ℕ, _+_, _-_, _≤_, _<_}
 use native.Mathlib.Omega.{arith}
+use native.Mathlib.Nat.{lt-of-not-le}
 use mathlib.Core.Bool.{Bool, true, false, cond}
 use mathlib.Core.Path.{_≡_, refl, sym, ap, _∙_}
-use mathlib.Core.List.{List, [], _∷_, _++_, reverse, reverse-reverse}
+use mathlib.Core.List.{List, [], _∷_, _++_, reverse, reverse-append, reverse-reverse}
 use lib.Dec.{leb, ltb, eqb}
-use lib.ListN.{length, drop, length-append}
-use lib.Seq.{drop-append-seam}
+use lib.ListN.{length, take, drop, length-append, length-drop}
+use lib.Seq.{take-length, length-take-le, take-append-seam, drop-append-seam}
 use borrow.Author.Tests.{leb-false, leb-true, le-leb, lt-leb, eq-eqb, ne-eqb, ltb-false}
-use Rattle.chars.specs.Chars.{Character, chars, bytesOf, wide, widthOf, textWidth}
-use Rattle.chars.specs.Cut.{keptWithin, truncateEndPos, truncateEndWidth}
-use Rattle.chars.proofs.CharsLaws.{Valid, bytes-chars, bytes-append, width-append, valid-chars, valid-suffix, chars-rest}
-use Rattle.chars.proofs.CutLaws.{longest, keptRest, split-kept, kept-back, kept-within, width-reverse, kept-whole}
+use Rattle.chars.specs.Chars.{Character, chars, bytesOf, wide, widthOf, textWidth, allOk, wellFormed}
+use Rattle.chars.specs.Cut.{keptWithin, truncateEndPos, truncateEndWidth, truncateStartPos, truncateStartWidth}
+use Rattle.chars.proofs.CharsLaws.{bytes-chars, bytes-append, width-append, chars-beginning, chars-rest}
+use Rattle.chars.proofs.CutLaws.{longest, keptRest, beforeLongest, split-kept, split-longest, kept-back, kept-within, width-reverse, kept-whole, longest-whole, kept-end, kept-start, start-pos, start-width}
 use Rattle.recording.specs.Recording.{Bytes}
+use Rattle.elide.proofs.BackLaws.{ok-beginning}
 use Rattle.elide.specs.Elide.{leaving, cutAtStart, fitAtEnd, fitAtStart, elideEnd, elideStart, elided, trimmed}
 
 -- characters that leave until `room` is enough leave the longest ending within it
@@ -100,29 +102,79 @@ unfolding truncateEndPos truncateEndWidth textWidth
 fits-whole m s h = let k = kept-whole m (chars s) h in (ap (λ (l : List Character). length (bytesOf l)) k ∙ ap length (bytes-chars s), ap widthOf k)
 
 pub reaches-end : (m : ℕ) (s : Bytes) → truncateEndPos m s ≡ length s → textWidth s ≤ m
-unfolding truncateEndPos textWidth
-reaches-end m s h = go (keptRest m (chars s)) (split-kept m (chars s))
-  where
-    go : (ys : List Character) → chars s ≡ keptWithin m (chars s) ++ ys → widthOf (chars s) ≤ m
-    go [] e = omega (arith, ap widthOf e, width-append (keptWithin m (chars s)) [], kept-within m (chars s))
-    go (y ∷ ys) e =
-        let kept : List Character = keptWithin m (chars s) in
-        let v : Valid (y ∷ ys) = valid-suffix kept (y ∷ ys) (rw e at (valid-chars s)) in
-        let n : length s ≡ length (bytesOf kept) + length (y .text ++ bytesOf ys) =
-        ap length (sym (bytes-chars s) ∙ ap bytesOf e ∙ bytes-append kept (y ∷ ys)) ∙ length-append (bytesOf kept) (y .text ++ bytesOf ys) in
-        absurd (omega (arith, n, h, length-append (y .text) (bytesOf ys), ap length (v .0 .text)))
+unfolding textWidth
+reaches-end m s h =
+    let whole : s ≡ bytesOf (keptWithin m (chars s)) = sym (take-length s) ∙ ap (λ (n : ℕ). take n s) (sym h) ∙ kept-end m s in
+    let e : chars s ≡ keptWithin m (chars s) = ap chars whole ∙ chars-beginning s (keptWithin m (chars s)) (keptRest m (chars s)) (split-kept m (chars s)) in
+    omega (arith, ap widthOf e, kept-within m (chars s))
 
 pub passes-max : (m : ℕ) (s : Bytes) → (truncateEndPos m s ≡ length s → ⊥) → m < textWidth s
-passes-max m s h = go (leb (textWidth s) m) refl
-  where
-    go : (t : Bool) → leb (textWidth s) m ≡ t → m < textWidth s
-    go true e = absurd (h (fits-whole m s (leb-true (textWidth s) m e) .0))
-    go false e = leb-false (textWidth s) m e
+passes-max m s h = lt-of-not-le (λ k. h (fits-whole m s k .0))
 
--- no result is wider than max
+-- ── the same from the last character back
 longest-within : (m : ℕ) (cs : List Character) → widthOf (longest m cs) ≤ m
 longest-within m cs = omega (arith, width-reverse (longest m cs), ap widthOf (kept-back m cs), kept-within m (reverse cs))
 
+pub cut-bytes : (m : ℕ) (s : Bytes) → drop (truncateStartPos m s) s ≡ bytesOf (cutAtStart m (chars s))
+cut-bytes m s = kept-start m s ∙ ap bytesOf (sym (cut-start m (chars s)))
+
+-- what is before a cut
+module _ (a : ℕ) (s : Bytes) where
+  abbrev before : List Character
+  before = reverse (keptRest a (reverse (chars s)))
+
+  cut-split : chars s ≡ before ++ cutAtStart a (chars s)
+  cut-split = sym (reverse-reverse (chars s)) ∙ ap reverse (split-kept a (reverse (chars s))) ∙ reverse-append (keptWithin a (reverse (chars s))) (keptRest a (reverse (chars s)))
+
+  cut-text : s ≡ bytesOf before ++ bytesOf (cutAtStart a (chars s))
+  cut-text = sym (bytes-chars s) ∙ ap bytesOf cut-split ∙ bytes-append before (cutAtStart a (chars s))
+
+  cut-place : truncateStartPos a s ≡ length (bytesOf before)
+  unfolding truncateStartPos
+  cut-place =
+      omega (arith, ap length (cut-bytes a s), length-drop (truncateStartPos a s) s, ap length cut-text, length-append (bytesOf before) (bytesOf (cutAtStart a (chars s))))
+
+  chars-before : chars (take (truncateStartPos a s) s) ≡ before
+  chars-before =
+      let e : take (truncateStartPos a s) s ≡ bytesOf before =
+      ap (λ (n : ℕ). take n s) cut-place ∙ ap (take (length (bytesOf before))) cut-text ∙ take-append-seam (bytesOf before) (bytesOf (cutAtStart a (chars s))) in
+      ap chars e ∙ chars-beginning s before (cutAtStart a (chars s)) cut-split
+
+  pub well-formed-before : wellFormed s ≡ true → wellFormed (take (truncateStartPos a s) s) ≡ true
+  unfolding wellFormed
+  well-formed-before h = ap allOk chars-before ∙ ok-beginning before (cutAtStart a (chars s)) (ap allOk (sym cut-split) ∙ h)
+
+  -- the place and the width of a wider cut, from the width of this one and the cut of what is before it
+  pub cut-back-on : (m : ℕ) → a ≤ m
+      → (truncateStartPos m s ≡ truncateStartPos (m - truncateStartWidth a s) (take (truncateStartPos a s) s))
+      × (truncateStartWidth m s ≡ truncateStartWidth a s + truncateStartWidth (m - truncateStartWidth a s) (take (truncateStartPos a s) s))
+  unfolding truncateStartPos truncateStartWidth
+  cut-back-on m h =
+      let s′ : Bytes = take (truncateStartPos a s) s in
+      let xs : List Character = keptWithin a (reverse (chars s)) in
+      let ys : List Character = keptWithin (m - widthOf xs) (reverse (chars s′)) in
+      let rest : reverse (chars s′) ≡ keptRest a (reverse (chars s)) = ap reverse chars-before ∙ reverse-reverse (keptRest a (reverse (chars s))) in
+      let k : keptWithin m (reverse (chars s)) ≡ xs ++ ys = kept-on a m (reverse (chars s)) h ∙ ap (λ (l : List Character). xs ++ keptWithin (m - widthOf xs) l) (sym rest) in
+      let n : length s′ ≡ length s - length (bytesOf xs) = length-take-le (truncateStartPos a s) s (omega arith) in
+      (omega (arith, n, ap (λ (l : List Character). length (bytesOf l)) k ∙ ap length (bytes-append xs ys) ∙ length-append (bytesOf xs) (bytesOf ys)), ap widthOf k ∙ width-append xs ys)
+
+pub fits-back : (m : ℕ) (s : Bytes) → textWidth s ≤ m → (truncateStartPos m s ≡ 0) × (truncateStartWidth m s ≡ textWidth s)
+unfolding textWidth
+fits-back m s h =
+    let k = longest-whole m (chars s) h in
+    (omega (arith, start-pos m s, ap (λ (l : List Character). length (bytesOf l)) k, ap length (bytes-chars s)), start-width m s ∙ ap widthOf k)
+
+pub reaches-start : (m : ℕ) (s : Bytes) → truncateStartPos m s ≡ 0 → textWidth s ≤ m
+unfolding textWidth
+reaches-start m s h =
+    let whole : s ≡ bytesOf (longest m (chars s)) = ap (λ (n : ℕ). drop n s) (sym h) ∙ kept-start m s in
+    let e : chars s ≡ longest m (chars s) = ap chars whole ∙ chars-rest s (beforeLongest m (chars s)) (longest m (chars s)) (split-longest m (chars s)) in
+    omega (arith, ap widthOf e, longest-within m (chars s))
+
+pub passes-back : (m : ℕ) (s : Bytes) → (truncateStartPos m s ≡ 0 → ⊥) → m < textWidth s
+passes-back m s h = lt-of-not-le (λ k. h (fits-back m s k .0))
+
+-- ── no result is wider than max
 pub end-within : (m : ℕ) (s e : Bytes) → elideEnd m s e .columns ≤ m
 unfolding elideEnd
 end-within m s e = go (ltb m (textWidth s)) refl (ltb m (textWidth e)) refl

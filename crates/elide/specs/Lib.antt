@@ -1,2 +1,3 @@
 pub mod Elide
+pub mod Back
 pub mod Pins

@@ -1,14 +1,17 @@
 // Plain text: `complete_newline`, `elide_start` and `elide_end` (document 01, module 6).
 // A call checks, measures, then writes: every refusal is settled before the first byte is written.
 ghost use mathlib.Core.Path.{_≡_};
+ghost use mathlib.Core.Bool.{true};
 ghost use mathlib.Core.List.{_++_, _∷_, []};
-ghost use Prim.Native.Nat.{_+_, _-_, _≤_, _<_};
+ghost use Prim.Native.Nat.{_+_, _-_, _*_, _≤_, _<_};
 ghost use lib.ListN.{length, drop};
 ghost use Rattle.chars.specs.Leads.{leadTable};
-ghost use Rattle.chars.specs.Chars.{chars, bytesOf, widthOf, textWidth};
+ghost use Rattle.chars.specs.Chars.{wellFormed};
+ghost use Rattle.chars.specs.Cut.{truncateStartPos, truncateStartWidth};
 ghost use Rattle.buffer.specs.Place.{part};
 ghost use Rattle.recording.specs.Outcome.{settle, returned, lentAfter, answerOf};
-ghost use Rattle.elide.specs.Elide.{cutAtStart, trimmed, missingNewline, elideEnd, elideStart, plainFault, noFaults, plainRoom, plainResult, lent, elideEndOutcome, elideStartOutcome, completeNewlineOutcome};
+ghost use Rattle.elide.specs.Back.{StartBefore};
+ghost use Rattle.elide.specs.Elide.{trimmed, missingNewline, elideEnd, elideStart, plainFault, noFaults, plainRoom, plainResult, lent, elideEndOutcome, elideStartOutcome, completeNewlineOutcome};
 
 // The data limit of a recording, which texts keep to.
 const LIMIT: usize = 1048576;
@@ -22,20 +25,61 @@ pub struct Pieces {
     width: u64,
 }
 
-// Where the longest ending within max starts without its leading zero-width characters, and its width. The text is total wide.
-fn trimmed_pos(t: &[u16; 256], s: &[u8], total: u64, max: u64) -> chars::Cut
-    requires { ⌜ now t ≡ leadTable ⌝ }
-    requires { ⌜ total ≡ textWidth (now s) ⌝ }
-    ensures { λ r. ⌜ (drop (r .pos) (now (s .entry)) ≡ trimmed (bytesOf (cutAtStart max (chars (now (s .entry)))))) × (r .width ≡ widthOf (cutAtStart max (chars (now (s .entry))))) ⌝ }
-    ensures { λ r. ⌜ (r .pos ≤ length (now (s .entry))) × (r .width ≤ max) ⌝ }
+// The last place before `at` whose byte is not in 80..BF, or 0: in a well-formed text the character before `at` starts there.
+fn start_before(s: &[u8], at: usize) -> usize
+    requires { ⌜ (0 < at) × (at ≤ length (now s)) ⌝ }
+    ensures { λ r. ⌜ StartBefore (now (s .entry)) at r ⌝ }
 {
-    let k = chars::truncate_start_pos(t, s, total, max);
-    let at = k.pos;
-    let n = chars::zero_width_len(t, &s[at..]);
-    chars::Cut {
-        pos: at + n,
-        width: k.width,
+    let mut i = at - 1;
+    while 0 < i {
+        if s[i] < 0x80 {
+            return i;
+        }
+        if 0xBF < s[i] {
+            return i;
+        }
+        i -= 1;
     }
+    0
+}
+
+// Where the longest ending starts that is at most max wide, and its width. Only that ending and one character before it are read.
+fn cut_back(t: &[u16; 256], s: &[u8], max: u64) -> chars::Cut
+    requires { ⌜ now t ≡ leadTable ⌝ }
+    requires { ⌜ wellFormed (now s) ≡ true ⌝ }
+    ensures { λ r. ⌜ (r .pos ≡ truncateStartPos max (now (s .entry))) × (r .width ≡ truncateStartWidth max (now (s .entry))) ⌝ }
+    ensures { λ r. ⌜ (r .pos ≤ length (now (s .entry))) × (r .width ≤ max) × (r .width ≤ 2 * length (now (s .entry))) ⌝ }
+{
+    let mut at = s.len();
+    let mut left = max;
+    while 0 < at {
+        let p = start_before(s, at);
+        let c = chars::seen_at(t, s, p);
+        let w = c.width as u64;
+        if left < w {
+            return chars::Cut {
+                pos: at,
+                width: max - left,
+            };
+        }
+        left -= w;
+        at = p;
+    }
+    chars::Cut {
+        pos: 0,
+        width: max - left,
+    }
+}
+
+// Where the ending from `at` on starts without its leading zero-width characters.
+fn trimmed_pos(t: &[u16; 256], s: &[u8], at: usize) -> usize
+    requires { ⌜ now t ≡ leadTable ⌝ }
+    requires { ⌜ at ≤ length (now s) ⌝ }
+    ensures { λ r. ⌜ drop r (now (s .entry)) ≡ trimmed (drop at (now (s .entry))) ⌝ }
+    ensures { λ r. ⌜ r ≤ length (now (s .entry)) ⌝ }
+{
+    let n = chars::zero_width_len(t, &s[at..]);
+    at + n
 }
 
 // The text's part comes first. The text is cut once, to max less the ellipsis: that leaves what the Rust's two cuts leave.
@@ -88,37 +132,52 @@ fn pieces_end(t: &[u16; 256], text: &[u8], ellipsis: &[u8], max: u64) -> Pieces
     }
 }
 
-// The ellipsis's part comes first.
+// The ellipsis's part comes first. As `pieces_end`, from the text's end back: a text fits if its cut to max reaches its start.
 fn pieces_start(t: &[u16; 256], text: &[u8], ellipsis: &[u8], max: u64) -> Pieces
     requires { ⌜ now t ≡ leadTable ⌝ }
+    requires { ⌜ (wellFormed (now text) ≡ true) × (wellFormed (now ellipsis) ≡ true) ⌝ }
     ensures { λ r. ⌜ (part (r .begin) (r .end) (now (ellipsis .entry)) ++ part (r .from) (r .to) (now (text .entry)) ≡ elideStart max (now (text .entry)) (now (ellipsis .entry)) .text) × (r .width ≡ elideStart max (now (text .entry)) (now (ellipsis .entry)) .columns) ⌝ }
     ensures { λ r. ⌜ (r .from ≤ r .to) × (r .to ≤ length (now (text .entry))) × (r .begin ≤ r .end) × (r .end ≤ length (now (ellipsis .entry))) ⌝ }
 {
-    let total = chars::text_width(t, text);
-    if total <= max {
-        return Pieces {
-            from: 0,
-            to: text.len(),
-            begin: 0,
-            end: 0,
-            width: total,
-        };
-    }
+    let n = text.len();
     let mark = chars::text_width(t, ellipsis);
     if max < mark {
-        let k = trimmed_pos(t, ellipsis, mark, max);
+        let all = cut_back(t, text, max);
+        if all.pos == 0 {
+            return Pieces {
+                from: 0,
+                to: n,
+                begin: 0,
+                end: 0,
+                width: all.width,
+            };
+        }
+        let k = cut_back(t, ellipsis, max);
+        let begin = trimmed_pos(t, ellipsis, k.pos);
         return Pieces {
             from: 0,
             to: 0,
-            begin: k.pos,
+            begin: begin,
             end: ellipsis.len(),
             width: k.width,
         };
     }
-    let k = trimmed_pos(t, text, total, max - mark);
+    let k = cut_back(t, text, max - mark);
+    let at = k.pos;
+    let more = cut_back(t, &text[0..at], max - k.width);
+    if more.pos == 0 {
+        return Pieces {
+            from: 0,
+            to: n,
+            begin: 0,
+            end: 0,
+            width: k.width + more.width,
+        };
+    }
+    let from = trimmed_pos(t, text, at);
     Pieces {
-        from: k.pos,
-        to: text.len(),
+        from: from,
+        to: n,
         begin: 0,
         end: ellipsis.len(),
         width: k.width + mark,

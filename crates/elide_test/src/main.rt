@@ -88,6 +88,13 @@ fn edges() {
     start(b"spruce", b"..", 4294967295);
 }
 
+// Characters of two, three and four bytes at the cut, in the text and in the ellipsis.
+fn lengths() {
+    widths(b"\xC3\xA9\xC3\xA9\xC3\xA9", b".");
+    widths(b"ab\xF0\x9F\x98\x80", b".");
+    widths(b"spruce", b"\xE6\x9C\xA8\xC3\xA9");
+}
+
 // Ill-formed, also where nothing is cut; no room.
 fn refusals() {
     end(b"\xFF", b"..", 4);
@@ -117,6 +124,7 @@ fn newlines_in_room() {
 fn main() {
     boards();
     edges();
+    lengths();
     refusals();
     newlines();
     newlines_in_room();

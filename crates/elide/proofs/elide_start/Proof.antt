@@ -9,7 +9,7 @@ use Rattle.chars.specs.Leads.{leadTable}
 use Rattle.buffer.specs.Place.{part}
 use Rattle.recording.specs.Outcome.{Outcome, refused, returned, lentAfter, answerOf}
 use Rattle.elide.specs.Elide.{lent, elideStartOutcome}
-use Rattle.elide.proofs.CallLaws.{start-faulty, start-goes, no-fault}
+use Rattle.elide.proofs.CallLaws.{start-faulty, start-goes, no-fault, sound}
 use Rattle.elide.proofs.elide_start.Statement.{statement}
 use Rattle.elide.proofs.elide_start.Tie as tie
 use Rattle.elide.proofs.elide_start.Reads as reads
@@ -40,7 +40,11 @@ returns-2 c =
 
 pieces-start-requires : tie.Need-pieces-start-requires
 unfolding leadTable
-pieces-start-requires c κs = search needs
+pieces-start-requires c κs =
+    let x = c .before .before .before .before .before .before .before .before .args in
+    let f = c .before .before .before .fault in
+    let none = no-fault (x .text .now) (x .ellipsis .now) (f .result) (f .ensures .0) (c .before .before .if1 .left) (c .before .if2 .left) in
+    (search needs, sound (x .text .now) (x .ellipsis .now) (sym (f .ensures .0) ∙ none))
 
 write-parts-requires : tie.Need-write-parts-requires
 write-parts-requires c κs =
