@@ -1,5 +1,8 @@
 //! Recordings that are compared: made at random, with texts that lie anywhere, some of them damaged; and what the library must answer,
 //! worked out from the original's result and the sizes alone.
+use std::io::Write as _;
+
+use oracle::original::Formatter as _;
 use oracle::{Entry, Kind, Lists, Recording};
 use ruszvedok::lent::{Answer, View};
 
@@ -155,6 +158,46 @@ pub fn fault(lists: &Lists) -> u64 {
         before = at;
     }
     0
+}
+
+/// First byte and end of each line, as a line list has them.
+pub fn numbers_of(lines: Vec<(usize, usize)>) -> Vec<u32> {
+    lines.into_iter().flat_map(|(start, end)| [start as u32, end as u32]).collect()
+}
+
+/// The refusal of what is added (6 for a label, 3 for a raw sequence) and the lists with it at their ends; `kind`: 0 data, 1 a label, 2 a pop,
+/// 3 a raw sequence. Where nothing is refused, the original adds the same, and what it has must be these lists, read back.
+pub fn with_added(lists: &Lists, content_fault: u64, content: &Recording, kind: u64, added: &[u8]) -> Result<(u64, Lists), String> {
+    let fault = match kind {
+        1 if std::str::from_utf8(added).is_err() => 6,
+        3 if added.is_empty() => 3,
+        _ => 0,
+    };
+    let mut result = lists.clone();
+    let (at, start, len) = (lists.data.len() as u32, lists.text.len() as u32, added.len() as u32);
+    match kind {
+        0 => result.data.extend(added),
+        1 => result.entries.extend([at, 0, start, len]),
+        2 => result.entries.extend([at, 1, 0, 0]),
+        _ => result.entries.extend([at, 2, start, len]),
+    }
+    if kind == 1 || kind == 3 {
+        result.text.extend(added);
+    }
+    if (content_fault, fault) == (0, 0) {
+        let mut made = content.to_recorder();
+        match kind {
+            0 => made.write_all(added).unwrap(),
+            1 => made.push_label(std::str::from_utf8(added).unwrap()),
+            2 => made.pop_label(),
+            _ => made.raw().unwrap().write_all(added).unwrap(),
+        }
+        let original = Some(Recording::from_recorder(&made));
+        if original != Recording::from_lists(&result.data, &result.entries, &result.text) {
+            return Err(format!("the original has {original:x?} on {lists:x?}, {added:x?}"));
+        }
+    }
+    Ok((fault, result))
 }
 
 /// What a call must answer and leave: the faults of its inputs in their order, and then the original's result.

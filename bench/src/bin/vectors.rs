@@ -3,11 +3,9 @@
 //! How a line is read: `crates/vectors/src/main.rt`. The same seed gives the same list.
 use std::collections::{HashMap, HashSet};
 use std::fmt::Write as _;
-use std::io::Write as _;
 
 use bench::inputs::{Numbers, damaged};
-use bench::recordings::{Expected, content, fault, maybe_damaged, recording, scattered};
-use oracle::original::Formatter as _;
+use bench::recordings::{Expected, content, fault, maybe_damaged, numbers_of, recording, scattered, with_added};
 use oracle::{Lists, Recording, Replacement};
 
 /// Makes one vector of a call.
@@ -224,10 +222,6 @@ fn write_indented(numbers: &mut Numbers) -> Vector {
     lend(Lent::Recording, Vector { content: lists, second: second_lists, ..Vector::default() }, expected, numbers)
 }
 
-fn numbers_of(lines: Vec<(usize, usize)>) -> Vec<u32> {
-    lines.into_iter().flat_map(|(start, end)| [start as u32, end as u32]).collect()
-}
-
 fn wrap_width(data: &[u8], numbers: &mut Numbers) -> usize {
     if numbers.within(0, 1) == 0 { numbers.within(0, 6) as usize } else { width_about(data, 2, numbers) }
 }
@@ -326,33 +320,7 @@ fn adding(numbers: &mut Numbers, kind: u64) -> Vector {
     let added = text(numbers);
     let added = if kind == 1 && numbers.within(0, 7) != 0 { String::from_utf8_lossy(&added).into_owned().into_bytes() } else { added };
     let added = if kind == 2 || kind == 3 && numbers.within(0, 9) == 0 { vec![] } else { added };
-    let added_fault = match kind {
-        1 if std::str::from_utf8(&added).is_err() => 6,
-        3 if added.is_empty() => 3,
-        _ => 0,
-    };
-    let mut result = lists.clone();
-    let (at, start, len) = (lists.data.len() as u32, lists.text.len() as u32, added.len() as u32);
-    match kind {
-        0 => result.data.extend(&added),
-        1 => result.entries.extend([at, 0, start, len]),
-        2 => result.entries.extend([at, 1, 0, 0]),
-        _ => result.entries.extend([at, 2, start, len]),
-    }
-    if kind == 1 || kind == 3 {
-        result.text.extend(&added);
-    }
-    if (content_fault, added_fault) == (0, 0) {
-        // The original adds the same.
-        let mut made = content.to_recorder();
-        match kind {
-            0 => made.write_all(&added).unwrap(),
-            1 => made.push_label(std::str::from_utf8(&added).unwrap()),
-            2 => made.pop_label(),
-            _ => made.raw().unwrap().write_all(&added).unwrap(),
-        }
-        assert_eq!(Some(Recording::from_recorder(&made)), Recording::from_lists(&result.data, &result.entries, &result.text));
-    }
+    let (added_fault, result) = with_added(&lists, content_fault, &content, kind, &added).expect("the original adds the same");
     let mut expected = Expected { faults: vec![content_fault, added_fault], result, lines: vec![], number: 0 };
     let room = expected.room(numbers);
     let mut room = (room.0.max(lists.data.len()), room.1.max(lists.entries.len()), room.2.max(lists.text.len()), 0);

@@ -9,12 +9,10 @@ use std::fmt::Debug;
 use std::process::ExitCode;
 
 use bench::inputs::{Numbers, damaged};
-use bench::recordings::{Expected, at_a_limit, content, fault, maybe_damaged, recording, scattered, view};
+use bench::recordings::{Expected, at_a_limit, content, fault, maybe_damaged, numbers_of, recording, scattered, view, with_added};
 use bench::room::{LIMITS, Room};
-use oracle::original::Formatter as _;
 use oracle::{Lists, Recording};
 use ruszvedok::lent::{self, Answer, Buffers, Place, Replacement, Used, View};
-use std::io::Write as _;
 
 /// One call on one generated input.
 type Call = fn(&mut Numbers) -> Result<(), String>;
@@ -227,10 +225,6 @@ fn write_indented(numbers: &mut Numbers) -> Result<(), String> {
     lend(numbers, expected, |room, _| lent::write_indented(view(&lists), view(&second_lists), room.lent()), &(&lists, &second_lists))
 }
 
-fn numbers_of(lines: Vec<(usize, usize)>) -> Vec<u32> {
-    lines.into_iter().flat_map(|(start, end)| [start as u32, end as u32]).collect()
-}
-
 fn wrap_width(data: &[u8], numbers: &mut Numbers) -> usize {
     match numbers.within(0, 39) {
         0 => u32::MAX as usize,
@@ -376,34 +370,8 @@ fn adding(numbers: &mut Numbers, kind: u64) -> Result<(), String> {
     let (lists, fault, content) = input(numbers, 8);
     let added = damaged(numbers);
     let added = if kind == 1 && numbers.within(0, 7) != 0 { String::from_utf8_lossy(&added).into_owned().into_bytes() } else { added };
-    let added_fault = match kind {
-        1 if std::str::from_utf8(&added).is_err() => 6,
-        3 if added.is_empty() => 3,
-        _ => 0,
-    };
-    let mut result = lists.clone();
-    let (at, start, len) = (lists.data.len() as u32, lists.text.len() as u32, added.len() as u32);
-    match kind {
-        0 => result.data.extend(&added),
-        1 => result.entries.extend([at, 0, start, len]),
-        2 => result.entries.extend([at, 1, 0, 0]),
-        _ => result.entries.extend([at, 2, start, len]),
-    }
-    if kind == 1 || kind == 3 {
-        result.text.extend(&added);
-    }
+    let (added_fault, result) = with_added(&lists, fault, &content, kind, &added)?;
     let expected = Expected { faults: vec![fault, added_fault], result, lines: vec![], number: 0 };
-    if (fault, added_fault) == (0, 0) {
-        let mut made = content.to_recorder();
-        match kind {
-            0 => made.write_all(&added).unwrap(),
-            1 => made.push_label(std::str::from_utf8(&added).unwrap()),
-            2 => made.pop_label(),
-            _ => made.raw().unwrap().write_all(&added).unwrap(),
-        }
-        let r = &expected.result;
-        same(Some(Recording::from_recorder(&made)), Recording::from_lists(&r.data, &r.entries, &r.text), &(&lists, &added))?;
-    }
     let sizes = expected.room(numbers);
     let sizes = (sizes.0.max(lists.data.len()), sizes.1.max(lists.entries.len()), sizes.2.max(lists.text.len()));
     let used = Used { data: lists.data.len(), entries: lists.entries.len(), text: lists.text.len() };
