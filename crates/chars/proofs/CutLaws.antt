@@ -1,4 +1,4 @@
--- Cutting from the last character back keeps the longest ending within the width, which a scan from the front finds: no code reads backwards.
+-- Cutting from the last character back keeps the longest ending within the width, which a scan from the front finds, whatever the bytes: so the cut of a recording does not read backwards.
 -- The idea: kept endings have falling widths, so the greedy choice on the reversed list stops at the first place whose rest is narrow enough.
 use Prim.Native.Nat.{ℕ, _+_, _-_, _≤_, _<_}
 use native.Mathlib.Omega.{arith}
