@@ -1,4 +1,5 @@
 // Printing for the programs that are run: numbers, lists of them, bytes and answers, each with a space before it.
+// Proved to be safe and no more: what a program prints is held to its file `stdout`.
 use recording::Answer;
 use recording::number_of;
 
