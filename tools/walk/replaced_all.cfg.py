@@ -1,4 +1,4 @@
-crate, fn = "replaced", "write_replaced"
+crate, fn = "replace_records", "write_replaced"
 types = {"Replacement": "struct", "Scan": "struct", "Work": "struct", "Answer": "enum"}
 type_in = {"Replacement": "layout", "Scan": "replace", "Answer": "recording"}
 params = [("content", "sh", "u8"), ("entries", "sh", "u32"), ("text", "sh", "u8"), ("records", "sh", "Replacement"), ("new", "sh", "u8"), ("bytes", "mut", "u8"), ("numbers", "mut", "u32"), ("texts", "mut", "u8")]
@@ -23,6 +23,6 @@ ensures = [f"({E_}) .0", f"({E_}) .1 .0", f"({E_}) .1 .1 .0", f"({E_}) .1 .1 .1"
 spec_uses = """use mathlib.Core.Bool.{false}
 use Rattle.writer.specs.Sizes.{settledFault, roomOf}
 use Rattle.replace.specs.Records.{scan, checkAll}
-use Rattle.replaced.specs.Work.{world, Turns, Ended}
-use Rattle.replaced.specs.Plan.{planFault, atStart}
-use Rattle.replaced.proofs.CallLaws.{from-first, scan-within, may-write, may-end, promised}"""
+use Rattle.replace_records.specs.Work.{world, Turns, Ended}
+use Rattle.replace_records.specs.Plan.{planFault, atStart}
+use Rattle.replace_records.proofs.CallLaws.{from-first, scan-within, may-write, may-end, promised}"""

@@ -1,8 +1,8 @@
-crate, fn = "replaced_test", "with_two"
+crate, fn = "replace_records_test", "with_two"
 types = {"Replacement": "struct", "Answer": "enum"}
 type_in = {"Replacement": "layout", "Answer": "recording"}
-fn_in = {"write_replaced": "replaced"}
-again_in = "replaced"
+fn_in = {"write_replaced": "replace_records"}
+again_in = "replace_records"
 params = [("a", "val", "Replacement"), ("b", "val", "Replacement"), ("content", "sh", "u8"), ("entries", "sh", "u32"), ("text", "sh", "u8"), ("new", "sh", "u8"), ("bytes", "mut", "u8"), ("numbers", "mut", "u32"), ("texts", "mut", "u8")]
 arrays = {"rs": ("Replacement", ["a", "b"])}
 result = "Answer"

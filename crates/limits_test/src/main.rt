@@ -1,11 +1,11 @@
 // Runs the calls at the limit of the data, 1,048,576 bytes, exactly and one past it: refusals 1 and 9 of data. One line a case.
 // The large buffers come from functions and go on as slices, since the prover does not write out an array of that length.
-use formatter::replay;
-use formatter::write;
+use recorder::replay;
+use recorder::write;
 use indent::write_indented;
 use pad::write_padded_start;
 use recording::Answer;
-use wrap::wrap_bytes;
+use wrap_lines::wrap_bytes;
 
 fn answer(name: &[u8], a: Answer) {
     io::write_all(1, name);

@@ -1,10 +1,10 @@
 // Runs the five calls of `formatter`: each refusal by a smallest input, each limit and buffer exactly and one past it. One line a case.
 // Buffers are filled with 170 before each call, so that what a call leaves alone is seen. What the program should print stands in the file `stdout`.
-use formatter::pop_label;
-use formatter::push_label;
-use formatter::raw;
-use formatter::replay;
-use formatter::write;
+use recorder::pop_label;
+use recorder::push_label;
+use recorder::raw;
+use recorder::replay;
+use recorder::write;
 use recording::Answer;
 use report::number;
 

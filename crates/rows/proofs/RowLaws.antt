@@ -17,8 +17,8 @@ use Rattle.recording.specs.Refusals.{dataLimit}
 use Rattle.recording.specs.Outcome.{Outcome, done, lentAfter, Returned, returned, answerOf}
 use Rattle.recording.specs.declared.Answer.{Answer}
 use Rattle.layout.specs.Wrap.{Line, lineNumbers, wrapLines}
-use Rattle.wrap.specs.WrapBytes.{lentLines, wrapResult, wrapBytesOutcome}
-use Rattle.wrap.proofs.WrapLaws.{outcome-done}
+use Rattle.wrap_lines.specs.WrapBytes.{lentLines, wrapResult, wrapBytesOutcome}
+use Rattle.wrap_lines.proofs.WrapLaws.{outcome-done}
 use Rattle.sheet.specs.Sheet.{after, upTo, sheetLine, sheetLines, allDigits, valueFrom, noLeadingZero, smallDigits, isDecimal, decimalOr, isBreak, breakOf, isData, allHex, dataOf, widthField, breakField, dataField, goodLine}
 use Rattle.sheet.proofs.SheetLaws.{rest-next, line-next, up-to-take, after-drop}
 use Rattle.rows.specs.Rows.{decimalUpTo, decimal, rowText, badRow, lineRows, numberRows, rowsOf}

@@ -16,7 +16,7 @@ use Rattle.recording.specs.Outcome.{Room, Result, Faults, Outcome, refused, don
 use Rattle.layout.specs.declared.Replacement.{Replacement}
 use Rattle.layout.specs.Layout.{Job, truncateStart, truncateEnd, padStart, padEnd, padCentered, indent, wrap, replace, linesLeft, resultOf, faultsOf, outcome}
 use Rattle.layout.specs.Lent.{lentOf, callOn}
-use Rattle.wrapped.specs.Plan.{lentLined, callLined}
+use Rattle.wrap.specs.Plan.{lentLined, callLined}
 use Rattle.runs.specs.Runs.{jobOf}
 
 abbrev room : ℕ → ℕ → ℕ → ℕ → Room

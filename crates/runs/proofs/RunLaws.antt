@@ -11,7 +11,7 @@ use Rattle.recording.specs.Recording.{Bytes, Recording}
 use Rattle.recording.specs.Outcome.{Room}
 use Rattle.layout.specs.declared.Replacement.{Replacement}
 use Rattle.layout.specs.Layout.{Job, Call, after, run}
-use Rattle.wrapped.specs.Plan.{callLined}
+use Rattle.wrap.specs.Plan.{callLined}
 use Rattle.runs.specs.declared.Held.{Held}
 use Rattle.runs.specs.Runs.{jobOf, callsOf, roomOf, current, Sets}
 

@@ -17,7 +17,7 @@ use Rattle.recording.specs.Recording.{Recording, recording}
 use Rattle.recording.specs.Outcome.{Room, Result, Faults, Outcome, refused, done, refusalOf, settle, Lent, lentAfter, Returned, returned, answerOf}
 use Rattle.recording.proofs.OutcomeLaws.{number-pos}
 use Rattle.layout.specs.Layout.{Job, Call, contentAfter, faultsOf, resultOf, outcome, after}
-use Rattle.wrapped.specs.Plan.{lentLined, callLined}
+use Rattle.wrap.specs.Plan.{lentLined, callLined}
 use Rattle.runs.specs.declared.Held.{Held}
 use Rattle.runs.specs.Runs.{frontOf, current, moved, Sets}
 

@@ -1,2 +1,3 @@
-pub mod WrapLaws
-pub mod BoundLaws
+pub mod PlanLaws
+pub mod SizeLaws
+pub mod CallLaws

@@ -13,8 +13,8 @@ use Rattle.rows.proofs.good_rows.Reads as reads
 use Rattle.rows.proofs.good_rows.Lts as lts
 use Rattle.rows.proofs.lines_in.Reads as lines-in-reads
 use Rattle.rows.proofs.put_lines.Reads as put-lines-reads
-use Rattle.wrap.proofs.numbers_of.Reads as numbers-of-reads
-use Rattle.wrap.proofs.wrap_bytes.Reads as wrap-bytes-reads
+use Rattle.wrap_lines.proofs.numbers_of.Reads as numbers-of-reads
+use Rattle.wrap_lines.proofs.wrap_bytes.Reads as wrap-bytes-reads
 
 -- the count is that of the definition, and small
 few : (c : tie.After-wrap-bytes) → length (wrapLines (c .before .before .before .before .before .args .width) (c .before .before .before .before .before .args .breaks) (c .before .before .before .before .before .args .d .now)) ≤ length (c .before .before .before .before .before .args .d .now) + 1

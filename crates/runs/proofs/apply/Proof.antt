@@ -20,7 +20,7 @@ use Rattle.pad.proofs.write_padded_start.Reads as write-padded-start-reads
 use Rattle.replace.proofs.write_replaced_flat.Reads as write-replaced-flat-reads
 use Rattle.truncate.proofs.write_truncated_end.Reads as write-truncated-end-reads
 use Rattle.truncate.proofs.write_truncated_start.Reads as write-truncated-start-reads
-use Rattle.wrapped.proofs.write_wrapped.Reads as write-wrapped-reads
+use Rattle.wrap.proofs.write_wrapped.Reads as write-wrapped-reads
 
 write-truncated-start-requires : tie.Need-write-truncated-start-requires
 write-truncated-start-requires c κs = search needs

@@ -10,7 +10,7 @@ use Rattle.io.proofs.write_all.Reads as write-all-reads
 use Rattle.report.proofs.answer.Reads as answer-reads
 use Rattle.wrap_test.proofs.hex.Reads as hex-reads
 use Rattle.report.proofs.numbers.Reads as numbers-reads
-use Rattle.wrapped.proofs.write_wrapped.Reads as write-wrapped-reads
+use Rattle.wrap.proofs.write_wrapped.Reads as write-wrapped-reads
 
 write-all-requires : tie.Need-write-all-requires
 write-all-requires c κs = search needs

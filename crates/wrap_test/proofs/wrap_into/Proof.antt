@@ -7,7 +7,7 @@ use Rattle.wrap_test.proofs.wrap_into.Tie as tie
 use Rattle.wrap_test.proofs.wrap_into.Reads as reads
 use Rattle.wrap_test.proofs.wrap_into.Lts as lts
 use Rattle.io.proofs.write_all.Reads as write-all-reads
-use Rattle.wrap.proofs.wrap_bytes.Reads as wrap-bytes-reads
+use Rattle.wrap_lines.proofs.wrap_bytes.Reads as wrap-bytes-reads
 use Rattle.report.proofs.answer.Reads as answer-reads
 use Rattle.report.proofs.numbers.Reads as numbers-reads
 

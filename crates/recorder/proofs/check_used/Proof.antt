@@ -1,0 +1,64 @@
+-- `check_used`: a length above its buffer comes first (`at-once`), else the fault is that of the used parts.
+use borrow.Author.Needs.{needs}
+use Rattle.recorder.proofs.AddLaws.{long-data, long-entries, long-text, no-long, at-once}
+use Rattle.recorder.specs.Recorder.{lent, usedOf, lengthsFault}
+use Rattle.recording.proofs.OutcomeLaws.{first-on, first-one}
+use Rattle.recording.specs.Check.{faultOf}
+use Rattle.recording.specs.Refusals.{numberOf, recordingFault}
+use lib.Seq.{length-take-le}
+use mathlib.Core.Path.{sym, _∙_}
+use mathlib.Core.List.{[], _∷_}
+use Rattle.recorder.proofs.check_used.Statement.{statement}
+use Rattle.recorder.proofs.check_used.Tie as tie
+use Rattle.recorder.proofs.check_used.Reads as reads
+use Rattle.recorder.proofs.check_used.Lts as lts
+use Rattle.recording.proofs.check.Reads as check-reads
+
+returns : tie.Need-returns
+unfolding faultOf numberOf
+returns c =
+    sym (at-once (lent (c .before .before .before .before .args .content .now) (c .before .before .before .before .args .entries .now) (c .before .before .before .before .args .text .now)) (c .before .before .before .before .args .d) (c .before .before .before .before .args .e) (c .before .before .before .before .args .n) (long-data _ _ _ _ (c .if1 .taken)))
+
+returns-2 : tie.Need-returns-2
+unfolding faultOf numberOf
+returns-2 c =
+    sym (at-once (lent (c .before .before .before .before .before .args .content .now) (c .before .before .before .before .before .args .entries .now) (c .before .before .before .before .before .args .text .now)) (c .before .before .before .before .before .args .d) (c .before .before .before .before .before .args .e) (c .before .before .before .before .before .args .n) (long-entries _ _ _ _ (c .before .if1 .left) (c .if2 .taken)))
+
+returns-3 : tie.Need-returns-3
+unfolding faultOf numberOf
+returns-3 c =
+    sym (at-once (lent (c .before .before .before .before .before .before .args .content .now) (c .before .before .before .before .before .before .args .entries .now) (c .before .before .before .before .before .before .args .text .now)) (c .before .before .before .before .before .before .args .d) (c .before .before .before .before .before .before .args .e) (c .before .before .before .before .before .before .args .n) (long-text _ _ _ _ (c .before .before .if1 .left) (c .before .if2 .left) (c .if3 .taken)))
+
+slice-aggregate-check : tie.Need-slice-aggregate-check
+slice-aggregate-check c =
+    sym (length-take-le (c .before .before .before .before .before .before .before .args .d) (c .before .before .before .before .before .before .before .args .content .now) (c .before .before .before .if1 .left))
+
+slice-aggregate-check-2 : tie.Need-slice-aggregate-check-2
+slice-aggregate-check-2 c =
+    sym (length-take-le (c .before .before .before .before .before .before .before .before .args .e) (c .before .before .before .before .before .before .before .before .args .entries .now) (c .before .before .before .if2 .left))
+
+slice-aggregate-check-3 : tie.Need-slice-aggregate-check-3
+slice-aggregate-check-3 c =
+    sym (length-take-le (c .before .before .before .before .before .before .before .before .before .args .n) (c .before .before .before .before .before .before .before .before .before .args .text .now) (c .before .before .before .if3 .left))
+
+check-requires : tie.Need-check-requires
+check-requires c κs = search needs
+
+returns-4 : tie.Need-returns-4
+returns-4 c =
+    let z = no-long (lent (c .before .before .before .before .before .before .before .before .before .before .args .content .now) (c .before .before .before .before .before .before .before .before .before .before .args .entries .now) (c .before .before .before .before .before .before .before .before .before .before .args .text .now)) (c .before .before .before .before .before .before .before .before .before .before .args .d) (c .before .before .before .before .before .before .before .before .before .before .args .e) (c .before .before .before .before .before .before .before .before .before .before .args .n) (c .before .before .before .before .before .before .if1 .left) (c .before .before .before .before .before .if2 .left) (c .before .before .before .before .if3 .left) in
+    let r = recordingFault (usedOf (lent (c .before .before .before .before .before .before .before .before .before .before .args .content .now) (c .before .before .before .before .before .before .before .before .before .before .args .entries .now) (c .before .before .before .before .before .before .before .before .before .before .args .text .now)) (c .before .before .before .before .before .before .before .before .before .before .args .d) (c .before .before .before .before .before .before .before .before .before .before .args .e) (c .before .before .before .before .before .before .before .before .before .before .args .n)) in
+    c .check .ensures .0 ∙ sym (first-on (lengthsFault (lent (c .before .before .before .before .before .before .before .before .before .before .args .content .now) (c .before .before .before .before .before .before .before .before .before .before .args .entries .now) (c .before .before .before .before .before .before .before .before .before .before .args .text .now)) (c .before .before .before .before .before .before .before .before .before .before .args .d) (c .before .before .before .before .before .before .before .before .before .before .args .e) (c .before .before .before .before .before .before .before .before .before .before .args .n)) (r ∷ []) z ∙ first-one r)
+
+pub check-used-spec : {M : Type 1} → statement M
+check-used-spec =
+    tie.close
+    (tie.spec
+    returns
+    returns-2
+    returns-3
+    slice-aggregate-check
+    slice-aggregate-check-2
+    slice-aggregate-check-3
+    check-requires
+    returns-4)

@@ -1,0 +1,387 @@
+// Module 1 of document 01, the recorder: append data, push a label, pop it, append a raw sequence, replay. None of the calls requires anything.
+// Each answers as `returned` and leaves its buffers as `lentAfter` have it of the call's outcome in `specs/Recorder.antt`; refused calls write nothing.
+// A call makes the lead table once and lends it down: that is the parameter t of the functions behind it.
+use buffer::put;
+use chars::LEADS;
+use chars::well_formed;
+use recording::Answer;
+use recording::Checked;
+use recording::Entry;
+use recording::Refusal;
+use recording::check;
+use writer::Cursor;
+use writer::Settled;
+use writer::put_recording;
+use writer::set_entry;
+use writer::settle;
+ghost use mathlib.Core.Path.{_≡_};
+ghost use Prim.Native.Nat.{_+_, _≤_};
+ghost use mathlib.Core.List.{[], _∷_};
+ghost use lib.ListN.{length};
+ghost use Rattle.buffer.specs.Place.{overAt};
+ghost use Rattle.chars.specs.Leads.{leadTable};
+ghost use Rattle.recording.specs.Recording.{recording, entry, numbersOf};
+ghost use Rattle.recording.specs.Refusals.{firstOf, recordingFault};
+ghost use Rattle.recording.specs.Outcome.{lentAfter, returned, answerOf};
+ghost use Rattle.recording.specs.Check.{faultOf};
+ghost use Rattle.recorder.specs.Recorder.{lent, usedOf, lengthsFault, replayed, written, pushed, popped, rawAdded};
+
+fn replay_by(
+    t: &[u16; 256],
+    content: &[u8],
+    entries: &[u32],
+    text: &[u8],
+    bytes: &mut [u8],
+    numbers: &mut [u32],
+    texts: &mut [u8],
+) -> Answer
+    requires { ⌜ now t ≡ leadTable ⌝ }
+    ensures { λ r. ⌜ answerOf r ≡ returned (replayed (recording (now (content .entry)) (now (entries .entry)) (now (text .entry))) (lent (now (bytes .entry)) (now (numbers .entry)) (now (texts .entry)))) ⌝ }
+    ensures { λ r. ⌜ lent (now (bytes .exit)) (now (numbers .exit)) (now (texts .exit)) ≡ lentAfter (replayed (recording (now (content .entry)) (now (entries .entry)) (now (text .entry))) (lent (now (bytes .entry)) (now (numbers .entry)) (now (texts .entry)))) (lent (now (bytes .entry)) (now (numbers .entry)) (now (texts .entry))) ⌝ }
+{
+    let checked = check(t, content, entries, text);
+    let size = match checked {
+        Checked::Refused(f) => {
+            return Answer::Refused(f);
+        }
+        Checked::Fine(n) => n,
+    };
+    let verdict = settle(
+        content.len(),
+        entries.len(),
+        size,
+        0,
+        bytes.len(),
+        numbers.len(),
+        texts.len(),
+        0,
+    );
+    match verdict {
+        Settled::Refused(f) => {
+            return Answer::Refused(f);
+        }
+        Settled::Room => {}
+    }
+    let start = Cursor {
+        at: 0,
+        k: 0,
+        d: 0,
+        e: 0,
+        t: 0,
+    };
+    let c = put_recording(bytes, numbers, texts, content, entries, text, start);
+    Answer::Done {
+        data: c.d,
+        entries: c.e,
+        text: c.t,
+        number: 0,
+    }
+}
+
+// Copies a recording into three lent buffers, each entry's text one after another from 0; text that no entry uses is left out.
+pub fn replay(
+    content: &[u8],
+    entries: &[u32],
+    text: &[u8],
+    out_data: &mut [u8],
+    out_entries: &mut [u32],
+    out_text: &mut [u8],
+) -> Answer
+    ensures { λ r. ⌜ answerOf r ≡ returned (replayed (recording (now (content .entry)) (now (entries .entry)) (now (text .entry))) (lent (now («out_data» .entry)) (now («out_entries» .entry)) (now («out_text» .entry)))) ⌝ }
+    ensures { λ r. ⌜ lent (now («out_data» .exit)) (now («out_entries» .exit)) (now («out_text» .exit)) ≡ lentAfter (replayed (recording (now (content .entry)) (now (entries .entry)) (now (text .entry))) (lent (now («out_data» .entry)) (now («out_entries» .entry)) (now («out_text» .entry)))) (lent (now («out_data» .entry)) (now («out_entries» .entry)) (now («out_text» .entry))) ⌝ }
+{
+    let t = LEADS;
+    replay_by(&t, content, entries, text, out_data, out_entries, out_text)
+}
+
+// Refusal 10, then the content's 1 to 6, in buffers of which d, e and n numbers are used.
+fn check_used(
+    t: &[u16; 256],
+    content: &[u8],
+    entries: &[u32],
+    text: &[u8],
+    d: usize,
+    e: usize,
+    n: usize,
+) -> Checked
+    requires { ⌜ now t ≡ leadTable ⌝ }
+    ensures { λ r. ⌜ faultOf r ≡ firstOf (lengthsFault (lent (now (content .entry)) (now (entries .entry)) (now (text .entry))) d e n ∷ recordingFault (usedOf (lent (now (content .entry)) (now (entries .entry)) (now (text .entry))) d e n) ∷ []) ⌝ }
+{
+    if content.len() < d {
+        return Checked::Refused(Refusal::LengthOverBuffer);
+    }
+    if entries.len() < e {
+        return Checked::Refused(Refusal::LengthOverBuffer);
+    }
+    if text.len() < n {
+        return Checked::Refused(Refusal::LengthOverBuffer);
+    }
+    check(t, &content[..d], &entries[..e], &text[..n])
+}
+
+fn check_lent(content: &[u8], entries: &[u32], text: &[u8], d: usize, e: usize, n: usize) -> Checked
+    ensures { λ r. ⌜ faultOf r ≡ firstOf (lengthsFault (lent (now (content .entry)) (now (entries .entry)) (now (text .entry))) d e n ∷ recordingFault (usedOf (lent (now (content .entry)) (now (entries .entry)) (now (text .entry))) d e n) ∷ []) ⌝ }
+{
+    let t = LEADS;
+    check_used(&t, content, entries, text, d, e, n)
+}
+
+// Appends bytes to the data; none is allowed.
+pub fn write(
+    content: &mut [u8],
+    content_len: usize,
+    entries: &[u32],
+    entries_len: usize,
+    text: &[u8],
+    text_len: usize,
+    added: &[u8],
+) -> Answer
+    ensures { λ r. ⌜ answerOf r ≡ returned (written (now (added .entry)) (lent (now (content .entry)) (now (entries .entry)) (now (text .entry))) «content_len» «entries_len» «text_len») ⌝ }
+    ensures { λ r. ⌜ lent (now (content .exit)) (now (entries .entry)) (now (text .entry)) ≡ lentAfter (written (now (added .entry)) (lent (now (content .entry)) (now (entries .entry)) (now (text .entry))) «content_len» «entries_len» «text_len») (lent (now (content .entry)) (now (entries .entry)) (now (text .entry))) ⌝ }
+{
+    let checked = check_lent(content, entries, text, content_len, entries_len, text_len);
+    match checked {
+        Checked::Refused(f) => {
+            return Answer::Refused(f);
+        }
+        Checked::Fine(_) => {}
+    }
+    let total = content_len + added.len();
+    let verdict = settle(
+        total,
+        entries_len,
+        text_len,
+        0,
+        content.len(),
+        entries.len(),
+        text.len(),
+        0,
+    );
+    match verdict {
+        Settled::Refused(f) => {
+            return Answer::Refused(f);
+        }
+        Settled::Room => {}
+    }
+    put(content, content_len, added, 0, added.len());
+    Answer::Done {
+        data: total,
+        entries: entries_len,
+        text: text_len,
+        number: 0,
+    }
+}
+
+// A pop of the last label, at the current end. Whether one is open is not asked.
+pub fn pop_label(
+    content: &[u8],
+    content_len: usize,
+    entries: &mut [u32],
+    entries_len: usize,
+    text: &[u8],
+    text_len: usize,
+) -> Answer
+    ensures { λ r. ⌜ answerOf r ≡ returned (popped (lent (now (content .entry)) (now (entries .entry)) (now (text .entry))) «content_len» «entries_len» «text_len») ⌝ }
+    ensures { λ r. ⌜ lent (now (content .entry)) (now (entries .exit)) (now (text .entry)) ≡ lentAfter (popped (lent (now (content .entry)) (now (entries .entry)) (now (text .entry))) «content_len» «entries_len» «text_len») (lent (now (content .entry)) (now (entries .entry)) (now (text .entry))) ⌝ }
+{
+    let checked = check_lent(content, entries, text, content_len, entries_len, text_len);
+    match checked {
+        Checked::Refused(f) => {
+            return Answer::Refused(f);
+        }
+        Checked::Fine(_) => {}
+    }
+    let verdict = settle(
+        content_len,
+        entries_len + 4,
+        text_len,
+        0,
+        content.len(),
+        entries.len(),
+        text.len(),
+        0,
+    );
+    match verdict {
+        Settled::Refused(f) => {
+            return Answer::Refused(f);
+        }
+        Settled::Room => {}
+    }
+    let e = Entry {
+        position: content_len as u32,
+        kind: 1,
+        start: 0,
+        len: 0,
+    };
+    set_entry(entries, entries_len, e);
+    Answer::Done {
+        data: content_len,
+        entries: entries_len + 4,
+        text: text_len,
+        number: 0,
+    }
+}
+
+// Writes an entry from e on, its text `part` from n on.
+fn put_mark(
+    numbers: &mut [u32],
+    e: usize,
+    texts: &mut [u8],
+    n: usize,
+    at: usize,
+    kind: u32,
+    part: &[u8],
+)
+    requires { ⌜ (e + 4 ≤ length (now numbers)) × (n + length (now part) ≤ length (now texts)) ⌝ }
+    requires { ⌜ (at ≤ 1048576) × (n + length (now part) ≤ 65536) ⌝ }
+    ensures { λ _. ⌜ now (numbers .exit) ≡ overAt e (numbersOf (entry at kind n (length (now (part .entry))) ∷ [])) (now (numbers .entry)) ⌝ }
+    ensures { λ _. ⌜ now (texts .exit) ≡ overAt n (now (part .entry)) (now (texts .entry)) ⌝ }
+{
+    let m = Entry {
+        position: at as u32,
+        kind: kind,
+        start: n as u32,
+        len: part.len() as u32,
+    };
+    set_entry(numbers, e, m);
+    put(texts, n, part, 0, part.len());
+}
+
+fn push_by(
+    t: &[u16; 256],
+    content: &[u8],
+    content_len: usize,
+    entries: &mut [u32],
+    entries_len: usize,
+    text: &mut [u8],
+    text_len: usize,
+    label: &[u8],
+) -> Answer
+    requires { ⌜ now t ≡ leadTable ⌝ }
+    ensures { λ r. ⌜ answerOf r ≡ returned (pushed (now (label .entry)) (lent (now (content .entry)) (now (entries .entry)) (now (text .entry))) «content_len» «entries_len» «text_len») ⌝ }
+    ensures { λ r. ⌜ lent (now (content .entry)) (now (entries .exit)) (now (text .exit)) ≡ lentAfter (pushed (now (label .entry)) (lent (now (content .entry)) (now (entries .entry)) (now (text .entry))) «content_len» «entries_len» «text_len») (lent (now (content .entry)) (now (entries .entry)) (now (text .entry))) ⌝ }
+{
+    let checked = check_used(
+        t,
+        content,
+        entries,
+        text,
+        content_len,
+        entries_len,
+        text_len,
+    );
+    match checked {
+        Checked::Refused(f) => {
+            return Answer::Refused(f);
+        }
+        Checked::Fine(_) => {}
+    }
+    if !well_formed(t, label) {
+        return Answer::Refused(Refusal::LabelIllFormed);
+    }
+    let verdict = settle(
+        content_len,
+        entries_len + 4,
+        text_len + label.len(),
+        0,
+        content.len(),
+        entries.len(),
+        text.len(),
+        0,
+    );
+    match verdict {
+        Settled::Refused(f) => {
+            return Answer::Refused(f);
+        }
+        Settled::Room => {}
+    }
+    put_mark(entries, entries_len, text, text_len, content_len, 0, label);
+    Answer::Done {
+        data: content_len,
+        entries: entries_len + 4,
+        text: text_len + label.len(),
+        number: 0,
+    }
+}
+
+// Pushes a label, at the current end.
+pub fn push_label(
+    content: &[u8],
+    content_len: usize,
+    entries: &mut [u32],
+    entries_len: usize,
+    text: &mut [u8],
+    text_len: usize,
+    label: &[u8],
+) -> Answer
+    ensures { λ r. ⌜ answerOf r ≡ returned (pushed (now (label .entry)) (lent (now (content .entry)) (now (entries .entry)) (now (text .entry))) «content_len» «entries_len» «text_len») ⌝ }
+    ensures { λ r. ⌜ lent (now (content .entry)) (now (entries .exit)) (now (text .exit)) ≡ lentAfter (pushed (now (label .entry)) (lent (now (content .entry)) (now (entries .entry)) (now (text .entry))) «content_len» «entries_len» «text_len») (lent (now (content .entry)) (now (entries .entry)) (now (text .entry))) ⌝ }
+{
+    let t = LEADS;
+    push_by(
+        &t,
+        content,
+        content_len,
+        entries,
+        entries_len,
+        text,
+        text_len,
+        label,
+    )
+}
+
+// Appends a raw sequence as one entry at the current end; it is never empty.
+pub fn raw(
+    content: &[u8],
+    content_len: usize,
+    entries: &mut [u32],
+    entries_len: usize,
+    text: &mut [u8],
+    text_len: usize,
+    sequence: &[u8],
+) -> Answer
+    ensures { λ r. ⌜ answerOf r ≡ returned (rawAdded (now (sequence .entry)) (lent (now (content .entry)) (now (entries .entry)) (now (text .entry))) «content_len» «entries_len» «text_len») ⌝ }
+    ensures { λ r. ⌜ lent (now (content .entry)) (now (entries .exit)) (now (text .exit)) ≡ lentAfter (rawAdded (now (sequence .entry)) (lent (now (content .entry)) (now (entries .entry)) (now (text .entry))) «content_len» «entries_len» «text_len») (lent (now (content .entry)) (now (entries .entry)) (now (text .entry))) ⌝ }
+{
+    let checked = check_lent(content, entries, text, content_len, entries_len, text_len);
+    match checked {
+        Checked::Refused(f) => {
+            return Answer::Refused(f);
+        }
+        Checked::Fine(_) => {}
+    }
+    if sequence.len() == 0 {
+        return Answer::Refused(Refusal::EntryShape);
+    }
+    let verdict = settle(
+        content_len,
+        entries_len + 4,
+        text_len + sequence.len(),
+        0,
+        content.len(),
+        entries.len(),
+        text.len(),
+        0,
+    );
+    match verdict {
+        Settled::Refused(f) => {
+            return Answer::Refused(f);
+        }
+        Settled::Room => {}
+    }
+    put_mark(
+        entries,
+        entries_len,
+        text,
+        text_len,
+        content_len,
+        2,
+        sequence,
+    );
+    Answer::Done {
+        data: content_len,
+        entries: entries_len + 4,
+        text: text_len + sequence.len(),
+        number: 0,
+    }
+}
