@@ -88,7 +88,7 @@ abbrev pub illFormed : Bytes → Bytes → ℕ
 illFormed s e = refuseIf (not (wellFormed s && wellFormed e)) 7
 
 abbrev pub faultsBy : ℕ → ℕ → ℕ → Faults
-faultsBy content second plain = record { lengths = 0; content = content; second = second; added = 0; plain = plain; records = 0 }
+faultsBy content second plain = record { lengths = 0; content = content; second = second; added = 0; plain = plain; own = 0 }
 
 unfoldable pub plainFaults : Bytes → Bytes → Faults
 plainFaults s e = faultsBy (overData s) (overData e) (illFormed s e)

@@ -11,7 +11,7 @@ use Rattle.recording.specs.Edit.{edit}
 use Rattle.recording.specs.Refusals.{recordingFault}
 use Rattle.recording.proofs.SizeLaws.{entryCount, count-append}
 use Rattle.writer.proofs.Laws.{text-size, data-size}
-use Rattle.layout.specs.Layout.{indentOps, indent, resultItems, linesLeft, number, secondFault, replacementFault}
+use Rattle.layout.specs.Layout.{indentOps, indent, resultItems, linesLeft, number, secondFault, ownFault}
 use Rattle.outcomes.proofs.SecondLaws.{Fine}
 use Rattle.indent.specs.Lines.{filledLines}
 use Rattle.indent.proofs.Laws.{sized}
@@ -50,8 +50,8 @@ pub second-of : (p : Recording) → secondFault (indent p) ≡ recordingFault p
 unfolding secondFault
 second-of p = refl
 
-pub records-of : (p c : Recording) → replacementFault (indent p) c ≡ 0
-unfolding replacementFault
+pub records-of : (p c : Recording) → ownFault (indent p) c ≡ 0
+unfolding ownFault
 records-of p c = refl
 
 pub lines-of : (p c : Recording) → linesLeft (indent p) c ≡ []

@@ -15,7 +15,7 @@ use Rattle.recording.specs.Recording.{Bytes, Recording, Item, byte, push, pop, 
 use Rattle.recording.specs.Refusals.{recordingFault}
 use Rattle.recording.proofs.FaultLaws.{Ok, ItemOk, ok-bytes, ok-edit, OkPuts, ok-recording, encoded}
 use Rattle.recording.proofs.Lists.{all-append}
-use Rattle.layout.specs.Layout.{trimmedStartPos, cutEnd, cutStart, copies, repeatPieces, padding, fillCount, indentOps, wrapOps, replaceOps, Job, truncateStart, truncateEnd, padStart, padEnd, padCentered, indent, wrap, replace, Call, resultItems, secondFault, refusal, after, faultsOf, resultOf}
+use Rattle.layout.specs.Layout.{trimmedStartPos, cutEnd, cutStart, copies, repeatPieces, padding, fillCount, indentOps, wrapOps, replaceOps, Kind, writeTruncatedStart, writeTruncatedEnd, writePaddedStart, writePaddedEnd, writePaddedCentered, writeIndented, Single, writeWrapped, writeReplaced, Job, withSecond, alone, singleOps, Call, resultItems, secondFault, refusal, after, faultsOf, resultOf}
 use Rattle.layout.specs.Wrap.{Line, wrapLines}
 use Rattle.layout.specs.declared.Replacement.{Replacement}
 use Rattle.layout.proofs.ListLaws.{after-done, GrantedCall, granted-call}
@@ -56,29 +56,32 @@ ok-wrap n at [] = tt
 ok-wrap n at (l ∷ []) = tt
 ok-wrap n at (l ∷ m ∷ ls) = ((tt, tt), ok-wrap n (l .end) (m ∷ ls))
 
+ok-single : (s : Single) (d : Bytes) → OkPuts (singleOps s d)
+ok-single (writeWrapped w b) d = ok-wrap (length d) 0 (wrapLines w b d)
+ok-single (writeReplaced xs t) d = ok-replace t 0 xs
+
 ok-result : (j : Job) (r : Recording) → recordingFault r ≡ 0 → secondFault j ≡ 0 → Ok (resultItems j r)
 unfolding resultItems secondFault
-ok-result (truncateStart m e) r h g =
+ok-result (withSecond writeTruncatedStart m e) r h g =
     let x : List Item = edit (cutStart (trimmedStartPos m (e .dataBytes))) (items e) in
     let y : List Item = edit (cutStart (trimmedStartPos (m - textWidth (e .dataBytes)) (r .dataBytes))) (items r) in
     ok-cond (ltb m (textWidth (r .dataBytes))) (x ++ y) (edit (cutStart (zeroWidthLen (r .dataBytes))) (items r))
     (all-append ItemOk x y (ok-edit (cutStart (trimmedStartPos m (e .dataBytes))) (items e) tt (ok-recording e g)) (ok-edit (cutStart (trimmedStartPos (m - textWidth (e .dataBytes)) (r .dataBytes))) (items r) tt (ok-recording r h)))
     (ok-edit (cutStart (zeroWidthLen (r .dataBytes))) (items r) tt (ok-recording r h))
-ok-result (truncateEnd m e) r h g =
+ok-result (withSecond writeTruncatedEnd m e) r h g =
     let x : List Item = edit (cutEnd (truncateEndPos (m - textWidth (e .dataBytes)) (r .dataBytes)) (r .dataBytes)) (items r) in
     let y : List Item = edit (cutEnd (truncateEndPos m (e .dataBytes)) (e .dataBytes)) (items e) in
     ok-cond (ltb m (textWidth (r .dataBytes))) (x ++ y) (items r)
     (all-append ItemOk x y (ok-edit (cutEnd (truncateEndPos (m - textWidth (e .dataBytes)) (r .dataBytes)) (r .dataBytes)) (items r) tt (ok-recording r h)) (ok-edit (cutEnd (truncateEndPos m (e .dataBytes)) (e .dataBytes)) (items e) tt (ok-recording e g)))
     (ok-recording r h)
-ok-result (padStart m f) r h g = all-append ItemOk (padding (fillCount m (r .dataBytes)) (items f)) (items r) (ok-padding (fillCount m (r .dataBytes)) (items f) (ok-recording f g)) (ok-recording r h)
-ok-result (padEnd m f) r h g = all-append ItemOk (items r) (padding (fillCount m (r .dataBytes)) (items f)) (ok-recording r h) (ok-padding (fillCount m (r .dataBytes)) (items f) (ok-recording f g))
-ok-result (padCentered m f) r h g =
+ok-result (withSecond writePaddedStart m f) r h g = all-append ItemOk (padding (fillCount m (r .dataBytes)) (items f)) (items r) (ok-padding (fillCount m (r .dataBytes)) (items f) (ok-recording f g)) (ok-recording r h)
+ok-result (withSecond writePaddedEnd m f) r h g = all-append ItemOk (items r) (padding (fillCount m (r .dataBytes)) (items f)) (ok-recording r h) (ok-padding (fillCount m (r .dataBytes)) (items f) (ok-recording f g))
+ok-result (withSecond writePaddedCentered m f) r h g =
     let n : ℕ = fillCount m (r .dataBytes) in
     all-append ItemOk (padding (n / 2) (items f)) (items r ++ padding (n - n / 2) (items f)) (ok-padding (n / 2) (items f) (ok-recording f g))
     (all-append ItemOk (items r) (padding (n - n / 2) (items f)) (ok-recording r h) (ok-padding (n - n / 2) (items f) (ok-recording f g)))
-ok-result (indent p) r h g = ok-edit (indentOps (items p) true (r .dataBytes)) (items r) (ok-indent (items p) true (r .dataBytes) (ok-recording p g)) (ok-recording r h)
-ok-result (wrap w b) r h g = ok-edit (wrapOps (length (r .dataBytes)) 0 (wrapLines w b (r .dataBytes))) (items r) (ok-wrap (length (r .dataBytes)) 0 (wrapLines w b (r .dataBytes))) (ok-recording r h)
-ok-result (replace xs t) r h g = ok-edit (replaceOps t 0 xs) (items r) (ok-replace t 0 xs) (ok-recording r h)
+ok-result (withSecond writeIndented m p) r h g = ok-edit (indentOps (items p) true (r .dataBytes)) (items r) (ok-indent (items p) true (r .dataBytes) (ok-recording p g)) (ok-recording r h)
+ok-result (alone s) r h g = ok-edit (singleOps s (r .dataBytes)) (items r) (ok-single s (r .dataBytes)) (ok-recording r h)
 
 pub left-valid : (c : Call) (r : Recording) → refusal c r ≡ 0 → recordingFault (after c r) ≡ 0
 unfolding faultsOf resultOf

@@ -11,7 +11,7 @@ use Rattle.recording.specs.Outcome.{settle}
 use Rattle.recording.specs.Recording.{Bytes, Recording, Item, encode}
 use Rattle.recording.proofs.FaultLaws.{granted, grant, Granted}
 use Rattle.recording.proofs.ItemsLaws.{items-encode}
-use Rattle.layout.specs.Layout.{replacementFault, faultsOf, resultOf, outcome, Call, resultItems, refusal, after, run}
+use Rattle.layout.specs.Layout.{ownFault, faultsOf, resultOf, outcome, Call, resultItems, refusal, after, run}
 use Rattle.layout.specs.Plain.{wasRefused, step, steps, toldOf, told}
 use Rattle.layout.specs.Theorem.{SecondOk, Proper}
 use Rattle.layout.specs.Wrap.{wrapLines}
@@ -38,10 +38,10 @@ pub after-refused : (c : Call) (r : Recording) → eqb (refusal c r) 0 ≡ false
 unfolding after outcome settle refusal
 after-refused c r e = rw e
 
--- the replacement records of a call that is not refused are in order
-granted-records : (c : Call) (r : Recording) → refusal c r ≡ 0 → replacementFault (c .job) r ≡ 0
+-- a call that is not refused has no fault of its own: its replacement records are in order
+granted-own : (c : Call) (r : Recording) → refusal c r ≡ 0 → ownFault (c .job) r ≡ 0
 unfolding faultsOf
-granted-records c r z = granted-call c r z .records
+granted-own c r z = granted-call c r z .own
 
 pub coloured-encode : (is : List Item) → coloured (encode is) ≡ colouredFrom [] is
 unfolding coloured
@@ -66,7 +66,7 @@ module _ (o : (w : ℕ) (b : Bool) (d : Bytes) → Ordered 0 (wrapLines w b d) �
       go : (t : Bool) → eqb (refusal c r) 0 ≡ t → coloured (after c r) ≡ step (cond t (toldOf (c .job)) wasRefused) (coloured r)
       go true e =
           let z = eqb-true (refusal c r) 0 e in
-          rw (after-done c r e, coloured-encode (resultItems (c .job) r)) (step-law r h o (c .job) (p z) (granted-records c r z))
+          rw (after-done c r e, coloured-encode (resultItems (c .job) r)) (step-law r h o (c .job) (p z) (granted-own c r z))
       go false e = rw (after-refused c r e) (unfold step in refl)
 
   pub colours-law : (cs : List Call) (r : Recording) → balanced r ≡ true → Proper cs r → coloured (run cs r) ≡ steps (told cs r) (coloured r)

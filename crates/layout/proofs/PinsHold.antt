@@ -11,11 +11,11 @@ use Rattle.recording.specs.Recording.{Bytes, recording, items, encode}
 use Rattle.recording.specs.Refusals.{badShape, entryFault, recordingFault}
 use Rattle.recording.specs.Outcome.{Room, refused, overLimit, noRoom, refusalOf, settle}
 use Rattle.layout.specs.Wrap.{splitWordsAtWidth, firstFit, wrappedLine, wrapLines}
-use Rattle.layout.specs.Layout.{wrap, trimmedStartPos, fillCount, resultItems, linesLeft, number, resultOf, secondFault, replacementFault, faultsOf, outcome}
+use Rattle.layout.specs.Layout.{wrap, trimmedStartPos, fillCount, resultItems, linesLeft, number, resultOf, secondFault, ownFault, faultsOf, outcome}
 use Rattle.layout.specs.Pins.{pins, asked, due}
 
 pub pins-hold : asked pins ≡ due pins
-unfolding pins table37 rowOf tailLen complete ranges charWidth charAt chars textWidth wellFormed truncateEndPos truncateEndWidth truncateStartPos truncateStartWidth zeroWidthLen items encode badShape entryFault recordingFault overLimit noRoom refusalOf settle splitWordsAtWidth firstFit wrappedLine wrapLines trimmedStartPos fillCount resultItems linesLeft number resultOf secondFault replacementFault faultsOf outcome
+unfolding pins table37 rowOf tailLen complete ranges charWidth charAt chars textWidth wellFormed truncateEndPos truncateEndWidth truncateStartPos truncateStartWidth zeroWidthLen items encode badShape entryFault recordingFault overLimit noRoom refusalOf settle splitWordsAtWidth firstFit wrappedLine wrapLines trimmedStartPos fillCount resultItems linesLeft number resultOf secondFault ownFault faultsOf outcome
 pins-hold = refl
 
 -- 1: one byte over the limit, and no fault at it

@@ -17,7 +17,7 @@ use Rattle.recording.specs.Recording.{Bytes, Recording, Item, byteItems, items}
 use Rattle.recording.proofs.EditLaws.{PutsBal, coloured-append, open-under, edit-law, edit-bal, bal-append}
 use Rattle.recording.proofs.ItemsLaws.{values-of}
 use Rattle.recording.proofs.Lists.{or-left, or-right}
-use Rattle.layout.specs.Layout.{replacementFault, trimmedStartPos, cutEnd, cutStart, padding, fillCount, indentOps, wrapOps, replaceOps, Job, truncateStart, truncateEnd, padStart, padEnd, padCentered, indent, wrap, replace, resultItems, recordsFault}
+use Rattle.layout.specs.Layout.{ownFault, singleOps, trimmedStartPos, cutEnd, cutStart, padding, fillCount, indentOps, wrapOps, replaceOps, Kind, writeTruncatedStart, writeTruncatedEnd, writePaddedStart, writePaddedEnd, writePaddedCentered, writeIndented, Single, writeWrapped, writeReplaced, Job, withSecond, alone, truncateStart, truncateEnd, padStart, padEnd, padCentered, wrap, replace, resultItems, recordsFault}
 use Rattle.layout.specs.Plain.{times, withLabels, indented, wrapped, replaced, step, toldOf}
 use Rattle.layout.specs.Theorem.{SecondOk}
 use Rattle.layout.specs.Wrap.{Line, wrapLines}
@@ -132,6 +132,10 @@ pub length-coloured : (r : Recording) → length (colouredFrom [] (items r)) ≡
 unfolding coloured
 length-coloured r = sym (length-values (coloured r)) ∙ ap length (values-of r)
 
+single-puts : (s : Single) (d : Bytes) → PutsBal (singleOps s d)
+single-puts (writeWrapped w b) d = wrap-puts (length d) 0 (wrapLines w b d)
+single-puts (writeReplaced xs t) d = replace-puts t 0 xs
+
 module _ (r : Recording) (h : balanced r ≡ true) where
   here : balancedFrom 0 (items r) ≡ true
   unfolding balanced
@@ -181,9 +185,10 @@ module _ (r : Recording) (h : balanced r ≡ true) where
         let n : ℕ = fillCount m (r .dataBytes) in
         rw (values-of r, coloured-join (padding (n / 2) (items f)) (items r ++ padding (n - n / 2) (items f)) (pads-bal (n / 2)), coloured-join (items r) (padding (n - n / 2) (items f)) here, pads (n / 2), pads (n - n / 2)) (unfold coloured in refl)
 
-  indented-law : (p : Recording) → balanced p ≡ true → colouredFrom [] (resultItems (indent p) r) ≡ step (toldOf (indent p)) (coloured r)
+  indented-law : (m : ℕ) (p : Recording) → balanced p ≡ true
+      → colouredFrom [] (resultItems (withSecond writeIndented m p) r) ≡ step (toldOf (withSecond writeIndented m p)) (coloured r)
   unfolding resultItems step toldOf coloured balanced
-  indented-law p g =
+  indented-law m p g =
       edit-law (indentOps (items p) true (r .dataBytes)) [] (items r) h (indent-puts (items p) true (r .dataBytes) g)
       ∙ (rw (values-of r) at (indent-law (items p) true (coloured r)))
 
@@ -200,36 +205,35 @@ module _ (r : Recording) (h : balanced r ≡ true) where
   -- balance is kept
   pub bal-law : (j : Job) → SecondOk j → balancedFrom 0 (resultItems j r) ≡ true
   unfolding resultItems balanced
-  bal-law (truncateStart m e) g =
+  bal-law (withSecond writeTruncatedStart m e) g =
       let x : List Item = edit (cutStart (trimmedStartPos m (e .dataBytes))) (items e) in
       let y : List Item = edit (cutStart (trimmedStartPos (m - textWidth (e .dataBytes)) (r .dataBytes))) (items r) in
       bal-cond (ltb m (textWidth (r .dataBytes))) (x ++ y) (edit (cutStart (zeroWidthLen (r .dataBytes))) (items r))
-      (bal-join x y (edit-bal (cutStart (trimmedStartPos m (e .dataBytes))) 0 (items e) tt g) (edit-bal (cutStart (trimmedStartPos (m - textWidth (e .dataBytes)) (r .dataBytes))) 0 (items r) tt h))
+      (bal-join x y (edit-bal (cutStart (trimmedStartPos m (e .dataBytes))) 0 (items e) tt (g .0)) (edit-bal (cutStart (trimmedStartPos (m - textWidth (e .dataBytes)) (r .dataBytes))) 0 (items r) tt h))
       (edit-bal (cutStart (zeroWidthLen (r .dataBytes))) 0 (items r) tt h)
-  bal-law (truncateEnd m e) g =
+  bal-law (withSecond writeTruncatedEnd m e) g =
       let x : List Item = edit (cutEnd (truncateEndPos (m - textWidth (e .dataBytes)) (r .dataBytes)) (r .dataBytes)) (items r) in
       let y : List Item = edit (cutEnd (truncateEndPos m (e .dataBytes)) (e .dataBytes)) (items e) in
       bal-cond (ltb m (textWidth (r .dataBytes))) (x ++ y) (items r)
-      (bal-join x y (edit-bal (cutEnd (truncateEndPos (m - textWidth (e .dataBytes)) (r .dataBytes)) (r .dataBytes)) 0 (items r) tt h) (edit-bal (cutEnd (truncateEndPos m (e .dataBytes)) (e .dataBytes)) 0 (items e) tt g))
+      (bal-join x y (edit-bal (cutEnd (truncateEndPos (m - textWidth (e .dataBytes)) (r .dataBytes)) (r .dataBytes)) 0 (items r) tt h) (edit-bal (cutEnd (truncateEndPos m (e .dataBytes)) (e .dataBytes)) 0 (items e) tt (g .0)))
       h
-  bal-law (padStart m f) g = bal-join (padding (fillCount m (r .dataBytes)) (items f)) (items r) (pads-bal f (g .0) (g .1) (fillCount m (r .dataBytes))) h
-  bal-law (padEnd m f) g = bal-join (items r) (padding (fillCount m (r .dataBytes)) (items f)) h (pads-bal f (g .0) (g .1) (fillCount m (r .dataBytes)))
-  bal-law (padCentered m f) g =
+  bal-law (withSecond writePaddedStart m f) g = bal-join (padding (fillCount m (r .dataBytes)) (items f)) (items r) (pads-bal f (g .0) (g .1 refl) (fillCount m (r .dataBytes))) h
+  bal-law (withSecond writePaddedEnd m f) g = bal-join (items r) (padding (fillCount m (r .dataBytes)) (items f)) h (pads-bal f (g .0) (g .1 refl) (fillCount m (r .dataBytes)))
+  bal-law (withSecond writePaddedCentered m f) g =
       let n : ℕ = fillCount m (r .dataBytes) in
-      bal-join (padding (n / 2) (items f)) (items r ++ padding (n - n / 2) (items f)) (pads-bal f (g .0) (g .1) (n / 2)) (bal-join (items r) (padding (n - n / 2) (items f)) h (pads-bal f (g .0) (g .1) (n - n / 2)))
-  bal-law (indent p) g = edit-bal (indentOps (items p) true (r .dataBytes)) 0 (items r) (indent-puts (items p) true (r .dataBytes) g) h
-  bal-law (wrap w b) g = edit-bal (wrapOps (length (r .dataBytes)) 0 (wrapLines w b (r .dataBytes))) 0 (items r) (wrap-puts (length (r .dataBytes)) 0 (wrapLines w b (r .dataBytes))) h
-  bal-law (replace xs t) g = edit-bal (replaceOps t 0 xs) 0 (items r) (replace-puts t 0 xs) h
+      bal-join (padding (n / 2) (items f)) (items r ++ padding (n - n / 2) (items f)) (pads-bal f (g .0) (g .1 refl) (n / 2)) (bal-join (items r) (padding (n - n / 2) (items f)) h (pads-bal f (g .0) (g .1 refl) (n - n / 2)))
+  bal-law (withSecond writeIndented m p) g = edit-bal (indentOps (items p) true (r .dataBytes)) 0 (items r) (indent-puts (items p) true (r .dataBytes) (g .0)) h
+  bal-law (alone s) g = edit-bal (singleOps s (r .dataBytes)) 0 (items r) (single-puts s (r .dataBytes)) h
 
   -- the plain step
   pub step-law : ((w : ℕ) (b : Bool) (d : Bytes) → Ordered 0 (wrapLines w b d) × (0 < length (wrapLines w b d)))
-      → (j : Job) → SecondOk j → replacementFault j r ≡ 0 → colouredFrom [] (resultItems j r) ≡ step (toldOf j) (coloured r)
-  unfolding replacementFault
-  step-law o (truncateStart m e) g z = start-law m e g
-  step-law o (truncateEnd m e) g z = end-law m e g (length-coloured e)
-  step-law o (padStart m f) g z = padStart-law f (g .0) (g .1) m
-  step-law o (padEnd m f) g z = padEnd-law f (g .0) (g .1) m
-  step-law o (padCentered m f) g z = padBoth-law f (g .0) (g .1) m
-  step-law o (indent p) g z = indented-law p g
-  step-law o (wrap w b) g z = wrapped-law w b (wrapLines w b (r .dataBytes)) refl ((o w b (r .dataBytes)) .0) ((o w b (r .dataBytes)) .1)
-  step-law o (replace xs t) g z = replaced-law xs t (sorted 0 (length (r .dataBytes)) (length t) xs z)
+      → (j : Job) → SecondOk j → ownFault j r ≡ 0 → colouredFrom [] (resultItems j r) ≡ step (toldOf j) (coloured r)
+  unfolding ownFault
+  step-law o (withSecond writeTruncatedStart m e) g z = start-law m e (g .0)
+  step-law o (withSecond writeTruncatedEnd m e) g z = end-law m e (g .0) (length-coloured e)
+  step-law o (withSecond writePaddedStart m f) g z = padStart-law f (g .0) (g .1 refl) m
+  step-law o (withSecond writePaddedEnd m f) g z = padEnd-law f (g .0) (g .1 refl) m
+  step-law o (withSecond writePaddedCentered m f) g z = padBoth-law f (g .0) (g .1 refl) m
+  step-law o (withSecond writeIndented m p) g z = indented-law m p (g .0)
+  step-law o (alone (writeWrapped w b)) g z = wrapped-law w b (wrapLines w b (r .dataBytes)) refl ((o w b (r .dataBytes)) .0) ((o w b (r .dataBytes)) .1)
+  step-law o (alone (writeReplaced xs t)) g z = replaced-law xs t (sorted 0 (length (r .dataBytes)) (length t) xs z)

@@ -17,7 +17,7 @@ use Rattle.recording.specs.Refusals.{recordingFault}
 use Rattle.recording.proofs.EditLaws.{data-append, edit-data}
 use Rattle.recording.proofs.FaultLaws.{no-fault, in-limits, Roomy, roomy}
 use Rattle.recording.proofs.ItemsLaws.{data-items, data-bytes}
-use Rattle.layout.specs.Layout.{trimmedStartPos, cutEnd, cutStart, copies, repeatPieces, padding, fillCount, indentOps, wrapOps, replaceOps, Job, truncateStart, truncateEnd, padStart, padEnd, padCentered, indent, wrap, replace, Call, resultItems, linesLeft, secondFault, refusal, after, run, replacementFault, faultsOf, resultOf}
+use Rattle.layout.specs.Layout.{trimmedStartPos, cutEnd, cutStart, copies, repeatPieces, padding, fillCount, indentOps, wrapOps, replaceOps, Kind, writeTruncatedStart, writeTruncatedEnd, writePaddedStart, writePaddedEnd, writePaddedCentered, writeIndented, Single, writeWrapped, writeReplaced, Job, withSecond, alone, singleOps, Call, resultItems, linesLeft, secondFault, refusal, after, run, ownFault, faultsOf, resultOf}
 use Rattle.layout.specs.Theorem.{SecondOk, Proper, strippedJob, stripped, again, NoneRefused}
 use Rattle.layout.specs.Wrap.{Line, wrapLines, lineNumbers}
 use Rattle.layout.specs.declared.Replacement.{Replacement}
@@ -25,17 +25,20 @@ use Rattle.layout.proofs.ListLaws.{after-done, after-refused, GrantedCa
 use Rattle.layout.proofs.PadLaws.{NoBytes, Flat, flat, repeat-flat}
 
 -- ── the data of a result, from the data of the content and of the second recording
+unfoldable pub kindData : Kind → ℕ → Bytes → Bytes → Bytes
+kindData writeTruncatedStart m e d =
+    cond (ltb m (textWidth d)) (editData (cutStart (trimmedStartPos m e)) e ++ editData (cutStart (trimmedStartPos (m - textWidth e) d)) d) (editData (cutStart (zeroWidthLen d)) d)
+kindData writeTruncatedEnd m e d =
+    cond (ltb m (textWidth d)) (editData (cutEnd (truncateEndPos (m - textWidth e) d) d) d ++ editData (cutEnd (truncateEndPos m e) e) e) d
+kindData writePaddedStart m f d = dataOf (copies (fillCount m d) f) ++ d
+kindData writePaddedEnd m f d = d ++ dataOf (copies (fillCount m d) f)
+kindData writePaddedCentered m f d = let n = fillCount m d in dataOf (copies (n / 2) f) ++ (d ++ dataOf (copies (n - n / 2) f))
+kindData writeIndented m p d = editData (indentOps (byteItems p) true d) d
+
 unfoldable pub resultData : Job → Bytes → Bytes
-resultData (truncateStart m e) d =
-    cond (ltb m (textWidth d)) (editData (cutStart (trimmedStartPos m (e .dataBytes))) (e .dataBytes) ++ editData (cutStart (trimmedStartPos (m - textWidth (e .dataBytes)) d)) d) (editData (cutStart (zeroWidthLen d)) d)
-resultData (truncateEnd m e) d =
-    cond (ltb m (textWidth d)) (editData (cutEnd (truncateEndPos (m - textWidth (e .dataBytes)) d) d) d ++ editData (cutEnd (truncateEndPos m (e .dataBytes)) (e .dataBytes)) (e .dataBytes)) d
-resultData (padStart m f) d = dataOf (copies (fillCount m d) (f .dataBytes)) ++ d
-resultData (padEnd m f) d = d ++ dataOf (copies (fillCount m d) (f .dataBytes))
-resultData (padCentered m f) d = let n = fillCount m d in dataOf (copies (n / 2) (f .dataBytes)) ++ (d ++ dataOf (copies (n - n / 2) (f .dataBytes)))
-resultData (indent p) d = editData (indentOps (byteItems (p .dataBytes)) true d) d
-resultData (wrap w b) d = editData (wrapOps (length d) 0 (wrapLines w b d)) d
-resultData (replace xs t) d = editData (replaceOps t 0 xs) d
+unfolding kindData
+resultData (withSecond k m q) d = kindData k m (q .dataBytes) d
+resultData (alone s) d = editData (singleOps s d) d
 
 edited : (ops : List Op) (r : Recording) → dataOf (edit ops (items r)) ≡ editData ops (r .dataBytes)
 edited ops r = edit-data ops (items r) ∙ ap (λ (d : Bytes). editData ops d) (data-items r)
@@ -71,29 +74,28 @@ indent-data p q start (b ∷ d) e h = go (start && not (eqb b 0x0A)) (indent-dat
 
 pub result-data : (j : Job) (r : Recording) → SecondOk j → dataOf (resultItems j r) ≡ resultData j (r .dataBytes)
 unfolding resultItems resultData
-result-data (truncateStart m e) r g =
+result-data (withSecond writeTruncatedStart m e) r g =
     let x : List Item = edit (cutStart (trimmedStartPos m (e .dataBytes))) (items e) in
     let y : List Item = edit (cutStart (trimmedStartPos (m - textWidth (e .dataBytes)) (r .dataBytes))) (items r) in
     data-cond (ltb m (textWidth (r .dataBytes))) (x ++ y) (edit (cutStart (zeroWidthLen (r .dataBytes))) (items r)) _ _
     (data-append x y ∙ rw (edited (cutStart (trimmedStartPos m (e .dataBytes))) e, edited (cutStart (trimmedStartPos (m - textWidth (e .dataBytes)) (r .dataBytes))) r))
     (edited (cutStart (zeroWidthLen (r .dataBytes))) r)
-result-data (truncateEnd m e) r g =
+result-data (withSecond writeTruncatedEnd m e) r g =
     let x : List Item = edit (cutEnd (truncateEndPos (m - textWidth (e .dataBytes)) (r .dataBytes)) (r .dataBytes)) (items r) in
     let y : List Item = edit (cutEnd (truncateEndPos m (e .dataBytes)) (e .dataBytes)) (items e) in
     data-cond (ltb m (textWidth (r .dataBytes))) (x ++ y) (items r) _ _
     (data-append x y ∙ rw (edited (cutEnd (truncateEndPos (m - textWidth (e .dataBytes)) (r .dataBytes)) (r .dataBytes)) r, edited (cutEnd (truncateEndPos m (e .dataBytes)) (e .dataBytes)) e))
     (data-items r)
-result-data (padStart m f) r g =
-    rw (data-append (padding (fillCount m (r .dataBytes)) (items f)) (items r), data-padding (fillCount m (r .dataBytes)) (f .dataBytes) (items f) (flat f (g .1)), data-items r)
-result-data (padEnd m f) r g =
-    rw (data-append (items r) (padding (fillCount m (r .dataBytes)) (items f)), data-padding (fillCount m (r .dataBytes)) (f .dataBytes) (items f) (flat f (g .1)), data-items r)
-result-data (padCentered m f) r g =
+result-data (withSecond writePaddedStart m f) r g =
+    rw (data-append (padding (fillCount m (r .dataBytes)) (items f)) (items r), data-padding (fillCount m (r .dataBytes)) (f .dataBytes) (items f) (flat f (g .1 refl)), data-items r)
+result-data (withSecond writePaddedEnd m f) r g =
+    rw (data-append (items r) (padding (fillCount m (r .dataBytes)) (items f)), data-padding (fillCount m (r .dataBytes)) (f .dataBytes) (items f) (flat f (g .1 refl)), data-items r)
+result-data (withSecond writePaddedCentered m f) r g =
     let n : ℕ = fillCount m (r .dataBytes) in
-    rw (data-append (padding (n / 2) (items f)) (items r ++ padding (n - n / 2) (items f)), data-append (items r) (padding (n - n / 2) (items f)), data-padding (n / 2) (f .dataBytes) (items f) (flat f (g .1)), data-padding (n - n / 2) (f .dataBytes) (items f) (flat f (g .1)), data-items r)
-result-data (indent p) r g =
+    rw (data-append (padding (n / 2) (items f)) (items r ++ padding (n - n / 2) (items f)), data-append (items r) (padding (n - n / 2) (items f)), data-padding (n / 2) (f .dataBytes) (items f) (flat f (g .1 refl)), data-padding (n - n / 2) (f .dataBytes) (items f) (flat f (g .1 refl)), data-items r)
+result-data (withSecond writeIndented m p) r g =
     edited (indentOps (items p) true (r .dataBytes)) r ∙ indent-data (items p) (byteItems (p .dataBytes)) true (r .dataBytes) (r .dataBytes) (data-items p ∙ sym (data-bytes (p .dataBytes)))
-result-data (wrap w b) r g = edited (wrapOps (length (r .dataBytes)) 0 (wrapLines w b (r .dataBytes))) r
-result-data (replace xs t) r g = edited (replaceOps t 0 xs) r
+result-data (alone s) r g = edited (singleOps s (r .dataBytes)) r
 
 strip-ok : (f : Recording) → (balanced (strip f) ≡ true) × (noneInside (strip f) ≡ true)
 unfolding balanced strip items noneInside
@@ -104,25 +106,13 @@ strip-ok f = (go (f .dataBytes), refl)
     go (b ∷ d) = go d
 
 stripped-ok : (j : Job) → SecondOk (strippedJob j)
-stripped-ok (truncateStart m e) = strip-ok e .0
-stripped-ok (truncateEnd m e) = strip-ok e .0
-stripped-ok (padStart m f) = strip-ok f
-stripped-ok (padEnd m f) = strip-ok f
-stripped-ok (padCentered m f) = strip-ok f
-stripped-ok (indent p) = strip-ok p .0
-stripped-ok (wrap w b) = tt
-stripped-ok (replace xs t) = tt
+stripped-ok (withSecond k m q) = (strip-ok q .0, λ e. strip-ok q .1)
+stripped-ok (alone s) = tt
 
 stripped-data : (j : Job) (d : Bytes) → resultData (strippedJob j) d ≡ resultData j d
 unfolding resultData strip
-stripped-data (truncateStart m e) d = refl
-stripped-data (truncateEnd m e) d = refl
-stripped-data (padStart m f) d = refl
-stripped-data (padEnd m f) d = refl
-stripped-data (padCentered m f) d = refl
-stripped-data (indent p) d = refl
-stripped-data (wrap w b) d = refl
-stripped-data (replace xs t) d = refl
+stripped-data (withSecond k m q) d = refl
+stripped-data (alone s) d = refl
 
 pub same-data : (j : Job) (r r′ : Recording) → SecondOk j → r′ .dataBytes ≡ r .dataBytes → dataOf (resultItems (strippedJob j) r′) ≡ dataOf (resultItems j r)
 same-data j r r′ g e =
@@ -228,29 +218,32 @@ bare-items : (r : Recording) → r .entryNumbers ≡ [] → Bare (items r)
 unfolding items
 bare-items r e = rw e (bare-bytes (r .dataBytes))
 
+bare-single : (s : Single) (d : Bytes) → BarePuts (singleOps s d)
+bare-single (writeWrapped w b) d = bare-wrap (length d) 0 (wrapLines w b d)
+bare-single (writeReplaced xs t) d = bare-replace t 0 xs
+
 pub bare-result : (j : Job) (r : Recording) → Bare (items r) → Bare (resultItems (strippedJob j) r)
 unfolding resultItems
-bare-result (truncateStart m e) r h =
+bare-result (withSecond writeTruncatedStart m e) r h =
     let x : List Item = edit (cutStart (trimmedStartPos m (strip e .dataBytes))) (items (strip e)) in
     let y : List Item = edit (cutStart (trimmedStartPos (m - textWidth (strip e .dataBytes)) (r .dataBytes))) (items r) in
     bare-cond (ltb m (textWidth (r .dataBytes))) (x ++ y) (edit (cutStart (zeroWidthLen (r .dataBytes))) (items r))
     (bare-append x y (bare-edit (cutStart (trimmedStartPos m (strip e .dataBytes))) (items (strip e)) tt (bare-strip e)) (bare-edit (cutStart (trimmedStartPos (m - textWidth (strip e .dataBytes)) (r .dataBytes))) (items r) tt h))
     (bare-edit (cutStart (zeroWidthLen (r .dataBytes))) (items r) tt h)
-bare-result (truncateEnd m e) r h =
+bare-result (withSecond writeTruncatedEnd m e) r h =
     let x : List Item = edit (cutEnd (truncateEndPos (m - textWidth (strip e .dataBytes)) (r .dataBytes)) (r .dataBytes)) (items r) in
     let y : List Item = edit (cutEnd (truncateEndPos m (strip e .dataBytes)) (strip e .dataBytes)) (items (strip e)) in
     bare-cond (ltb m (textWidth (r .dataBytes))) (x ++ y) (items r)
     (bare-append x y (bare-edit (cutEnd (truncateEndPos (m - textWidth (strip e .dataBytes)) (r .dataBytes)) (r .dataBytes)) (items r) tt h) (bare-edit (cutEnd (truncateEndPos m (strip e .dataBytes)) (strip e .dataBytes)) (items (strip e)) tt (bare-strip e)))
     h
-bare-result (padStart m f) r h = bare-append (padding (fillCount m (r .dataBytes)) (items (strip f))) (items r) (bare-padding (fillCount m (r .dataBytes)) (items (strip f)) (bare-strip f)) h
-bare-result (padEnd m f) r h = bare-append (items r) (padding (fillCount m (r .dataBytes)) (items (strip f))) h (bare-padding (fillCount m (r .dataBytes)) (items (strip f)) (bare-strip f))
-bare-result (padCentered m f) r h =
+bare-result (withSecond writePaddedStart m f) r h = bare-append (padding (fillCount m (r .dataBytes)) (items (strip f))) (items r) (bare-padding (fillCount m (r .dataBytes)) (items (strip f)) (bare-strip f)) h
+bare-result (withSecond writePaddedEnd m f) r h = bare-append (items r) (padding (fillCount m (r .dataBytes)) (items (strip f))) h (bare-padding (fillCount m (r .dataBytes)) (items (strip f)) (bare-strip f))
+bare-result (withSecond writePaddedCentered m f) r h =
     let n : ℕ = fillCount m (r .dataBytes) in
     bare-append (padding (n / 2) (items (strip f))) (items r ++ padding (n - n / 2) (items (strip f))) (bare-padding (n / 2) (items (strip f)) (bare-strip f))
     (bare-append (items r) (padding (n - n / 2) (items (strip f))) h (bare-padding (n - n / 2) (items (strip f)) (bare-strip f)))
-bare-result (indent p) r h = bare-edit (indentOps (items (strip p)) true (r .dataBytes)) (items r) (bare-indent (items (strip p)) true (r .dataBytes) (bare-strip p)) h
-bare-result (wrap w b) r h = bare-edit (wrapOps (length (r .dataBytes)) 0 (wrapLines w b (r .dataBytes))) (items r) (bare-wrap (length (r .dataBytes)) 0 (wrapLines w b (r .dataBytes))) h
-bare-result (replace xs t) r h = bare-edit (replaceOps t 0 xs) (items r) (bare-replace t 0 xs) h
+bare-result (withSecond writeIndented m p) r h = bare-edit (indentOps (items (strip p)) true (r .dataBytes)) (items r) (bare-indent (items (strip p)) true (r .dataBytes) (bare-strip p)) h
+bare-result (alone s) r h = bare-edit (singleOps s (r .dataBytes)) (items r) (bare-single s (r .dataBytes)) h
 
 bare-entries : (at used : ℕ) (is : List Item) → Bare is → entriesFrom at used is ≡ []
 bare-entries at used [] h = refl
@@ -285,36 +278,18 @@ fault-strip e h = shadow-fault e (strip e) (strip-shadow e) h
 
 second-strip : (j : Job) → secondFault j ≡ 0 → secondFault (strippedJob j) ≡ 0
 unfolding secondFault
-second-strip (truncateStart m e) h = fault-strip e h
-second-strip (truncateEnd m e) h = fault-strip e h
-second-strip (padStart m f) h = fault-strip f h
-second-strip (padEnd m f) h = fault-strip f h
-second-strip (padCentered m f) h = fault-strip f h
-second-strip (indent p) h = fault-strip p h
-second-strip (wrap w b) h = refl
-second-strip (replace xs t) h = refl
+second-strip (withSecond k m q) h = fault-strip q h
+second-strip (alone s) h = refl
 
-records-strip : (j : Job) (r r′ : Recording) → r′ .dataBytes ≡ r .dataBytes → replacementFault j r ≡ 0 → replacementFault (strippedJob j) r′ ≡ 0
-unfolding replacementFault
-records-strip (truncateStart m e) r r′ q h = refl
-records-strip (truncateEnd m e) r r′ q h = refl
-records-strip (padStart m f) r r′ q h = refl
-records-strip (padEnd m f) r r′ q h = refl
-records-strip (padCentered m f) r r′ q h = refl
-records-strip (indent p) r r′ q h = refl
-records-strip (wrap w b) r r′ q h = refl
-records-strip (replace xs t) r r′ q h = rw q h
+own-strip : (j : Job) (r r′ : Recording) → r′ .dataBytes ≡ r .dataBytes → ownFault j r ≡ 0 → ownFault (strippedJob j) r′ ≡ 0
+unfolding ownFault
+own-strip (withSecond k m q) r r′ e h = refl
+own-strip (alone s) r r′ e h = rw e h
 
 lines-strip : (j : Job) (r r′ : Recording) → r′ .dataBytes ≡ r .dataBytes → linesLeft (strippedJob j) r′ ≡ linesLeft j r
 unfolding linesLeft
-lines-strip (truncateStart m e) r r′ q = refl
-lines-strip (truncateEnd m e) r r′ q = refl
-lines-strip (padStart m f) r r′ q = refl
-lines-strip (padEnd m f) r r′ q = refl
-lines-strip (padCentered m f) r r′ q = refl
-lines-strip (indent p) r r′ q = refl
-lines-strip (wrap w b) r r′ q = rw q
-lines-strip (replace xs t) r r′ q = refl
+lines-strip (withSecond k m q) r r′ e = refl
+lines-strip (alone s) r r′ e = rw e
 
 none-less : (n : ℕ) → ltb n 0 ≡ false
 none-less zero = refl
@@ -349,7 +324,7 @@ module _ (c : Call) (r r′ : Recording) (s : Shadow r r′) (g : SecondOk (c .j
             second = unfold faultsOf in second-strip (c .job) (G .second);
             added = unfold faultsOf in refl;
             plain = unfold faultsOf in refl;
-            records = unfold faultsOf in records-strip (c .job) r r′ (s .dataBytes) (G .records);
+            own = unfold faultsOf in own-strip (c .job) r r′ (s .dataBytes) (G .own);
             limit = unfold resultOf in limit-strip (encode (resultItems (c .job) r)) (encode (resultItems (strippedJob (c .job)) r′)) shadow-result (G .limit);
             room = unfold resultOf in room-strip (c .room) (resultOf (c .job) r) (resultOf (strippedJob (c .job)) r′) shadow-result (ap lineNumbers (lines-strip (c .job) r r′ (s .dataBytes))) (G .room);
           }

@@ -64,58 +64,97 @@ abbrev pub replaceOps : Bytes → ℕ → List Replacement → List Op
 replaceOps t at [] = []
 replaceOps t at (x ∷ xs) = keep (x .start - at) ∷ put (byteItems (part (x .from) (x .to) t)) ∷ skip (x .end - x .start) ∷ replaceOps t (x .end) xs
 
--- ── the calls
+-- ── the calls, by shape
+-- the calls with a second recording: an ellipsis, a fill or a prefix
+pub data Kind : Type 0 where
+  writeTruncatedStart writeTruncatedEnd writePaddedStart writePaddedEnd writePaddedCentered writeIndented : Kind
+
+-- the calls on a content alone: a width and whether words are broken; the replacement records and their text
+pub data Single : Type 0 where
+  writeWrapped : ℕ → Bool → Single
+  writeReplaced : List Replacement → Bytes → Single
+
+-- what a call does: with a second recording by its kind and width, or alone
 pub data Job : Type 0 where
-  truncateStart truncateEnd padStart padEnd padCentered : ℕ → Recording → Job
-  indent : Recording → Job
-  wrap : ℕ → Bool → Job
-  replace : List Replacement → Bytes → Job
+  withSecond : Kind → ℕ → Recording → Job
+  alone : Single → Job
+
+abbrev pub truncateStart : ℕ → Recording → Job
+truncateStart m e = withSecond writeTruncatedStart m e
+
+abbrev pub truncateEnd : ℕ → Recording → Job
+truncateEnd m e = withSecond writeTruncatedEnd m e
+
+abbrev pub padStart : ℕ → Recording → Job
+padStart m f = withSecond writePaddedStart m f
+
+abbrev pub padEnd : ℕ → Recording → Job
+padEnd m f = withSecond writePaddedEnd m f
+
+abbrev pub padCentered : ℕ → Recording → Job
+padCentered m f = withSecond writePaddedCentered m f
+
+-- indenting has no width
+abbrev pub indent : Recording → Job
+indent p = withSecond writeIndented 0 p
+
+abbrev pub wrap : ℕ → Bool → Job
+wrap w b = alone (writeWrapped w b)
+
+abbrev pub replace : List Replacement → Bytes → Job
+replace xs t = alone (writeReplaced xs t)
 
 -- a call: what it does, and the lengths of the buffers that it is lent
 pub record Call : Type 0 where
   pub job : Job
   pub room : Room
 
+-- a call on the content alone is one edit of it
+abbrev pub singleOps : Single → Bytes → List Op
+singleOps (writeWrapped w b) d = wrapOps (length d) 0 (wrapLines w b d)
+singleOps (writeReplaced xs t) d = replaceOps t 0 xs
+
+abbrev pub singleLines : Single → Bytes → List Line
+singleLines (writeWrapped w b) d = wrapLines w b d
+singleLines (writeReplaced xs t) d = []
+
 -- the items that a call leaves
 unfoldable pub resultItems : Job → Recording → List Item
-resultItems (truncateStart m e) r =
+resultItems (withSecond writeTruncatedStart m e) r =
     cond (ltb m (textWidth (r .dataBytes)))
     (edit (cutStart (trimmedStartPos m (e .dataBytes))) (items e) ++ edit (cutStart (trimmedStartPos (m - textWidth (e .dataBytes)) (r .dataBytes))) (items r))
     (edit (cutStart (zeroWidthLen (r .dataBytes))) (items r))
-resultItems (truncateEnd m e) r =
+resultItems (withSecond writeTruncatedEnd m e) r =
     cond (ltb m (textWidth (r .dataBytes)))
-    (edit (cutEnd (truncateEndPos (m - textWidth (e .dataBytes)) (r .dataBytes)) (r .dataBytes)) (items r) ++ edit (cutEnd (truncateEndPos m (e .dataBytes)) (e .dataBytes)) (items e))
+    (edit (cutEnd (truncateEndPos (m - textWidth (e .dataBytes)) (r .dataBytes)) (r .dataBytes)) (items r)
+    ++ edit (cutEnd (truncateEndPos m (e .dataBytes)) (e .dataBytes)) (items e))
     (items r)
-resultItems (padStart m f) r = padding (fillCount m (r .dataBytes)) (items f) ++ items r
-resultItems (padEnd m f) r = items r ++ padding (fillCount m (r .dataBytes)) (items f)
-resultItems (padCentered m f) r = let n = fillCount m (r .dataBytes) in padding (n / 2) (items f) ++ (items r ++ padding (n - n / 2) (items f))
-resultItems (indent p) r = edit (indentOps (items p) true (r .dataBytes)) (items r)
-resultItems (wrap w b) r = edit (wrapOps (length (r .dataBytes)) 0 (wrapLines w b (r .dataBytes))) (items r)
-resultItems (replace xs t) r = edit (replaceOps t 0 xs) (items r)
+resultItems (withSecond writePaddedStart m f) r = padding (fillCount m (r .dataBytes)) (items f) ++ items r
+resultItems (withSecond writePaddedEnd m f) r = items r ++ padding (fillCount m (r .dataBytes)) (items f)
+resultItems (withSecond writePaddedCentered m f) r =
+    let n = fillCount m (r .dataBytes) in padding (n / 2) (items f) ++ (items r ++ padding (n - n / 2) (items f))
+resultItems (withSecond writeIndented m p) r = edit (indentOps (items p) true (r .dataBytes)) (items r)
+resultItems (alone s) r = edit (singleOps s (r .dataBytes)) (items r)
 
 -- the lines that a call leaves in the line list
 unfoldable pub linesLeft : Job → Recording → List Line
-linesLeft (truncateStart m e) r = []
-linesLeft (truncateEnd m e) r = []
-linesLeft (padStart m f) r = []
-linesLeft (padEnd m f) r = []
-linesLeft (padCentered m f) r = []
-linesLeft (indent p) r = []
-linesLeft (wrap w b) r = wrapLines w b (r .dataBytes)
-linesLeft (replace xs t) r = []
+linesLeft (withSecond k m q) r = []
+linesLeft (alone s) r = singleLines s (r .dataBytes)
 
 -- the number that a call returns: the sum of the widths kept, the count of the lines
 unfoldable pub number : Job → Recording → ℕ
-number (truncateStart m e) r =
-    cond (ltb m (textWidth (r .dataBytes))) (truncateStartWidth m (e .dataBytes) + truncateStartWidth (m - textWidth (e .dataBytes)) (r .dataBytes)) (textWidth (r .dataBytes))
-number (truncateEnd m e) r =
-    cond (ltb m (textWidth (r .dataBytes))) (truncateEndWidth (m - textWidth (e .dataBytes)) (r .dataBytes) + truncateEndWidth m (e .dataBytes)) (textWidth (r .dataBytes))
-number (padStart m f) r = 0
-number (padEnd m f) r = 0
-number (padCentered m f) r = 0
-number (indent p) r = 0
-number (wrap w b) r = length (wrapLines w b (r .dataBytes))
-number (replace xs t) r = 0
+number (withSecond writeTruncatedStart m e) r =
+    cond (ltb m (textWidth (r .dataBytes)))
+    (truncateStartWidth m (e .dataBytes) + truncateStartWidth (m - textWidth (e .dataBytes)) (r .dataBytes)) (textWidth (r .dataBytes))
+number (withSecond writeTruncatedEnd m e) r =
+    cond (ltb m (textWidth (r .dataBytes)))
+    (truncateEndWidth (m - textWidth (e .dataBytes)) (r .dataBytes) + truncateEndWidth m (e .dataBytes)) (textWidth (r .dataBytes))
+number (withSecond writePaddedStart m f) r = 0
+number (withSecond writePaddedEnd m f) r = 0
+number (withSecond writePaddedCentered m f) r = 0
+number (withSecond writeIndented m p) r = 0
+number (alone (writeWrapped w b)) r = length (wrapLines w b (r .dataBytes))
+number (alone (writeReplaced xs t)) r = 0
 
 unfoldable pub resultOf : Job → Recording → Result
 resultOf j r = record { recording = encode (resultItems j r); lines = lineNumbers (linesLeft j r); number = number j r }
@@ -123,14 +162,8 @@ resultOf j r = record { recording = encode (resultItems j r); lines = lineNumber
 -- ── refusals that come from the input
 -- 1 to 6 of the second recording
 unfoldable pub secondFault : Job → ℕ
-secondFault (truncateStart m e) = recordingFault e
-secondFault (truncateEnd m e) = recordingFault e
-secondFault (padStart m f) = recordingFault f
-secondFault (padEnd m f) = recordingFault f
-secondFault (padCentered m f) = recordingFault f
-secondFault (indent p) = recordingFault p
-secondFault (wrap w b) = 0
-secondFault (replace xs t) = 0
+secondFault (withSecond k m q) = recordingFault q
+secondFault (alone s) = 0
 
 -- 8: start > end, end beyond the n data bytes, start below the previous end `at`, from > to, to beyond the t bytes of its text
 abbrev pub badRecord : ℕ → ℕ → ℕ → Replacement → Bool
@@ -140,18 +173,17 @@ abbrev pub recordsFault : ℕ → ℕ → ℕ → List Replacement → ℕ
 recordsFault at n t [] = 0
 recordsFault at n t (x ∷ xs) = cond (badRecord at n t x) 8 (recordsFault (x .end) n t xs)
 
-unfoldable pub replacementFault : Job → Recording → ℕ
-replacementFault (truncateStart m e) r = 0
-replacementFault (truncateEnd m e) r = 0
-replacementFault (padStart m f) r = 0
-replacementFault (padEnd m f) r = 0
-replacementFault (padCentered m f) r = 0
-replacementFault (indent p) r = 0
-replacementFault (wrap w b) r = 0
-replacementFault (replace xs t) r = recordsFault 0 (length (r .dataBytes)) (length t) xs
+abbrev pub singleFault : Single → Bytes → ℕ
+singleFault (writeWrapped w b) d = 0
+singleFault (writeReplaced xs t) d = recordsFault 0 (length d) (length t) xs
+
+-- the refusals of one call alone
+unfoldable pub ownFault : Job → Recording → ℕ
+ownFault (withSecond k m q) r = 0
+ownFault (alone s) r = singleFault s (r .dataBytes)
 
 unfoldable pub faultsOf : Job → Recording → Faults
-faultsOf j r = record { lengths = 0; content = recordingFault r; second = secondFault j; added = 0; plain = 0; records = replacementFault j r }
+faultsOf j r = record { lengths = 0; content = recordingFault r; second = secondFault j; added = 0; plain = 0; own = ownFault j r }
 
 -- 0: the call is not refused
 unfoldable pub refusal : Call → Recording → ℕ

@@ -12,15 +12,13 @@ use Rattle.recording.specs.Coloured.{Coloured, coloured, values}
 use Rattle.recording.specs.Edit.{labelsAt, under}
 use Rattle.layout.specs.declared.Replacement.{Replacement}
 use Rattle.layout.specs.Wrap.{Line, wrapLines}
-use Rattle.layout.specs.Layout.{trimmedStartPos, fillCount, Job, truncateStart, truncateEnd, padStart, padEnd, padCentered, indent, wrap, replace, Call, refusal, after}
+use Rattle.layout.specs.Layout.{trimmedStartPos, fillCount, Kind, writeTruncatedStart, writeTruncatedEnd, writePaddedStart, writePaddedEnd, writePaddedCentered, writeIndented, Single, writeWrapped, writeReplaced, Job, withSecond, alone, Call, refusal, after}
 
 -- what the steps are told of a call: of a refused one only that; of any other its name, numbers, breaking, replacement records and text, and its second recording as coloured bytes
 pub data Told : Type 0 where
   wasRefused : Told
-  truncateStart′ truncateEnd′ padStart′ padEnd′ padCentered′ : ℕ → List Coloured → Told
-  indent′ : List Coloured → Told
-  wrap′ : ℕ → Bool → Told
-  replace′ : List Replacement → Bytes → Told
+  withSecond′ : Kind → ℕ → List Coloured → Told
+  alone′ : Single → Told
 
 -- ── stretches
 abbrev pub times : ℕ → List Coloured → List Coloured
@@ -58,17 +56,17 @@ replaced t at (x ∷ xs) cs = stretch at (x .start) cs ++ (withLabels (labelsOf 
 -- ── one step
 unfoldable pub step : Told → List Coloured → List Coloured
 step wasRefused cs = cs
-step (truncateStart′ m e) cs =
+step (withSecond′ writeTruncatedStart m e) cs =
     cond (ltb m (textWidth (values cs))) (drop (trimmedStartPos m (values e)) e ++ drop (trimmedStartPos (m - textWidth (values e)) (values cs)) cs)
     (drop (zeroWidthLen (values cs)) cs)
-step (truncateEnd′ m e) cs =
+step (withSecond′ writeTruncatedEnd m e) cs =
     cond (ltb m (textWidth (values cs))) (take (truncateEndPos (m - textWidth (values e)) (values cs)) cs ++ take (truncateEndPos m (values e)) e) cs
-step (padStart′ m f) cs = times (fillCount m (values cs)) f ++ cs
-step (padEnd′ m f) cs = cs ++ times (fillCount m (values cs)) f
-step (padCentered′ m f) cs = let n = fillCount m (values cs) in times (n / 2) f ++ (cs ++ times (n - n / 2) f)
-step (indent′ p) cs = indented p true cs
-step (wrap′ w b) cs = wrapped (wrapLines w b (values cs)) cs
-step (replace′ xs t) cs = replaced t 0 xs cs
+step (withSecond′ writePaddedStart m f) cs = times (fillCount m (values cs)) f ++ cs
+step (withSecond′ writePaddedEnd m f) cs = cs ++ times (fillCount m (values cs)) f
+step (withSecond′ writePaddedCentered m f) cs = let n = fillCount m (values cs) in times (n / 2) f ++ (cs ++ times (n - n / 2) f)
+step (withSecond′ writeIndented m p) cs = indented p true cs
+step (alone′ (writeWrapped w b)) cs = wrapped (wrapLines w b (values cs)) cs
+step (alone′ (writeReplaced xs t)) cs = replaced t 0 xs cs
 
 abbrev pub steps : List Told → List Coloured → List Coloured
 steps [] cs = cs
@@ -76,14 +74,8 @@ steps (t ∷ ts) cs = steps ts (step t cs)
 
 -- ── what the steps are told
 unfoldable pub toldOf : Job → Told
-toldOf (truncateStart m e) = truncateStart′ m (coloured e)
-toldOf (truncateEnd m e) = truncateEnd′ m (coloured e)
-toldOf (padStart m f) = padStart′ m (coloured f)
-toldOf (padEnd m f) = padEnd′ m (coloured f)
-toldOf (padCentered m f) = padCentered′ m (coloured f)
-toldOf (indent p) = indent′ (coloured p)
-toldOf (wrap w b) = wrap′ w b
-toldOf (replace xs t) = replace′ xs t
+toldOf (withSecond k m q) = withSecond′ k m (coloured q)
+toldOf (alone s) = alone′ s
 
 abbrev pub told : List Call → Recording → List Told
 told [] r = []

@@ -1,6 +1,6 @@
 -- Demand 3: layout and colour commute. One theorem over the whole list of calls, refused ones among them, in three parts; `proofs/Demand3.antt` proves it.
 use Prim.Native.Nat.{ℕ}
-use mathlib.Core.Bool.{Bool, true, cond}
+use mathlib.Core.Bool.{Bool, true, false, cond}
 use mathlib.Core.Path.{_≡_}
 use mathlib.Core.List.{List, [], _∷_, _++_}
 use mathlib.Core.Logic.{_≢_}
@@ -8,20 +8,23 @@ use lib.Dec.{eqb}
 use Rattle.recording.specs.Recording.{Recording, strip}
 use Rattle.recording.specs.Coloured.{coloured, balanced, noneInside}
 use Rattle.recording.specs.Outcome.{Room}
-use Rattle.layout.specs.Layout.{Job, truncateStart, truncateEnd, padStart, padEnd, padCentered, indent, wrap, replace, Call, refusal, after, run}
+use Rattle.layout.specs.Layout.{Kind, writeTruncatedStart, writeTruncatedEnd, writePaddedStart, writePaddedEnd, writePaddedCentered, writeIndented, Job, withSecond, alone, wrap, Call, refusal, after, run}
 use Rattle.layout.specs.Plain.{steps, told}
 
 -- ── what is asked
+-- whether a call repeats its second recording piece by piece: a fill
+abbrev pub repeats : Kind → Bool
+repeats writeTruncatedStart = false
+repeats writeTruncatedEnd = false
+repeats writePaddedStart = true
+repeats writePaddedEnd = true
+repeats writePaddedCentered = true
+repeats writeIndented = false
+
 -- ellipsis, fill and prefix are balanced, and no entry is inside the data of a fill
 abbrev pub SecondOk : Job → Type 0
-SecondOk (truncateStart m e) = balanced e ≡ true
-SecondOk (truncateEnd m e) = balanced e ≡ true
-SecondOk (padStart m f) = (balanced f ≡ true) × (noneInside f ≡ true)
-SecondOk (padEnd m f) = (balanced f ≡ true) × (noneInside f ≡ true)
-SecondOk (padCentered m f) = (balanced f ≡ true) × (noneInside f ≡ true)
-SecondOk (indent p) = balanced p ≡ true
-SecondOk (wrap w b) = Unit {0}
-SecondOk (replace xs t) = Unit {0}
+SecondOk (withSecond k m q) = (balanced q ≡ true) × (repeats k ≡ true → noneInside q ≡ true)
+SecondOk (alone s) = Unit {0}
 
 -- of the calls that are not refused
 abbrev pub Proper : List Call → Recording → Type 0
@@ -30,14 +33,8 @@ Proper (c ∷ cs) r = (refusal c r ≡ 0 → SecondOk (c .job)) × Proper cs (af
 
 -- ── stripping first: every second recording stripped, the calls not refused made again in buffers of the same lengths
 abbrev pub strippedJob : Job → Job
-strippedJob (truncateStart m e) = truncateStart m (strip e)
-strippedJob (truncateEnd m e) = truncateEnd m (strip e)
-strippedJob (padStart m f) = padStart m (strip f)
-strippedJob (padEnd m f) = padEnd m (strip f)
-strippedJob (padCentered m f) = padCentered m (strip f)
-strippedJob (indent p) = indent (strip p)
-strippedJob (wrap w b) = wrap w b
-strippedJob (replace xs t) = replace xs t
+strippedJob (withSecond k m q) = withSecond k m (strip q)
+strippedJob (alone s) = alone s
 
 abbrev pub stripped : Call → Call
 stripped c = record { job = strippedJob (c .job); room = c .room }

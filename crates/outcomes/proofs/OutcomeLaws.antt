@@ -11,7 +11,7 @@ use Rattle.recording.specs.declared.Answer.the-variants.{Refused, Done}
 use Rattle.recording.specs.Recording.{Recording, Item, numbersOf, dataOf, textOf, entriesFrom, encode}
 use Rattle.recording.specs.Refusals.{numberOf, firstOf, recordingFault}
 use Rattle.recording.specs.Outcome.{Room, Outcome, refused, done, overLimit, noRoom, refusalOf, Lent, lentAfter, returned, answerOf}
-use Rattle.recording.proofs.OutcomeLaws.{number-pos, stops-content, stops-second, stops-records, stops-sizes, is-refused, is-done}
+use Rattle.recording.proofs.OutcomeLaws.{number-pos, stops-content, stops-second, stops-own, stops-sizes, is-refused, is-done}
 use Rattle.recording.proofs.SizeLaws.{entryCount, count-numbers}
 use Rattle.writer.specs.declared.Cursor.{Cursor}
 use Rattle.writer.specs.declared.Settled.{Settled}
@@ -21,7 +21,7 @@ use Rattle.writer.specs.Sizes.{sizesFault, settledFault}
 use Rattle.writer.proofs.Sizes.{size-refused, size-granted, fits-blank}
 use Rattle.writer.proofs.Steps.{from-start}
 use Rattle.layout.specs.Wrap.{lineNumbers}
-use Rattle.layout.specs.Layout.{Job, Call, resultItems, linesLeft, number, resultOf, secondFault, replacementFault, faultsOf, outcome}
+use Rattle.layout.specs.Layout.{Job, Call, resultItems, linesLeft, number, resultOf, secondFault, ownFault, faultsOf, outcome}
 use Rattle.layout.specs.Lent.{lentOf}
 
 -- ── where a call stops
@@ -39,12 +39,12 @@ module _ (j : Job) (o : Room) (r : Recording) where
     second-stops f e = is-refused (faultsOf j r) o (resultOf j r) f (stops-second (faultsOf j r) o (resultOf j r) refl a (omega (arith, e, number-pos f)) ∙ e)
 
     module _ (b : secondFault j ≡ 0) where
-      pub records-stop : (f : Refusal) → replacementFault j r ≡ numberOf f → told ≡ refused (numberOf f)
+      pub own-stops : (f : Refusal) → ownFault j r ≡ numberOf f → told ≡ refused (numberOf f)
       unfolding outcome faultsOf
-      records-stop f e = is-refused (faultsOf j r) o (resultOf j r) f (stops-records (faultsOf j r) o (resultOf j r) refl a b refl refl (omega (arith, e, number-pos f)) ∙ e)
+      own-stops f e = is-refused (faultsOf j r) o (resultOf j r) f (stops-own (faultsOf j r) o (resultOf j r) refl a b refl refl (omega (arith, e, number-pos f)) ∙ e)
 
       -- only the result is left to be judged: it has d data bytes, e entry numbers, t text bytes and l line numbers
-      module _ (c : replacementFault j r ≡ 0) (is : List Item) (ei : resultItems j r ≡ is) (d e t l : ℕ) (ed : d ≡ length (dataOf is)) (ee : e ≡ 4 * entryCount is) (et : t ≡ length (textOf is))
+      module _ (c : ownFault j r ≡ 0) (is : List Item) (ei : resultItems j r ≡ is) (d e t l : ℕ) (ed : d ≡ length (dataOf is)) (ee : e ≡ 4 * entryCount is) (et : t ≡ length (textOf is))
           (el : l ≡ length (lineNumbers (linesLeft j r))) (v : Settled) (g : settledFault v ≡ sizesFault d e t l o) where
         d-is : d ≡ length (resultOf j r .recording .dataBytes)
         unfolding resultOf encode

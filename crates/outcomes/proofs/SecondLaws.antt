@@ -25,7 +25,7 @@ use Rattle.writer.specs.Write.{out, add, blank, Fits, Sound}
 use Rattle.writer.specs.Sizes.{sizesFault, roomOf, settledFault}
 use Rattle.writer.proofs.Sizes.{numbers-items, quads-of}
 use Rattle.writer.proofs.Steps.{sound, data-size}
-use Rattle.layout.specs.Layout.{Job, resultItems, linesLeft, number, secondFault, replacementFault, outcome}
+use Rattle.layout.specs.Layout.{Job, resultItems, linesLeft, number, secondFault, ownFault, outcome}
 use Rattle.layout.specs.Wrap.{lineNumbers}
 use Rattle.layout.specs.Lent.{lentOf, callOn}
 use Rattle.outcomes.proofs.OutcomeLaws.{content-stops, second-stops, sizes-stop, accepted, has-room, refused-call, done-call}
@@ -87,7 +87,7 @@ module _ (ds ns ts fs gs us od oe ot : List ℕ) (j : Job) where
     pub second-refused : (k : Checked) (f : Refusal) → faultOf k ≡ recordingFault second → k ≡ C.Refused f → Left (Refused f) od oe ot
     second-refused k f e q = refused-left f (second-stops j (callOn j od oe ot .room) content (fine₁ .passed) f (sj ∙ sym e ∙ refused-number k f q))
 
-    module _ (n₂ : ℕ) (fine₂ : Fine fs gs us n₂) (rj : replacementFault j content ≡ 0) (lj : linesLeft j content ≡ [])
+    module _ (n₂ : ℕ) (fine₂ : Fine fs gs us n₂) (rj : ownFault j content ≡ 0) (lj : linesLeft j content ≡ [])
         (is : List Item) (ei : resultItems j content ≡ is) (d e t : ℕ) (ed : d ≡ length (dataOf is)) (ee : e ≡ 4 * entryCount is) (et : t ≡ length (textOf is))
         (v : Settled) (g : settledFault v ≡ sizesFault d e t 0 (roomOf (length od) (length oe) (length ot) 0)) where
       no-lines : 0 ≡ length (lineNumbers (linesLeft j content))

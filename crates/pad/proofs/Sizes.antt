@@ -14,7 +14,7 @@ use Rattle.writer.specs.Write.{Out, add, Fits}
 use Rattle.writer.proofs.Laws.{text-size, data-size}
 use Rattle.writer.proofs.Steps.{fits-first, fits-then, then}
 use Rattle.writer.proofs.Carry.{count-none}
-use Rattle.layout.specs.Layout.{copies, repeatPieces, padding, fillCount, resultItems, linesLeft, number, secondFault, replacementFault}
+use Rattle.layout.specs.Layout.{copies, repeatPieces, padding, fillCount, resultItems, linesLeft, number, secondFault, ownFault}
 use Rattle.outcomes.proofs.SecondLaws.{Fine}
 use Rattle.pad.specs.declared.Side.{Side}
 use Rattle.pad.specs.declared.Side.the-variants.{Start, End, Centered}
@@ -138,8 +138,8 @@ second-of Start m f = refl
 second-of End m f = refl
 second-of Centered m f = refl
 
-pub records-of : (s : Side) (m : ℕ) (f c : Recording) → replacementFault (jobOf s m f) c ≡ 0
-unfolding jobOf replacementFault
+pub records-of : (s : Side) (m : ℕ) (f c : Recording) → ownFault (jobOf s m f) c ≡ 0
+unfolding jobOf ownFault
 records-of Start m f c = refl
 records-of End m f c = refl
 records-of Centered m f c = refl

@@ -22,7 +22,7 @@ leaves q = record { recording = q; lines = []; number = 0 }
 
 -- ── replay: the recording written anew, its entries' texts side by side from 0
 unfoldable pub replayFaults : Recording → Faults
-replayFaults r = record { lengths = 0; content = recordingFault r; second = 0; added = 0; plain = 0; records = 0 }
+replayFaults r = record { lengths = 0; content = recordingFault r; second = 0; added = 0; plain = 0; own = 0 }
 
 unfoldable pub replayed : Recording → Lent → Outcome
 replayed r b = settle (replayFaults r) (roomIn b) (leaves (encode (items r)))
@@ -59,7 +59,7 @@ lengthsFault b d e t = refuseIf (ltb (length (b .dataBytes)) d || ltb (length (b
 
 -- n is the refusal of what is added, 0 for none
 unfoldable pub addFaults : ℕ → Lent → ℕ → ℕ → ℕ → Faults
-addFaults n b d e t = record { lengths = lengthsFault b d e t; content = recordingFault (usedOf b d e t); second = 0; added = n; plain = 0; records = 0 }
+addFaults n b d e t = record { lengths = lengthsFault b d e t; content = recordingFault (usedOf b d e t); second = 0; added = n; plain = 0; own = 0 }
 
 unfoldable pub written : Bytes → Lent → ℕ → ℕ → ℕ → Outcome
 written x b d e t = settle (addFaults 0 b d e t) (roomIn b) (leaves (withData x (usedOf b d e t)))

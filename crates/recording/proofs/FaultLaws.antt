@@ -109,7 +109,7 @@ pub record Granted (f : Faults) (o : Room) (x : Result) : Type 0 where
   pub second : f .second ≡ 0
   pub added : f .added ≡ 0
   pub plain : f .plain ≡ 0
-  pub records : f .records ≡ 0
+  pub own : f .own ≡ 0
   pub limit : overLimit (x .recording) ≡ 0
   pub room : noRoom o x ≡ 0
 
@@ -118,19 +118,19 @@ unfolding refusalOf
 granted f o x h =
     let l : ℕ = overLimit (x .recording) in
     let n : ℕ = noRoom o x in
-    let a = firstOf-zero (f .lengths) (f .content ∷ f .second ∷ f .added ∷ f .plain ∷ f .records ∷ l ∷ n ∷ []) h in
-    let b = firstOf-zero (f .content) (f .second ∷ f .added ∷ f .plain ∷ f .records ∷ l ∷ n ∷ []) (a .1) in
-    let c = firstOf-zero (f .second) (f .added ∷ f .plain ∷ f .records ∷ l ∷ n ∷ []) (b .1) in
-    let d = firstOf-zero (f .added) (f .plain ∷ f .records ∷ l ∷ n ∷ []) (c .1) in
-    let e = firstOf-zero (f .plain) (f .records ∷ l ∷ n ∷ []) (d .1) in
-    let g = firstOf-zero (f .records) (l ∷ n ∷ []) (e .1) in
+    let a = firstOf-zero (f .lengths) (f .content ∷ f .second ∷ f .added ∷ f .plain ∷ f .own ∷ l ∷ n ∷ []) h in
+    let b = firstOf-zero (f .content) (f .second ∷ f .added ∷ f .plain ∷ f .own ∷ l ∷ n ∷ []) (a .1) in
+    let c = firstOf-zero (f .second) (f .added ∷ f .plain ∷ f .own ∷ l ∷ n ∷ []) (b .1) in
+    let d = firstOf-zero (f .added) (f .plain ∷ f .own ∷ l ∷ n ∷ []) (c .1) in
+    let e = firstOf-zero (f .plain) (f .own ∷ l ∷ n ∷ []) (d .1) in
+    let g = firstOf-zero (f .own) (l ∷ n ∷ []) (e .1) in
     let i = firstOf-zero l (n ∷ []) (g .1) in
     let j = firstOf-zero n [] (i .1) in
-    record { lengths = a .0; content = b .0; second = c .0; added = d .0; plain = e .0; records = g .0; limit = i .0; room = j .0 }
+    record { lengths = a .0; content = b .0; second = c .0; added = d .0; plain = e .0; own = g .0; limit = i .0; room = j .0 }
 
 pub grant : (f : Faults) (o : Room) (x : Result) → Granted f o x → refusalOf f o x ≡ 0
 unfolding refusalOf
-grant f o x g = rw (g .lengths, g .content, g .second, g .added, g .plain, g .records, g .limit, g .room)
+grant f o x g = rw (g .lengths, g .content, g .second, g .added, g .plain, g .own, g .limit, g .room)
 
 -- ── items that a recording can hold
 abbrev pub ItemOk : Item → Type 0

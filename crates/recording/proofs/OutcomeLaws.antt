@@ -72,12 +72,12 @@ module _ (f : Faults) (o : Room) (x : Result) where
           stops-plain h = rw (a, b, c, d, ne-eqb (f .plain) 0 (λ z. omega (arith, h, z)))
 
           module _ (e : f .plain ≡ 0) where
-            pub stops-records : 0 < f .records → refusalOf f o x ≡ f .records
+            pub stops-own : 0 < f .own → refusalOf f o x ≡ f .own
             unfolding refusalOf
-            stops-records h = rw (a, b, c, d, e, ne-eqb (f .records) 0 (λ z. omega (arith, h, z)))
+            stops-own h = rw (a, b, c, d, e, ne-eqb (f .own) 0 (λ z. omega (arith, h, z)))
 
             -- only the result is left to be judged
-            pub stops-sizes : f .records ≡ 0 → refusalOf f o x ≡ firstOf (overLimit (x .recording) ∷ noRoom o x ∷ [])
+            pub stops-sizes : f .own ≡ 0 → refusalOf f o x ≡ firstOf (overLimit (x .recording) ∷ noRoom o x ∷ [])
             unfolding refusalOf
             stops-sizes g = rw (a, b, c, d, e, g)
 

@@ -34,8 +34,8 @@ pub record Faults : Type 0 where
   pub added : ℕ
   -- 7: plain text or its ellipsis
   pub plain : ℕ
-  -- 8: the replacement records
-  pub records : ℕ
+  -- the refusals of one call alone, in that call's order: 8 of the replacement records
+  pub own : ℕ
 
 -- 9: a result over a limit of the recording
 unfoldable pub overLimit : Recording → ℕ
@@ -49,7 +49,7 @@ noRoom o x =
 
 -- THE ORDER of refusals, of every call; 0: the call is not refused
 unfoldable pub refusalOf : Faults → Room → Result → ℕ
-refusalOf f o x = firstOf (f .lengths ∷ f .content ∷ f .second ∷ f .added ∷ f .plain ∷ f .records ∷ overLimit (x .recording) ∷ noRoom o x ∷ [])
+refusalOf f o x = firstOf (f .lengths ∷ f .content ∷ f .second ∷ f .added ∷ f .plain ∷ f .own ∷ overLimit (x .recording) ∷ noRoom o x ∷ [])
 
 pub data Outcome : Type 0 where
   refused : ℕ → Outcome

@@ -31,10 +31,10 @@ use Rattle.writer.proofs.Carry.{count-none}
 use Rattle.writer.proofs.Sizes.{numbers-items, quads-of}
 use Rattle.writer.proofs.Steps.{sound}
 use Rattle.layout.specs.declared.Replacement.{Replacement}
-use Rattle.layout.specs.Layout.{replaceOps, recordsFault, replace, resultItems, linesLeft, number, secondFault, replacementFault, outcome}
+use Rattle.layout.specs.Layout.{replaceOps, recordsFault, replace, resultItems, linesLeft, number, secondFault, ownFault, outcome}
 use Rattle.layout.specs.Wrap.{lineNumbers}
 use Rattle.layout.specs.Lent.{lentOf, callOn}
-use Rattle.outcomes.proofs.OutcomeLaws.{content-stops, records-stop, sizes-stop, accepted, has-room, refused-call, done-call}
+use Rattle.outcomes.proofs.OutcomeLaws.{content-stops, own-stops, sizes-stop, accepted, has-room, refused-call, done-call}
 use Rattle.replace.specs.declared.Scan.{Scan}
 use Rattle.replace.specs.Records.{capped, scan, checkAll}
 use Rattle.replace.proofs.ScanLaws.{eight, result-size, capped-fault}
@@ -81,8 +81,8 @@ module _ (ds ns ts new od oe ot : List ℕ) (xs : List Replacement) where
   unfolding secondFault
   no-second = refl
 
-  pub records-are : replacementFault (replace xs new) content ≡ recordsFault 0 (length ds) (length new) xs
-  unfolding replacementFault
+  pub records-are : ownFault (replace xs new) content ≡ recordsFault 0 (length ds) (length new) xs
+  unfolding ownFault
   records-are = refl
 
   no-lines : linesLeft (replace xs new) content ≡ []
@@ -119,7 +119,7 @@ module _ (ds ns ts new od oe ot : List ℕ) (xs : List Replacement) where
         unfolding numberOf
         records-refused b =
             stopped ReplacementRange
-            (records-stop (replace xs new) (callOn (replace xs new) od oe ot .room) content passed no-second ReplacementRange
+            (own-stops (replace xs new) (callOn (replace xs new) od oe ot .room) content passed no-second ReplacementRange
             (records-are ∙ eight-or-none (s .bad) (recordsFault 0 (length ds) (length new) xs) fault .0 b))
 
         module _ (ok : s .bad ≡ false) where

@@ -24,7 +24,7 @@ use Rattle.writer.specs.Sizes.{settledFault, sizesFault, roomOf}
 use Rattle.layout.specs.declared.Replacement.{Replacement}
 use Rattle.layout.specs.Layout.{replaceOps, recordsFault, replace}
 use Rattle.layout.specs.Lent.{callOn}
-use Rattle.outcomes.proofs.OutcomeLaws.{records-stop}
+use Rattle.outcomes.proofs.OutcomeLaws.{own-stops}
 use Rattle.replace.specs.declared.Scan.{Scan}
 use Rattle.replace.specs.Records.{capped, scan, checkAll}
 use Rattle.replace.proofs.RecordLaws.{no-eight}
@@ -87,7 +87,7 @@ module _ (ds ns ts new od oe ot : List ℕ) (xs : List Replacement) (s : Scan) (
       kept =
           first-of-three (recordingFault (recording ds ns ts)) (cond (s .bad) 8 0) sizes (numberOf f) (sym (refused-is (p .verdict) f q) ∙ by-three)
           (λ e. call.content-refused ds ns ts new od oe ot xs (CV.Refused f) (told-of f e) f refl)
-          (λ a e. call.stopped ds ns ts new od oe ot xs f (records-stop (replace xs new) (callOn (replace xs new) od oe ot .room) (recording ds ns ts) a (call.no-second ds ns ts new od oe ot xs) f (call.records-are ds ns ts new od oe ot xs ∙ sym fault ∙ sym e)))
+          (λ a e. call.stopped ds ns ts new od oe ot xs f (own-stops (replace xs new) (callOn (replace xs new) od oe ot .room) (recording ds ns ts) a (call.no-second ds ns ts new od oe ot xs) f (call.records-are ds ns ts new od oe ot xs ∙ sym fault ∙ sym e)))
           (λ a b e. call.sizes-refused ds ns ts new od oe ot xs (CV.Fine size) (fine a) size refl counted s scanned (no-eight (s .bad) 0 b .0) (capped (s .size + (length ds - s .at))) refl (S.Refused f) (refused-is (S.Refused f) f refl ∙ e) f refl)
 
     -- ── with room

@@ -22,7 +22,7 @@ use Rattle.writer.specs.Write.{out, add, Fits, Sound, blank}
 use Rattle.writer.specs.Sizes.{sizesFault, settledFault}
 use Rattle.writer.proofs.Steps.{sound}
 use Rattle.layout.specs.Wrap.{lineNumbers, wrapLines}
-use Rattle.layout.specs.Layout.{wrap, outcome, resultItems, resultOf, linesLeft, number, secondFault, replacementFault}
+use Rattle.layout.specs.Layout.{wrap, outcome, resultItems, resultOf, linesLeft, number, secondFault, ownFault}
 use Rattle.outcomes.proofs.OutcomeLaws.{content-stops, sizes-stop, accepted, has-room, refused-call, done-answer, done-lent}
 use Rattle.wrap.specs.Plan.{joinedLen, lentLined, callLined}
 use Rattle.wrap.proofs.SizeLaws.{data-size, entry-size, text-size, within}
@@ -56,8 +56,8 @@ module _ (w : ℕ) (b : Bool) (ds ns ts od oe ot ol : List ℕ) where
       unfolding secondFault
       no-second = refl
 
-      no-records : replacementFault (wrap w b) content ≡ 0
-      unfolding replacementFault
+      no-records : ownFault (wrap w b) content ≡ 0
+      unfolding ownFault
       no-records = refl
 
       -- the sizes that are settled

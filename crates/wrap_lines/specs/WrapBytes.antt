@@ -33,7 +33,7 @@ abbrev pub lentLines : List ℕ → Lent
 lentLines ls = record { dataBytes = []; entryNumbers = []; text = []; lines = ls }
 
 abbrev pub wrapFaults : List ℕ → Faults
-wrapFaults d = record { lengths = 0; content = refuseIf (ltb dataLimit (length d)) 1; second = 0; added = 0; plain = 0; records = 0 }
+wrapFaults d = record { lengths = 0; content = refuseIf (ltb dataLimit (length d)) 1; second = 0; added = 0; plain = 0; own = 0 }
 
 abbrev pub wrapResult : ℕ → Bool → List ℕ → Result
 wrapResult w b d = record { recording = noRecording; lines = lineNumbers (wrapLines w b d); number = length (wrapLines w b d) }

@@ -6,7 +6,7 @@ use mathlib.Core.Path.{refl, _∙_}
 use Prim.Native.Nat.{_+_, _-_}
 use Rattle.chars.specs.Leads.{leadTable}
 use Rattle.recording.specs.Recording.{recording}
-use Rattle.layout.specs.Layout.{truncateEnd, secondFault, replacementFault, linesLeft}
+use Rattle.layout.specs.Layout.{truncateEnd, secondFault, ownFault, linesLeft}
 use Rattle.truncate.specs.Plan.{endItems}
 use Rattle.truncate.proofs.PlanLaws.{end-items, end-number, end-data, end-count, end-text}
 use Rattle.truncate.proofs.write_truncated_end.Statement.{statement}
@@ -28,7 +28,7 @@ enum-known-checked : tie.Need-enum-known-checked
 enum-known-checked c = search needs
 
 returns : tie.Need-returns
-unfolding secondFault replacementFault linesLeft
+unfolding secondFault ownFault linesLeft
 returns c =
     let a = c .before .before .before .before .before .before .before .before .before .before .before .before .before .before .args in
     let k = c .before .before .before .check in
@@ -47,7 +47,7 @@ enum-known-second : tie.Need-enum-known-second
 enum-known-second c = search needs
 
 returns-2 : tie.Need-returns-2
-unfolding secondFault replacementFault linesLeft
+unfolding secondFault ownFault linesLeft
 returns-2 c =
     let a = c .before .before .before .before .before .before .before .before .before .before .before .before .before .before .before .before .before .before .before .args in
     let k = c .before .before .before .before .before .before .before .before .check in
@@ -108,7 +108,7 @@ enum-known-verdict : tie.Need-enum-known-verdict
 enum-known-verdict c = search needs
 
 returns-3 : tie.Need-returns-3
-unfolding secondFault replacementFault linesLeft
+unfolding secondFault ownFault linesLeft
 returns-3 c =
     let a = c .before .before .before .before .before .before .before .before .before .before .before .before .before .before .before .before .before .before .before .before .before .before .before .before .before .before .before .before .args in
     let k = c .before .before .before .before .before .before .before .before .before .before .before .before .before .before .before .before .before .check in
@@ -128,7 +128,7 @@ enum-told : tie.Need-enum-told
 enum-told c = search needs
 
 put-end-requires : tie.Need-put-end-requires
-unfolding secondFault replacementFault linesLeft
+unfolding secondFault ownFault linesLeft
 put-end-requires c κs =
     let a = c .before .before .before .before .before .before .before .before .before .before .before .before .before .before .before .before .before .before .before .before .before .before .before .before .before .before .before .before .before .before .args in
     let k = c .before .before .before .before .before .before .before .before .before .before .before .before .before .before .before .before .before .before .before .check in
@@ -154,7 +154,7 @@ same-length-3 : tie.Need-same-length-3
 same-length-3 c = search needs
 
 returns-4 : tie.Need-returns-4
-unfolding secondFault replacementFault linesLeft
+unfolding secondFault ownFault linesLeft
 returns-4 c =
     let a = c .before .before .before .before .before .before .before .before .before .before .before .before .before .before .before .before .before .before .before .before .before .before .before .before .before .before .before .before .before .before .before .before .before .before .before .before .before .args in
     let k = c .before .before .before .before .before .before .before .before .before .before .before .before .before .before .before .before .before .before .before .before .before .before .before .before .before .before .check in

@@ -7,7 +7,7 @@ use Prim.Native.Nat.{_+_, _-_}
 use lib.ListN.{length}
 use Rattle.chars.specs.Leads.{leadTable}
 use Rattle.recording.specs.Recording.{recording}
-use Rattle.layout.specs.Layout.{truncateStart, secondFault, replacementFault, linesLeft}
+use Rattle.layout.specs.Layout.{truncateStart, secondFault, ownFault, linesLeft}
 use Rattle.truncate.specs.Plan.{startItems}
 use Rattle.truncate.proofs.PlanLaws.{start-items, start-number, start-data, start-count, start-text}
 use Rattle.truncate.proofs.write_truncated_start.Statement.{statement}
@@ -29,7 +29,7 @@ enum-known-checked : tie.Need-enum-known-checked
 enum-known-checked c = search needs
 
 returns : tie.Need-returns
-unfolding secondFault replacementFault linesLeft
+unfolding secondFault ownFault linesLeft
 returns c =
     let a = c .before .before .before .before .before .before .before .before .before .before .before .before .before .before .args in
     let k = c .before .before .before .check in
@@ -48,7 +48,7 @@ enum-known-second : tie.Need-enum-known-second
 enum-known-second c = search needs
 
 returns-2 : tie.Need-returns-2
-unfolding secondFault replacementFault linesLeft
+unfolding secondFault ownFault linesLeft
 returns-2 c =
     let a = c .before .before .before .before .before .before .before .before .before .before .before .before .before .before .before .before .before .before .before .args in
     let k = c .before .before .before .before .before .before .before .before .check in
@@ -115,7 +115,7 @@ enum-known-verdict : tie.Need-enum-known-verdict
 enum-known-verdict c = search needs
 
 returns-3 : tie.Need-returns-3
-unfolding secondFault replacementFault linesLeft
+unfolding secondFault ownFault linesLeft
 returns-3 c =
     let a = c .before .before .before .before .before .before .before .before .before .before .before .before .before .before .before .before .before .before .before .before .before .before .before .before .before .before .before .before .before .args in
     let k = c .before .before .before .before .before .before .before .before .before .before .before .before .before .before .before .before .before .before .check in
@@ -135,7 +135,7 @@ enum-told : tie.Need-enum-told
 enum-told c = search needs
 
 put-start-requires : tie.Need-put-start-requires
-unfolding secondFault replacementFault linesLeft
+unfolding secondFault ownFault linesLeft
 put-start-requires c κs =
     let a = c .before .before .before .before .before .before .before .before .before .before .before .before .before .before .before .before .before .before .before .before .before .before .before .before .before .before .before .before .before .before .before .args in
     let k = c .before .before .before .before .before .before .before .before .before .before .before .before .before .before .before .before .before .before .before .before .check in
@@ -161,7 +161,7 @@ same-length-3 : tie.Need-same-length-3
 same-length-3 c = search needs
 
 returns-4 : tie.Need-returns-4
-unfolding secondFault replacementFault linesLeft
+unfolding secondFault ownFault linesLeft
 returns-4 c =
     let a = c .before .before .before .before .before .before .before .before .before .before .before .before .before .before .before .before .before .before .before .before .before .before .before .before .before .before .before .before .before .before .before .before .before .before .before .before .before .before .args in
     let k = c .before .before .before .before .before .before .before .before .before .before .before .before .before .before .before .before .before .before .before .before .before .before .before .before .before .before .before .check in
