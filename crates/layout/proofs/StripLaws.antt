@@ -119,14 +119,14 @@ same-data j r r′ g e =
     result-data (strippedJob j) r′ (stripped-ok j) ∙ stripped-data j (r′ .dataBytes) ∙ ap (λ (d : Bytes). resultData j d) e ∙ sym (result-data j r g)
 
 -- ── no entries in, no entries out
-abbrev Bare : List Item → Type 0
+abbrev pub Bare : List Item → Type 0
 Bare [] = Unit {0}
 Bare (byte b ∷ is) = Bare is
 Bare (push l ∷ is) = ⊥
 Bare (pop ∷ is) = ⊥
 Bare (raw t ∷ is) = ⊥
 
-abbrev BarePuts : List Op → Type 0
+abbrev pub BarePuts : List Op → Type 0
 BarePuts [] = Unit {0}
 BarePuts (keep n ∷ ops) = BarePuts ops
 BarePuts (skip n ∷ ops) = BarePuts ops
@@ -218,7 +218,7 @@ bare-items : (r : Recording) → r .entryNumbers ≡ [] → Bare (items r)
 unfolding items
 bare-items r e = rw e (bare-bytes (r .dataBytes))
 
-bare-single : (s : Single) (d : Bytes) → BarePuts (singleOps s d)
+pub bare-single : (s : Single) (d : Bytes) → BarePuts (singleOps s d)
 bare-single (writeWrapped w b) d = bare-wrap (length d) 0 (wrapLines w b d)
 bare-single (writeReplaced xs t) d = bare-replace t 0 xs
 

@@ -1,12 +1,23 @@
--- A call on three lent buffers, without a line list: what it was lent, and the call with the room there is. For the contracts of all calls but the wrapping ones.
+-- A layout call on lent buffers: what it was lent, with and without a line list, and what it promises.
 use mathlib.Core.List.{List, []}
 use Prim.Native.Nat.{ℕ}
-use lib.ListN.{length}
-use Rattle.recording.specs.Outcome.{Lent}
-use Rattle.layout.specs.Layout.{Job, Call}
+use Rattle.recording.specs.declared.Answer.{Answer}
+use Rattle.recording.specs.Recording.{Recording}
+use Rattle.recording.specs.Outcome.{Lent, roomIn, Promised}
+use Rattle.layout.specs.Layout.{Job, Call, outcome}
 
+-- three buffers, and a line list beside them
+abbrev pub lentLined : List ℕ → List ℕ → List ℕ → List ℕ → Lent
+lentLined od oe ot ol = record { dataBytes = od; entryNumbers = oe; text = ot; lines = ol }
+
+-- three buffers
 abbrev pub lentOf : List ℕ → List ℕ → List ℕ → Lent
-lentOf od oe ot = record { dataBytes = od; entryNumbers = oe; text = ot; lines = [] }
+lentOf od oe ot = lentLined od oe ot []
 
-abbrev pub callOn : Job → List ℕ → List ℕ → List ℕ → Call
-callOn j od oe ot = record { job = j; room = record { dataBytes = length od; entryNumbers = length oe; text = length ot; lines = 0 } }
+-- the call with the room that the buffers have
+abbrev pub callIn : Job → Lent → Call
+callIn j b = record { job = j; room = roomIn b }
+
+-- WHAT A LAYOUT CALL PROMISES: of the job j on the content r in the buffers b, which are then b′, with the answer a
+abbrev pub Leaves : Job → Recording → Lent → Lent → Answer → Type 0
+Leaves j r b b′ a = Promised (outcome (callIn j b) r) b b′ a

@@ -1,2 +1,3 @@
 pub mod OutcomeLaws
 pub mod SecondLaws
+pub mod AloneLaws

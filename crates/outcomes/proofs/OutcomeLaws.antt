@@ -1,8 +1,8 @@
--- For code that finds a call's refusals one after another and then writes: where it stops its outcome is that refusal, and where nothing refuses it is the result (`..-stops`,
--- `accepted`); and what it then has answered and left (`refused-call`, `done-call`). Over any job: the sizes that the code took are those of the items that it writes.
+-- A layout call as code goes through it: check what it is given, settle the sizes of the result, write. Each place where it returns gives the whole promise (`Leaves`) at once.
+-- Over any job: the sizes that the code took are those of the items that it writes (`Sized`), and nothing that it was given is refused (`Accepted`).
 use mathlib.Core.Path.{_≡_, refl, sym, ap, subst, _∙_}
 use mathlib.Core.List.{List, [], _∷_}
-use Prim.Native.Nat.{ℕ, _*_}
+use Prim.Native.Nat.{ℕ, zero, suc, _*_}
 use native.Mathlib.Omega.{arith}
 use lib.ListN.{length}
 use Rattle.buffer.specs.Place.{over}
@@ -10,8 +10,9 @@ use Rattle.recording.specs.declared.Refusal.{Refusal}
 use Rattle.recording.specs.declared.Answer.the-variants.{Refused, Done}
 use Rattle.recording.specs.Recording.{Recording, Item, numbersOf, dataOf, textOf, entriesFrom, encode}
 use Rattle.recording.specs.Refusals.{numberOf, firstOf, recordingFault}
-use Rattle.recording.specs.Outcome.{Room, Outcome, refused, done, overLimit, noRoom, refusalOf, Lent, lentAfter, returned, answerOf}
-use Rattle.recording.proofs.OutcomeLaws.{number-pos, stops-content, stops-second, stops-own, stops-sizes, is-refused, is-done}
+use Rattle.recording.specs.Outcome.{Outcome, refused, done, overLimit, noRoom, refusalOf, Lent, roomIn, lentAfter, returned, answerOf}
+use Rattle.recording.proofs.OutcomeLaws.{number-pos, first-hit, first-on, first-one, stops-content, stops-second, stops-own, stops-sizes, is-refused, is-done}
+use Rattle.recording.proofs.FaultLaws.{firstOf-zero}
 use Rattle.recording.proofs.SizeLaws.{entryCount, count-numbers}
 use Rattle.writer.specs.declared.Cursor.{Cursor}
 use Rattle.writer.specs.declared.Settled.{Settled}
@@ -21,91 +22,100 @@ use Rattle.writer.specs.Sizes.{sizesFault, settledFault}
 use Rattle.writer.proofs.Sizes.{size-refused, size-granted, fits-blank}
 use Rattle.writer.proofs.Steps.{from-start}
 use Rattle.layout.specs.Wrap.{lineNumbers}
-use Rattle.layout.specs.Layout.{Job, Call, resultItems, linesLeft, number, resultOf, secondFault, ownFault, faultsOf, outcome}
-use Rattle.layout.specs.Lent.{lentOf}
+use Rattle.layout.specs.Layout.{Job, resultItems, linesLeft, number, resultOf, secondFault, ownFault, faultsOf, outcome}
+use Rattle.layout.specs.Lent.{lentLined, callIn, Leaves}
 
--- ── where a call stops
-module _ (j : Job) (o : Room) (r : Recording) where
+-- nothing that the call was given is refused
+pub record Accepted (j : Job) (r : Recording) : Type 0 where
+  pub content : recordingFault r ≡ 0
+  pub second : secondFault j ≡ 0
+  pub own : ownFault j r ≡ 0
+
+-- the call leaves the items `is`; they have d data bytes, e entry numbers and t text bytes, and l numbers go into the line list
+pub record Sized (j : Job) (r : Recording) (is : List Item) (d e t l : ℕ) : Type 0 where
+  pub leaves : resultItems j r ≡ is
+  pub data-size : d ≡ length (dataOf is)
+  pub entry-size : e ≡ 4 * entryCount is
+  pub text-size : t ≡ length (textOf is)
+  pub line-size : l ≡ length (lineNumbers (linesLeft j r))
+
+module _ (j : Job) (r : Recording) (b : Lent) where
   abbrev told : Outcome
-  told = outcome (record { job = j; room = o }) r
+  told = outcome (callIn j b) r
 
-  pub content-stops : (f : Refusal) → recordingFault r ≡ numberOf f → told ≡ refused (numberOf f)
-  unfolding outcome faultsOf
-  content-stops f e = is-refused (faultsOf j r) o (resultOf j r) f (stops-content (faultsOf j r) o (resultOf j r) refl (omega (arith, e, number-pos f)) ∙ e)
-
-  module _ (a : recordingFault r ≡ 0) where
-    pub second-stops : (f : Refusal) → secondFault j ≡ numberOf f → told ≡ refused (numberOf f)
-    unfolding outcome faultsOf
-    second-stops f e = is-refused (faultsOf j r) o (resultOf j r) f (stops-second (faultsOf j r) o (resultOf j r) refl a (omega (arith, e, number-pos f)) ∙ e)
-
-    module _ (b : secondFault j ≡ 0) where
-      pub own-stops : (f : Refusal) → ownFault j r ≡ numberOf f → told ≡ refused (numberOf f)
-      unfolding outcome faultsOf
-      own-stops f e = is-refused (faultsOf j r) o (resultOf j r) f (stops-own (faultsOf j r) o (resultOf j r) refl a b refl refl (omega (arith, e, number-pos f)) ∙ e)
-
-      -- only the result is left to be judged: it has d data bytes, e entry numbers, t text bytes and l line numbers
-      module _ (c : ownFault j r ≡ 0) (is : List Item) (ei : resultItems j r ≡ is) (d e t l : ℕ) (ed : d ≡ length (dataOf is)) (ee : e ≡ 4 * entryCount is) (et : t ≡ length (textOf is))
-          (el : l ≡ length (lineNumbers (linesLeft j r))) (v : Settled) (g : settledFault v ≡ sizesFault d e t l o) where
-        d-is : d ≡ length (resultOf j r .recording .dataBytes)
-        unfolding resultOf encode
-        d-is = ed ∙ ap (λ (x : List Item). length (dataOf x)) (sym ei)
-
-        e-is : e ≡ length (resultOf j r .recording .entryNumbers)
-        unfolding resultOf encode
-        e-is = ee ∙ sym (count-numbers is 0 0) ∙ ap (λ (x : List Item). length (numbersOf (entriesFrom 0 0 x))) (sym ei)
-
-        t-is : t ≡ length (resultOf j r .recording .text)
-        unfolding resultOf encode
-        t-is = et ∙ ap (λ (x : List Item). length (textOf x)) (sym ei)
-
-        l-is : l ≡ length (resultOf j r .lines)
-        unfolding resultOf
-        l-is = el
-
-        sizes : refusalOf (faultsOf j r) o (resultOf j r) ≡ firstOf (overLimit (resultOf j r .recording) ∷ noRoom o (resultOf j r) ∷ [])
-        unfolding faultsOf
-        sizes = stops-sizes (faultsOf j r) o (resultOf j r) refl a b refl refl c
-
-        pub sizes-stop : (f : Refusal) → v ≡ S.Refused f → told ≡ refused (numberOf f)
-        unfolding outcome
-        sizes-stop f q = is-refused (faultsOf j r) o (resultOf j r) f (sizes ∙ size-refused (resultOf j r) o v f d e t l g q d-is e-is t-is l-is)
-
-        module _ (q : v ≡ S.Room) where
-          fit : firstOf (overLimit (resultOf j r .recording) ∷ noRoom o (resultOf j r) ∷ []) ≡ 0
-          fit = size-granted (resultOf j r) o v d e t l g q d-is e-is t-is l-is
-
-          pub accepted : told ≡ done (resultOf j r)
-          unfolding outcome
-          accepted = is-done (faultsOf j r) o (resultOf j r) (sizes ∙ fit)
-
-          -- and then there is room for what is written
-          pub has-room : (od oe ot : List ℕ) → o .dataBytes ≡ length od → o .entryNumbers ≡ length oe → o .text ≡ length ot → Fits is (blank od oe ot)
-          unfolding resultOf
-          has-room od oe ot p₁ p₂ p₃ =
-              subst (λ (x : List Item). Fits x (blank od oe ot)) ei (fits-blank (resultItems j r) (lineNumbers (linesLeft j r)) (number j r) od oe ot o p₁ p₂ p₃ fit)
-
--- ── what it has then answered and left
-module _ (c : Call) (r : Recording) where
-  pub refused-call : (f : Refusal) (b : Lent) → outcome c r ≡ refused (numberOf f) → (answerOf (Refused f) ≡ returned (outcome c r)) × (b ≡ lentAfter (outcome c r) b)
+  -- ── where a call stops, and what it has then answered and left
+  stopped : (f : Refusal) → told ≡ refused (numberOf f) → Leaves j r b b (Refused f)
   unfolding answerOf returned lentAfter
-  refused-call f b e = (rw e, rw e)
+  stopped f e = (rw e, rw e)
 
-  module _ (is : List Item) (m : ℕ) (od oe ot od′ oe′ ot′ : List ℕ) (k : Cursor) (e : outcome c r ≡ done (resultOf (c .job) r)) (ei : resultItems (c .job) r ≡ is) (en : number (c .job) r ≡ m)
-      (w : out od′ oe′ ot′ k ≡ add is (blank od oe ot)) where
-    pub done-answer : answerOf (Done (k .d) (k .e) (k .t) m) ≡ returned (outcome c r)
-    unfolding answerOf returned resultOf encode
-    done-answer =
-        let s = from-start is od oe ot od′ oe′ ot′ k w in
-        rw (e, ei, en) (λ i. record { refusal = 0; dataBytes = s .3 i; entryNumbers = s .4 i; text = s .5 i; number = m })
+  -- at a fault of the content or of the second recording
+  pub input-refused : (f : Refusal) → numberOf f ≡ firstOf (recordingFault r ∷ secondFault j ∷ []) → Leaves j r b b (Refused f)
+  unfolding outcome faultsOf
+  input-refused f e = stopped f (is-refused (faultsOf j r) (roomIn b) (resultOf j r) f (go (recordingFault r) refl))
+    where
+      go : (n : ℕ) → recordingFault r ≡ n → refusalOf (faultsOf j r) (roomIn b) (resultOf j r) ≡ numberOf f
+      go zero q =
+          let s : numberOf f ≡ secondFault j = e ∙ first-on (recordingFault r) (secondFault j ∷ []) q ∙ first-one (secondFault j) in
+          stops-second (faultsOf j r) (roomIn b) (resultOf j r) refl q (omega (arith, s, number-pos f)) ∙ sym s
+      go (suc n) q =
+          let s : numberOf f ≡ recordingFault r = e ∙ first-hit (recordingFault r) (secondFault j ∷ []) (omega (arith, q)) in
+          stops-content (faultsOf j r) (roomIn b) (resultOf j r) refl (omega (arith, s, number-pos f)) ∙ sym s
 
-    -- with the lines in a line list
-    pub done-lent : (ol ol′ : List ℕ) → ol′ ≡ over (lineNumbers (linesLeft (c .job) r)) ol
-        → record { dataBytes = od′; entryNumbers = oe′; text = ot′; lines = ol′ } ≡ lentAfter (outcome c r) (record { dataBytes = od; entryNumbers = oe; text = ot; lines = ol })
-    unfolding lentAfter resultOf encode
-    done-lent ol ol′ el =
-        let s = from-start is od oe ot od′ oe′ ot′ k w in
-        rw (e, ei) (λ i. record { dataBytes = s .0 i; entryNumbers = s .1 i; text = s .2 i; lines = el i })
+  -- at a fault of its own
+  pub own-refused : recordingFault r ≡ 0 → secondFault j ≡ 0 → (f : Refusal) → ownFault j r ≡ numberOf f → Leaves j r b b (Refused f)
+  unfolding outcome faultsOf
+  own-refused a c f e =
+      stopped f (is-refused (faultsOf j r) (roomIn b) (resultOf j r) f (stops-own (faultsOf j r) (roomIn b) (resultOf j r) refl a c refl refl (omega (arith, e, number-pos f)) ∙ e))
 
-    pub done-call : linesLeft (c .job) r ≡ [] → (answerOf (Done (k .d) (k .e) (k .t) m) ≡ returned (outcome c r)) × (lentOf od′ oe′ ot′ ≡ lentAfter (outcome c r) (lentOf od oe ot))
-    unfolding over
-    done-call z = (done-answer, done-lent [] [] (rw z))
+  -- ── only the result is left to be judged
+  module _ (A : Accepted j r) (is : List Item) (d e t l : ℕ) (z : Sized j r is d e t l) (v : Settled) (g : settledFault v ≡ sizesFault d e t l (roomIn b)) where
+    data-is : d ≡ length (resultOf j r .recording .dataBytes)
+    unfolding resultOf encode
+    data-is = z .data-size ∙ ap (λ (x : List Item). length (dataOf x)) (sym (z .leaves))
+
+    entries-are : e ≡ length (resultOf j r .recording .entryNumbers)
+    unfolding resultOf encode
+    entries-are = z .entry-size ∙ sym (count-numbers is 0 0) ∙ ap (λ (x : List Item). length (numbersOf (entriesFrom 0 0 x))) (sym (z .leaves))
+
+    text-is : t ≡ length (resultOf j r .recording .text)
+    unfolding resultOf encode
+    text-is = z .text-size ∙ ap (λ (x : List Item). length (textOf x)) (sym (z .leaves))
+
+    lines-are : l ≡ length (resultOf j r .lines)
+    unfolding resultOf
+    lines-are = z .line-size
+
+    judged : refusalOf (faultsOf j r) (roomIn b) (resultOf j r) ≡ firstOf (overLimit (resultOf j r .recording) ∷ noRoom (roomIn b) (resultOf j r) ∷ [])
+    unfolding faultsOf
+    judged = stops-sizes (faultsOf j r) (roomIn b) (resultOf j r) refl (A .content) (A .second) refl refl (A .own)
+
+    pub sizes-refused : (f : Refusal) → v ≡ S.Refused f → Leaves j r b b (Refused f)
+    unfolding outcome
+    sizes-refused f q =
+        stopped f (is-refused (faultsOf j r) (roomIn b) (resultOf j r) f (judged ∙ size-refused (resultOf j r) (roomIn b) v f d e t l g q data-is entries-are text-is lines-are))
+
+    -- ── and it has room
+    module _ (q : v ≡ S.Room) where
+      fit : firstOf (overLimit (resultOf j r .recording) ∷ noRoom (roomIn b) (resultOf j r) ∷ []) ≡ 0
+      fit = size-granted (resultOf j r) (roomIn b) v d e t l g q data-is entries-are text-is lines-are
+
+      is-result : told ≡ done (resultOf j r)
+      unfolding outcome
+      is-result = is-done (faultsOf j r) (roomIn b) (resultOf j r) (judged ∙ fit)
+
+      pub has-room : Fits is (blank (b .dataBytes) (b .entryNumbers) (b .text))
+      unfolding resultOf
+      has-room =
+          subst (λ (x : List Item). Fits x (blank (b .dataBytes) (b .entryNumbers) (b .text))) (z .leaves)
+          (fits-blank (resultItems j r) (lineNumbers (linesLeft j r)) (number j r) (b .dataBytes) (b .entryNumbers) (b .text) (roomIn b) refl refl refl fit)
+
+      -- the items are written and the lines listed
+      pub written : (m : ℕ) (od oe ot ol : List ℕ) (k : Cursor) → number j r ≡ m → out od oe ot k ≡ add is (blank (b .dataBytes) (b .entryNumbers) (b .text))
+          → ol ≡ over (lineNumbers (linesLeft j r)) (b .lines) → Leaves j r b (lentLined od oe ot ol) (Done (k .d) (k .e) (k .t) m)
+      unfolding answerOf returned lentAfter resultOf encode
+      written m od oe ot ol k en w el =
+          let s = from-start is (b .dataBytes) (b .entryNumbers) (b .text) od oe ot k w in
+          (
+            rw (is-result, z .leaves, en) (λ i. record { refusal = 0; dataBytes = s .3 i; entryNumbers = s .4 i; text = s .5 i; number = m }),
+            rw (is-result, z .leaves) (λ i. record { dataBytes = s .0 i; entryNumbers = s .1 i; text = s .2 i; lines = el i }),
+          )

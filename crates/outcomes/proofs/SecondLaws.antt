@@ -1,22 +1,19 @@
--- A call with a second recording on three lent buffers, as code goes through it: check the content, check the second, settle the sizes, write.
--- Each place where it returns gives the whole contract at once (`Left`), from what the callees promise; over any job, by `OutcomeLaws`.
-use mathlib.Core.Path.{_≡_, refl, sym, ap, _∙_}
+-- A call with a second recording on three lent buffers: what its check of both found (`both-refused`, `both-fine`), and that no call of this shape has a line list or a fault of its own.
+use mathlib.Core.Path.{_≡_, refl, sym, _∙_}
 use mathlib.Core.List.{List, []}
 use Prim.Native.Nat.{ℕ, _*_, _≤_}
 use native.Mathlib.Omega.{arith}
 use lib.ListN.{length}
 use borrow.Author.Tests.{ltb-false}
+use Rattle.buffer.specs.Place.{over}
 use Rattle.recording.specs.declared.Refusal.{Refusal}
-use Rattle.recording.specs.declared.Answer.{Answer}
 use Rattle.recording.specs.declared.Answer.the-variants.{Refused, Done}
-use Rattle.recording.specs.declared.Checked.{Checked}
-use Rattle.recording.specs.declared.Checked.the-variants as C
+use Rattle.recording.specs.declared.CheckedBoth.{CheckedBoth}
+use Rattle.recording.specs.declared.CheckedBoth.the-variants as B
 use Rattle.recording.specs.Recording.{Recording, recording, Item, items, dataOf, textOf}
-use Rattle.recording.specs.Refusals.{numberOf, recordingFault}
-use Rattle.recording.specs.Check.{faultOf, Counted, Within}
-use Rattle.recording.specs.Outcome.{Outcome, refused, Lent, lentAfter, returned, answerOf}
+use Rattle.recording.specs.Refusals.{recordingFault}
+use Rattle.recording.specs.Check.{BothChecked}
 use Rattle.recording.proofs.FaultLaws.{no-fault}
-use Rattle.recording.proofs.CheckLaws.{refused-number, fine-zero, fine-count, fine-within}
 use Rattle.recording.proofs.SizeLaws.{entryCount, count-numbers}
 use Rattle.writer.specs.declared.Cursor.{Cursor}
 use Rattle.writer.specs.declared.Settled.{Settled}
@@ -24,13 +21,13 @@ use Rattle.writer.specs.declared.Settled.the-variants as S
 use Rattle.writer.specs.Write.{out, add, blank, Fits, Sound}
 use Rattle.writer.specs.Sizes.{sizesFault, roomOf, settledFault}
 use Rattle.writer.proofs.Sizes.{numbers-items, quads-of}
-use Rattle.writer.proofs.Steps.{sound, data-size}
-use Rattle.layout.specs.Layout.{Job, resultItems, linesLeft, number, secondFault, ownFault, outcome}
-use Rattle.layout.specs.Wrap.{lineNumbers}
-use Rattle.layout.specs.Lent.{lentOf, callOn}
-use Rattle.outcomes.proofs.OutcomeLaws.{content-stops, second-stops, sizes-stop, accepted, has-room, refused-call, done-call}
+use Rattle.writer.proofs.Steps as steps
+use Rattle.layout.specs.Layout.{Kind, Job, withSecond, resultItems, linesLeft, number, secondFault, ownFault}
+use Rattle.layout.specs.Lent.{lentOf, Leaves}
+use Rattle.outcomes.proofs.OutcomeLaws as outcomes
+use Rattle.outcomes.proofs.OutcomeLaws.{Accepted, Sized}
 
--- ── what is known of a recording once its check has found nothing
+-- ── what is known of a recording once its check has found nothing; n: the length of its entries' texts
 pub record Fine (ds ns ts : List ℕ) (n : ℕ) : Type 0 where
   pub passed : recordingFault (recording ds ns ts) ≡ 0
   pub whole : Sound ds ns ts
@@ -42,67 +39,58 @@ pub record Fine (ds ns ts : List ℕ) (n : ℕ) : Type 0 where
   pub entries-short : length ns ≤ 16384
   pub text-short : n ≤ 268435456
 
-pub checked-fine : (ds ns ts : List ℕ) (n : ℕ) (k : Checked) → k ≡ C.Fine n → faultOf k ≡ recordingFault (recording ds ns ts)
-    → Counted k (length (textOf (items (recording ds ns ts)))) → Within k 268435456 → Fine ds ns ts n
-checked-fine ds ns ts n k q f m w =
-    let z : recordingFault (recording ds ns ts) ≡ 0 = sym f ∙ fine-zero k n q in
+pub checked-fine : (ds ns ts : List ℕ) (n : ℕ) → recordingFault (recording ds ns ts) ≡ 0 → n ≡ length (textOf (items (recording ds ns ts))) → n ≤ 268435456 → Fine ds ns ts n
+checked-fine ds ns ts n z m w =
     let g = no-fault (recording ds ns ts) z in
     record {
       passed = z;
-      whole = sound ds ns ts z;
-      data-size = sym (data-size ds ns ts);
+      whole = steps.sound ds ns ts z;
+      data-size = sym (steps.data-size ds ns ts);
       entry-size = omega (arith, count-numbers (items (recording ds ns ts)) 0 0, numbers-items ds ns ts (quads-of ds ns ts z));
-      text-size = fine-count k n (length (textOf (items (recording ds ns ts)))) q m;
+      text-size = m;
       data-short = ltb-false 1048576 (length ds) (g .dataBytes);
       entries-short = ltb-false 16384 (length ns) (g .entryNumbers);
-      text-short = fine-within k n 268435456 q w;
+      text-short = w;
     }
 
-module _ (ds ns ts fs gs us od oe ot : List ℕ) (j : Job) where
-  abbrev content : Recording
+module _ (kind : Kind) (width : ℕ) (ds ns ts fs gs us od oe ot : List ℕ) where
+  abbrev pub content : Recording
   content = recording ds ns ts
 
-  abbrev second : Recording
+  abbrev pub second : Recording
   second = recording fs gs us
 
-  abbrev told : Outcome
-  told = outcome (callOn j od oe ot) content
+  abbrev pub job : Job
+  job = withSecond kind width second
 
-  -- the contract: the answer, and each buffer
-  abbrev pub Left : Answer → List ℕ → List ℕ → List ℕ → Type 0
-  Left r od′ oe′ ot′ =
-      (answerOf r ≡ returned told) × ((od′ ≡ lentAfter told (lentOf od oe ot) .dataBytes)
-      × ((oe′ ≡ lentAfter told (lentOf od oe ot) .entryNumbers) × (ot′ ≡ lentAfter told (lentOf od oe ot) .text)))
+  pub both-refused : (k : CheckedBoth) → BothChecked k content second → (f : Refusal) → k ≡ B.Refused f → Leaves job content (lentOf od oe ot) (lentOf od oe ot) (Refused f)
+  unfolding BothChecked secondFault
+  both-refused k h f q = outcomes.input-refused job content (lentOf od oe ot) f (rw q at h)
 
-  parted : (r : Answer) (od′ oe′ ot′ : List ℕ) → (answerOf r ≡ returned told) × (lentOf od′ oe′ ot′ ≡ lentAfter told (lentOf od oe ot)) → Left r od′ oe′ ot′
-  parted r od′ oe′ ot′ e = (e .0, (ap (λ (x : Lent). x .dataBytes) (e .1), (ap (λ (x : Lent). x .entryNumbers) (e .1), ap (λ (x : Lent). x .text) (e .1))))
+  pub both-fine : (k : CheckedBoth) → BothChecked k content second → (n m : ℕ) → k ≡ B.Fine n m → Fine ds ns ts n × Fine fs gs us m
+  unfolding BothChecked
+  both-fine k h n m q =
+      let g : BothChecked (B.Fine n m) content second = rw q at h in
+      (checked-fine ds ns ts n (g .0) (g .1 .1 .0) (g .1 .1 .1 .1 .0), checked-fine fs gs us m (g .1 .0) (g .1 .1 .1 .0) (g .1 .1 .1 .1 .1))
 
-  refused-left : (f : Refusal) → told ≡ refused (numberOf f) → Left (Refused f) od oe ot
-  refused-left f e = parted (Refused f) od oe ot (refused-call (callOn j od oe ot) content f (lentOf od oe ot) e)
+  module _ (n m : ℕ) (fine : Fine ds ns ts n × Fine fs gs us m) (is : List Item) (d e t : ℕ) (leaves : resultItems job content ≡ is)
+      (ed : d ≡ length (dataOf is)) (ee : e ≡ 4 * entryCount is) (et : t ≡ length (textOf is))
+      (v : Settled) (g : settledFault v ≡ sizesFault d e t 0 (roomOf (length od) (length oe) (length ot) 0)) where
+    accepted : Accepted job content
+    unfolding secondFault ownFault
+    accepted = record { content = fine .0 .passed; second = fine .1 .passed; own = refl }
 
-  pub content-refused : (k : Checked) (f : Refusal) → faultOf k ≡ recordingFault content → k ≡ C.Refused f → Left (Refused f) od oe ot
-  content-refused k f e q = refused-left f (content-stops j (callOn j od oe ot .room) content f (sym e ∙ refused-number k f q))
+    sized : Sized job content is d e t 0
+    unfolding linesLeft
+    sized = record { leaves = leaves; data-size = ed; entry-size = ee; text-size = et; line-size = refl }
 
-  module _ (n₁ : ℕ) (fine₁ : Fine ds ns ts n₁) (sj : secondFault j ≡ recordingFault second) where
-    pub second-refused : (k : Checked) (f : Refusal) → faultOf k ≡ recordingFault second → k ≡ C.Refused f → Left (Refused f) od oe ot
-    second-refused k f e q = refused-left f (second-stops j (callOn j od oe ot .room) content (fine₁ .passed) f (sj ∙ sym e ∙ refused-number k f q))
+    pub sizes-refused : (f : Refusal) → v ≡ S.Refused f → Leaves job content (lentOf od oe ot) (lentOf od oe ot) (Refused f)
+    sizes-refused f q = outcomes.sizes-refused job content (lentOf od oe ot) accepted is d e t 0 sized v g f q
 
-    module _ (n₂ : ℕ) (fine₂ : Fine fs gs us n₂) (rj : ownFault j content ≡ 0) (lj : linesLeft j content ≡ [])
-        (is : List Item) (ei : resultItems j content ≡ is) (d e t : ℕ) (ed : d ≡ length (dataOf is)) (ee : e ≡ 4 * entryCount is) (et : t ≡ length (textOf is))
-        (v : Settled) (g : settledFault v ≡ sizesFault d e t 0 (roomOf (length od) (length oe) (length ot) 0)) where
-      no-lines : 0 ≡ length (lineNumbers (linesLeft j content))
-      no-lines = rw lj
+    pub has-room : v ≡ S.Room → Fits is (blank od oe ot)
+    has-room q = outcomes.has-room job content (lentOf od oe ot) accepted is d e t 0 sized v g q
 
-      pub sizes-refused : (f : Refusal) → v ≡ S.Refused f → Left (Refused f) od oe ot
-      sizes-refused f q =
-          refused-left f (sizes-stop j (callOn j od oe ot .room) content (fine₁ .passed) (sj ∙ fine₂ .passed) rj is ei d e t 0 ed ee et no-lines v g f q)
-
-      module _ (q : v ≡ S.Room) where
-        pub room-left : Fits is (blank od oe ot)
-        room-left = has-room j (callOn j od oe ot .room) content (fine₁ .passed) (sj ∙ fine₂ .passed) rj is ei d e t 0 ed ee et no-lines v g q od oe ot refl refl refl
-
-        pub written : (m : ℕ) (od′ oe′ ot′ : List ℕ) (k : Cursor) → number j content ≡ m → out od′ oe′ ot′ k ≡ add is (blank od oe ot) → Left (Done (k .d) (k .e) (k .t) m) od′ oe′ ot′
-        written m od′ oe′ ot′ k en w =
-            parted (Done (k .d) (k .e) (k .t) m) od′ oe′ ot′
-            (done-call (callOn j od oe ot) content is m od oe ot od′ oe′ ot′ k
-            (accepted j (callOn j od oe ot .room) content (fine₁ .passed) (sj ∙ fine₂ .passed) rj is ei d e t 0 ed ee et no-lines v g q) ei en w lj)
+    pub written : v ≡ S.Room → (w : ℕ) (od′ oe′ ot′ : List ℕ) (k : Cursor) → number job content ≡ w → out od′ oe′ ot′ k ≡ add is (blank od oe ot)
+        → Leaves job content (lentOf od oe ot) (lentOf od′ oe′ ot′) (Done (k .d) (k .e) (k .t) w)
+    unfolding linesLeft over
+    written q w od′ oe′ ot′ k en wrote = outcomes.written job content (lentOf od oe ot) accepted is d e t 0 sized v g q w od′ oe′ ot′ [] k en wrote refl

@@ -12,9 +12,10 @@ use Rattle.recording.specs.declared.Entry.{Entry}
 use Rattle.recording.specs.declared.Refusal.{Refusal}
 use Rattle.recording.specs.declared.Checked.{Checked}
 use Rattle.recording.specs.declared.Checked.the-variants.{Refused, Fine}
-use Rattle.recording.specs.Recording.{recording, entriesOf, partOf, Item, byteItems, itemOf, itemsFrom, items, textOf}
+use Rattle.recording.specs.declared.CheckedBoth.the-variants as both
+use Rattle.recording.specs.Recording.{Recording, recording, entriesOf, partOf, Item, byteItems, itemOf, itemsFrom, items, textOf}
 use Rattle.recording.specs.Refusals.{numberOf, badShape, entryFault, entriesFault, recordingFault}
-use Rattle.recording.specs.Check.{faultOf, Counted, Within}
+use Rattle.recording.specs.Check.{faultOf, Counted, Within, BothChecked}
 use Rattle.recording.proofs.FaultLaws.{firstOf-zero, no-entry-fault}
 use Rattle.recording.proofs.OutcomeLaws.{number-pos, first-hit, first-on, first-one}
 
@@ -207,3 +208,25 @@ seen-last ds ns ts at k size s h =
     let z : drop k ns ≡ [] = drop-of-length-le ns {i = k} h in
     let a : 0 ≡ entriesFault 0 ds ts (entriesOf ns) = sym (ap (λ (l : List ℕ). entriesFault at ds ts (entriesOf l)) z) ∙ s .faults in
     (a, omega (arith, ap (λ (l : List ℕ). sumLen (entriesOf l)) z, s .sizes, text-sum (entriesOf ns) 0 0 ds ds ts (sym a)))
+
+-- ── of two recordings: what each check found decides for both
+module _ (r q : Recording) (a : Checked) (ea : faultOf a ≡ recordingFault r) where
+  pub first-refused : (f : Refusal) → a ≡ Refused f → BothChecked (both.Refused f) r q
+  unfolding BothChecked
+  first-refused f e =
+      let n : numberOf f ≡ recordingFault r = sym (refused-number a f e) ∙ ea in
+      n ∙ sym (first-hit (recordingFault r) (recordingFault q ∷ []) (omega (arith, n, number-pos f)))
+
+  module _ (n : ℕ) (e : a ≡ Fine n) (ca : Counted a (length (textOf (items r)))) (wa : Within a 268435456) (b : Checked) (eb : faultOf b ≡ recordingFault q) where
+    no-first : recordingFault r ≡ 0
+    no-first = sym ea ∙ fine-zero a n e
+
+    pub next-refused : (f : Refusal) → b ≡ Refused f → BothChecked (both.Refused f) r q
+    unfolding BothChecked
+    next-refused f h =
+        sym (refused-number b f h) ∙ eb ∙ sym (first-one (recordingFault q)) ∙ sym (first-on (recordingFault r) (recordingFault q ∷ []) no-first)
+
+    pub both-fine : (m : ℕ) → b ≡ Fine m → Counted b (length (textOf (items q))) → Within b 268435456 → BothChecked (both.Fine n m) r q
+    unfolding BothChecked
+    both-fine m h cb wb =
+        (no-first, (sym eb ∙ fine-zero b m h, (fine-count a n (length (textOf (items r))) e ca, (fine-count b m (length (textOf (items q))) h cb, (fine-within a n 268435456 e wa, fine-within b m 268435456 h wb)))))

@@ -2,6 +2,7 @@
 use Prim.Native.Nat.{ℕ}
 use mathlib.Core.Bool.{cond, _||_}
 use mathlib.Core.List.{List, [], _∷_}
+use mathlib.Core.Path.{_≡_}
 use lib.Dec.{ltb, eqb}
 use lib.ListN.{length}
 use Rattle.buffer.specs.Place.{over}
@@ -76,6 +77,10 @@ lentAfter (done x) b =
       lines = over (x .lines) (b .lines);
     }
 
+-- the lengths of lent buffers
+abbrev pub roomIn : Lent → Room
+roomIn b = record { dataBytes = length (b .dataBytes); entryNumbers = length (b .entryNumbers); text = length (b .text); lines = length (b .lines) }
+
 -- ── what a call returns: a refusal's number with all lengths, counts and widths 0; or 0 and these
 pub record Returned : Type 0 where
   pub refusal : ℕ
@@ -94,3 +99,7 @@ unfoldable pub answerOf : Answer → Returned
 unfolding numberOf
 answerOf (Refused f) = record { refusal = numberOf f; dataBytes = 0; entryNumbers = 0; text = 0; number = 0 }
 answerOf (Done d e t n) = record { refusal = 0; dataBytes = d; entryNumbers = e; text = t; number = n }
+
+-- ── THE PROMISE of every call, by its outcome: the answer has the outcome's numbers, and `after` is what the lent buffers held `before` with the outcome's result over it
+abbrev pub Promised : Outcome → Lent → Lent → Answer → Type 0
+Promised x before after a = (answerOf a ≡ returned x) × (after ≡ lentAfter x before)

@@ -7,7 +7,7 @@ ghost use lib.ListN.{length, drop};
 ghost use Rattle.chars.specs.Leads.{leadTable};
 ghost use Rattle.recording.specs.Recording.{recording, entriesOf, items, textOf};
 ghost use Rattle.recording.specs.Refusals.{numberOf, badShape, entryFault, entriesFault, recordingFault};
-ghost use Rattle.recording.specs.Check.{faultOf, Counted, Within};
+ghost use Rattle.recording.specs.Check.{faultOf, Counted, Within, BothChecked};
 
 // The refusals, by document 01's causes; `specs/Refusals.antt` gives each its number.
 pub enum Refusal {
@@ -72,6 +72,14 @@ pub struct Entry {
 pub enum Checked {
     Refused(Refusal),
     Fine(usize),
+}
+
+// What a check of a content and a second recording found: a refusal, or none and then how long the entries' texts of each are together.
+pub enum CheckedBoth {
+    // The first refusal of the content, or of the second recording if the content has none.
+    Refused(Refusal),
+    // The lengths of the texts of content and second recording.
+    Fine(usize, usize),
 }
 
 // What a call answers: its refusal, or the lengths that it left and its number (a width or a count).
@@ -195,4 +203,32 @@ pub fn check(t: &[u16; 256], content: &[u8], entries: &[u32], text: &[u8]) -> Ch
         return Checked::Refused(Refusal::TextPart);
     }
     check_entries(t, content, entries, text)
+}
+
+// Checks the content, whole, and then the second recording, whole.
+pub fn check_both(
+    t: &[u16; 256],
+    content: &[u8],
+    entries: &[u32],
+    text: &[u8],
+    second: &[u8],
+    second_entries: &[u32],
+    second_text: &[u8],
+) -> CheckedBoth
+    requires { ⌜ now t ≡ leadTable ⌝ }
+    ensures { λ r. ⌜ BothChecked r (recording (now (content .entry)) (now (entries .entry)) (now (text .entry)))
+        (recording (now (second .entry)) (now («second_entries» .entry)) (now («second_text» .entry))) ⌝ }
+{
+    let first = check(t, content, entries, text);
+    let size = match first {
+        Checked::Refused(f) => {
+            return CheckedBoth::Refused(f);
+        }
+        Checked::Fine(n) => n,
+    };
+    let next = check(t, second, second_entries, second_text);
+    match next {
+        Checked::Refused(f) => CheckedBoth::Refused(f),
+        Checked::Fine(n) => CheckedBoth::Fine(size, n),
+    }
 }

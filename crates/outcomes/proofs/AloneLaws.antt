@@ -1,0 +1,96 @@
+-- A call on a content alone: what its check found, and the sizes of what it leaves. It is one edit that puts bytes in and nothing else, so the entry numbers and the text are the content's.
+use mathlib.Core.Path.{_≡_, refl, sym, ap, _∙_}
+use mathlib.Core.List.{List, [], _∷_}
+use Prim.Native.Nat.{ℕ}
+use native.Mathlib.Omega.{arith}
+use lib.ListN.{length}
+use Rattle.buffer.specs.Place.{over}
+use Rattle.recording.specs.declared.Refusal.{Refusal}
+use Rattle.recording.specs.declared.Answer.the-variants.{Refused, Done}
+use Rattle.recording.specs.declared.Checked.{Checked}
+use Rattle.recording.specs.declared.Checked.the-variants as C
+use Rattle.recording.specs.Recording.{Bytes, Recording, recording, Item, byte, push, pop, raw, items, dataOf, textOf}
+use Rattle.recording.specs.Edit.{Op, keep, skip, put, edit, editData}
+use Rattle.recording.specs.Refusals.{numberOf, recordingFault}
+use Rattle.recording.specs.Check.{faultOf, Counted, Within}
+use Rattle.recording.proofs.CheckLaws.{refused-number, fine-zero, fine-count, fine-within}
+use Rattle.recording.proofs.EditLaws.{edit-data}
+use Rattle.recording.proofs.ItemsLaws.{data-items}
+use Rattle.recording.proofs.OutcomeLaws.{number-pos, first-hit}
+use Rattle.recording.proofs.SizeLaws.{entryCount, edit-count, edit-text, putCount, putText}
+use Rattle.writer.specs.declared.Cursor.{Cursor}
+use Rattle.writer.specs.declared.Settled.{Settled}
+use Rattle.writer.specs.declared.Settled.the-variants as S
+use Rattle.writer.specs.Write.{out, add, blank, Fits}
+use Rattle.writer.specs.Sizes.{sizesFault, settledFault}
+use Rattle.layout.specs.Wrap.{lineNumbers}
+use Rattle.layout.specs.Layout.{Single, Job, alone, singleOps, singleLines, singleFault, resultItems, linesLeft, number, secondFault, ownFault}
+use Rattle.recording.specs.Outcome.{Lent, roomIn}
+use Rattle.layout.specs.Lent.{lentLined, Leaves}
+use Rattle.layout.proofs.StripLaws.{Bare, BarePuts, bare-single}
+use Rattle.outcomes.proofs.OutcomeLaws as outcomes
+use Rattle.outcomes.proofs.OutcomeLaws.{Accepted, Sized}
+use Rattle.outcomes.proofs.SecondLaws.{Fine, checked-fine}
+
+-- ── bytes alone are put in: no entry, no text
+bare-count : (is : List Item) → Bare is → (entryCount is ≡ 0) × (length (textOf is) ≡ 0)
+bare-count [] h = (refl, refl)
+bare-count (byte b ∷ is) h = bare-count is h
+bare-count (push l ∷ is) h = absurd h
+bare-count (pop ∷ is) h = absurd h
+bare-count (raw t ∷ is) h = absurd h
+
+no-puts : (ops : List Op) → BarePuts ops → (putCount ops ≡ 0) × (putText ops ≡ 0)
+no-puts [] h = (refl, refl)
+no-puts (keep n ∷ ops) h = no-puts ops h
+no-puts (skip n ∷ ops) h = no-puts ops h
+no-puts (put p ∷ ops) h = (omega (arith, bare-count p (h .0) .0, no-puts ops (h .1) .0), omega (arith, bare-count p (h .0) .1, no-puts ops (h .1) .1))
+
+module _ (s : Single) (ds ns ts : List ℕ) (b : Lent) where
+  abbrev pub content : Recording
+  content = recording ds ns ts
+
+  -- the items that the call leaves
+  abbrev pub result : List Item
+  result = edit (singleOps s ds) (items content)
+
+  pub content-refused : (k : Checked) → faultOf k ≡ recordingFault content → (f : Refusal) → k ≡ C.Refused f → Leaves (alone s) content b b (Refused f)
+  content-refused k e f q =
+      let n : numberOf f ≡ recordingFault content = sym (refused-number k f q) ∙ e in
+      outcomes.input-refused (alone s) content b f (n ∙ sym (first-hit (recordingFault content) (secondFault (alone s) ∷ []) (omega (arith, n, number-pos f))))
+
+  pub content-fine : (k : Checked) → faultOf k ≡ recordingFault content → Counted k (length (textOf (items content))) → Within k 268435456 → (n : ℕ) → k ≡ C.Fine n → Fine ds ns ts n
+  content-fine k e c w n q = checked-fine ds ns ts n (sym e ∙ fine-zero k n q) (fine-count k n (length (textOf (items content))) q c) (fine-within k n 268435456 q w)
+
+  module _ (n : ℕ) (fine : Fine ds ns ts n) where
+    pub own-refused : (f : Refusal) → singleFault s ds ≡ numberOf f → Leaves (alone s) content b b (Refused f)
+    unfolding secondFault ownFault
+    own-refused f e = outcomes.own-refused (alone s) content b (fine .passed) refl f e
+
+    module _ (own : singleFault s ds ≡ 0) (d l : ℕ) (ed : d ≡ length (editData (singleOps s ds) ds)) (el : l ≡ length (lineNumbers (singleLines s ds)))
+        (v : Settled) (g : settledFault v ≡ sizesFault d (length ns) n l (roomIn b)) where
+      accepted : Accepted (alone s) content
+      unfolding secondFault ownFault
+      accepted = record { content = fine .passed; second = refl; own = own }
+
+      sized : Sized (alone s) content result d (length ns) n l
+      unfolding resultItems linesLeft
+      sized =
+          record {
+            leaves = refl;
+            data-size = ed ∙ sym (ap length (edit-data (singleOps s ds) (items content)) ∙ ap (λ (x : Bytes). length (editData (singleOps s ds) x)) (data-items content));
+            entry-size = omega (arith, fine .entry-size, edit-count (singleOps s ds) (items content), no-puts (singleOps s ds) (bare-single s ds) .0);
+            text-size = omega (arith, fine .text-size, edit-text (singleOps s ds) (items content), no-puts (singleOps s ds) (bare-single s ds) .1);
+            line-size = el;
+          }
+
+      pub sizes-refused : (f : Refusal) → v ≡ S.Refused f → Leaves (alone s) content b b (Refused f)
+      sizes-refused f q = outcomes.sizes-refused (alone s) content b accepted result d (length ns) n l sized v g f q
+
+      pub has-room : v ≡ S.Room → Fits result (blank (b .dataBytes) (b .entryNumbers) (b .text))
+      has-room q = outcomes.has-room (alone s) content b accepted result d (length ns) n l sized v g q
+
+      pub written : v ≡ S.Room → (w : ℕ) (od oe ot ol : List ℕ) (k : Cursor) → number (alone s) content ≡ w → out od oe ot k ≡ add result (blank (b .dataBytes) (b .entryNumbers) (b .text))
+          → ol ≡ over (lineNumbers (singleLines s ds)) (b .lines) → Leaves (alone s) content b (lentLined od oe ot ol) (Done (k .d) (k .e) (k .t) w)
+      unfolding linesLeft
+      written q w od oe ot ol k en wrote listed = outcomes.written (alone s) content b accepted result d (length ns) n l sized v g q w od oe ot ol k en wrote listed
