@@ -1,9 +1,9 @@
 // Runs the calls at the limit of the data, 1,048,576 bytes, exactly and one past it: refusals 1 and 9 of data. One line a case.
 // The large buffers come from functions and go on as slices, since the prover does not write out an array of that length.
-use recorder::replay;
-use recorder::write;
 use indent::write_indented;
 use pad::write_padded_start;
+use recorder::replay;
+use recorder::write;
 use recording::Answer;
 use wrap_lines::wrap_bytes;
 

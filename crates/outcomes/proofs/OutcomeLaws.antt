@@ -114,8 +114,7 @@ module _ (j : Job) (r : Recording) (b : Lent) where
           → ol ≡ over (lineNumbers (linesLeft j r)) (b .lines) → Leaves j r b (lentLined od oe ot ol) (Done (k .d) (k .e) (k .t) m)
       unfolding answerOf returned lentAfter resultOf encode
       written m od oe ot ol k en w el =
-          let s = from-start is (b .dataBytes) (b .entryNumbers) (b .text) od oe ot k w in
-          (
+          let s = from-start is (b .dataBytes) (b .entryNumbers) (b .text) od oe ot k w in (
             rw (is-result, z .leaves, en) (λ i. record { refusal = 0; dataBytes = s .3 i; entryNumbers = s .4 i; text = s .5 i; number = m }),
             rw (is-result, z .leaves) (λ i. record { dataBytes = s .0 i; entryNumbers = s .1 i; text = s .2 i; lines = el i }),
           )

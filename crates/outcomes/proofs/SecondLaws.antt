@@ -8,18 +8,20 @@ use borrow.Author.Tests.{ltb-false}
 use Rattle.buffer.specs.Place.{over}
 use Rattle.recording.specs.declared.Refusal.{Refusal}
 use Rattle.recording.specs.declared.Answer.the-variants.{Refused, Done}
+use Rattle.recording.specs.declared.TextSizes.{TextSizes}
 use Rattle.recording.specs.declared.CheckedBoth.{CheckedBoth}
 use Rattle.recording.specs.declared.CheckedBoth.the-variants as B
 use Rattle.recording.specs.Recording.{Recording, recording, Item, items, dataOf, textOf}
 use Rattle.recording.specs.Refusals.{recordingFault}
 use Rattle.recording.specs.Check.{BothChecked}
+use Rattle.recording.specs.Outcome.{Lent, roomIn}
 use Rattle.recording.proofs.FaultLaws.{no-fault}
 use Rattle.recording.proofs.SizeLaws.{entryCount, count-numbers}
 use Rattle.writer.specs.declared.Cursor.{Cursor}
 use Rattle.writer.specs.declared.Settled.{Settled}
 use Rattle.writer.specs.declared.Settled.the-variants as S
 use Rattle.writer.specs.Write.{out, add, blank, Fits, Sound}
-use Rattle.writer.specs.Sizes.{sizesFault, roomOf, settledFault}
+use Rattle.writer.specs.Sizes.{sizesFault, settledFault}
 use Rattle.writer.proofs.Sizes.{numbers-items, quads-of}
 use Rattle.writer.proofs.Steps as steps
 use Rattle.layout.specs.Layout.{Kind, Job, withSecond, resultItems, linesLeft, number, secondFault, ownFault}
@@ -53,44 +55,71 @@ checked-fine ds ns ts n z m w =
       text-short = w;
     }
 
-module _ (kind : Kind) (width : ℕ) (ds ns ts fs gs us od oe ot : List ℕ) where
-  abbrev pub content : Recording
-  content = recording ds ns ts
+-- ── what a call is given: its kind and width, the content, the second recording, and three lent buffers
+pub record Given : Type 0 where
+  pub kind : Kind
+  pub width : ℕ
+  pub ds : List ℕ
+  pub ns : List ℕ
+  pub ts : List ℕ
+  pub fs : List ℕ
+  pub gs : List ℕ
+  pub us : List ℕ
+  pub od : List ℕ
+  pub oe : List ℕ
+  pub ot : List ℕ
 
-  abbrev pub second : Recording
-  second = recording fs gs us
+abbrev pub content : Given → Recording
+content x = recording (x .ds) (x .ns) (x .ts)
 
-  abbrev pub job : Job
-  job = withSecond kind width second
+abbrev pub second : Given → Recording
+second x = recording (x .fs) (x .gs) (x .us)
 
-  pub both-refused : (k : CheckedBoth) → BothChecked k content second → (f : Refusal) → k ≡ B.Refused f → Leaves job content (lentOf od oe ot) (lentOf od oe ot) (Refused f)
+abbrev pub job : Given → Job
+job x = withSecond (x .kind) (x .width) (second x)
+
+abbrev pub lent : Given → Lent
+lent x = lentOf (x .od) (x .oe) (x .ot)
+
+-- nothing is refused of either recording
+abbrev pub BothFine : Given → TextSizes → Type 0
+BothFine x n = Fine (x .ds) (x .ns) (x .ts) (n .content) × Fine (x .fs) (x .gs) (x .us) (n .second)
+
+module _ (x : Given) (k : CheckedBoth) (h : BothChecked k (content x) (second x)) where
+  pub both-refused : (f : Refusal) → k ≡ B.Refused f → Leaves (job x) (content x) (lent x) (lent x) (Refused f)
   unfolding BothChecked secondFault
-  both-refused k h f q = outcomes.input-refused job content (lentOf od oe ot) f (rw q at h)
+  both-refused f q = outcomes.input-refused (job x) (content x) (lent x) f (rw q at h)
 
-  pub both-fine : (k : CheckedBoth) → BothChecked k content second → (n m : ℕ) → k ≡ B.Fine n m → Fine ds ns ts n × Fine fs gs us m
+  pub both-fine : (n : TextSizes) → k ≡ B.Fine n → BothFine x n
   unfolding BothChecked
-  both-fine k h n m q =
-      let g : BothChecked (B.Fine n m) content second = rw q at h in
-      (checked-fine ds ns ts n (g .0) (g .1 .1 .0) (g .1 .1 .1 .1 .0), checked-fine fs gs us m (g .1 .0) (g .1 .1 .1 .0) (g .1 .1 .1 .1 .1))
+  both-fine n q =
+      let g : BothChecked (B.Fine n) (content x) (second x) = rw q at h in
+      (checked-fine (x .ds) (x .ns) (x .ts) (n .content) (g .0) (g .1 .1 .0) (g .1 .1 .1 .1 .0), checked-fine (x .fs) (x .gs) (x .us) (n .second) (g .1 .0) (g .1 .1 .1 .0) (g .1 .1 .1 .1 .1))
 
-  module _ (n m : ℕ) (fine : Fine ds ns ts n × Fine fs gs us m) (is : List Item) (d e t : ℕ) (leaves : resultItems job content ≡ is)
-      (ed : d ≡ length (dataOf is)) (ee : e ≡ 4 * entryCount is) (et : t ≡ length (textOf is))
-      (v : Settled) (g : settledFault v ≡ sizesFault d e t 0 (roomOf (length od) (length oe) (length ot) 0)) where
-    accepted : Accepted job content
-    unfolding secondFault ownFault
-    accepted = record { content = fine .0 .passed; second = fine .1 .passed; own = refl }
+-- the items that the call leaves, with their sizes
+pub record Measured (x : Given) (is : List Item) (d e t : ℕ) : Type 0 where
+  pub leaves : resultItems (job x) (content x) ≡ is
+  pub data-size : d ≡ length (dataOf is)
+  pub entry-size : e ≡ 4 * entryCount is
+  pub text-size : t ≡ length (textOf is)
 
-    sized : Sized job content is d e t 0
-    unfolding linesLeft
-    sized = record { leaves = leaves; data-size = ed; entry-size = ee; text-size = et; line-size = refl }
+module _ (x : Given) (n : TextSizes) (fine : BothFine x n) (is : List Item) (d e t : ℕ) (z : Measured x is d e t)
+    (v : Settled) (g : settledFault v ≡ sizesFault d e t 0 (roomIn (lent x))) where
+  accepted : Accepted (job x) (content x)
+  unfolding secondFault ownFault
+  accepted = record { content = fine .0 .passed; second = fine .1 .passed; own = refl }
 
-    pub sizes-refused : (f : Refusal) → v ≡ S.Refused f → Leaves job content (lentOf od oe ot) (lentOf od oe ot) (Refused f)
-    sizes-refused f q = outcomes.sizes-refused job content (lentOf od oe ot) accepted is d e t 0 sized v g f q
+  sized : Sized (job x) (content x) is d e t 0
+  unfolding linesLeft
+  sized = record { leaves = z .leaves; data-size = z .data-size; entry-size = z .entry-size; text-size = z .text-size; line-size = refl }
 
-    pub has-room : v ≡ S.Room → Fits is (blank od oe ot)
-    has-room q = outcomes.has-room job content (lentOf od oe ot) accepted is d e t 0 sized v g q
+  pub sizes-refused : (f : Refusal) → v ≡ S.Refused f → Leaves (job x) (content x) (lent x) (lent x) (Refused f)
+  sizes-refused f q = outcomes.sizes-refused (job x) (content x) (lent x) accepted is d e t 0 sized v g f q
 
-    pub written : v ≡ S.Room → (w : ℕ) (od′ oe′ ot′ : List ℕ) (k : Cursor) → number job content ≡ w → out od′ oe′ ot′ k ≡ add is (blank od oe ot)
-        → Leaves job content (lentOf od oe ot) (lentOf od′ oe′ ot′) (Done (k .d) (k .e) (k .t) w)
-    unfolding linesLeft over
-    written q w od′ oe′ ot′ k en wrote = outcomes.written job content (lentOf od oe ot) accepted is d e t 0 sized v g q w od′ oe′ ot′ [] k en wrote refl
+  pub has-room : v ≡ S.Room → Fits is (blank (x .od) (x .oe) (x .ot))
+  has-room q = outcomes.has-room (job x) (content x) (lent x) accepted is d e t 0 sized v g q
+
+  pub written : v ≡ S.Room → (w : ℕ) (od oe ot : List ℕ) (k : Cursor) → number (job x) (content x) ≡ w → out od oe ot k ≡ add is (blank (x .od) (x .oe) (x .ot))
+      → Leaves (job x) (content x) (lent x) (lentOf od oe ot) (Done (k .d) (k .e) (k .t) w)
+  unfolding linesLeft over
+  written q w od oe ot k en wrote = outcomes.written (job x) (content x) (lent x) accepted is d e t 0 sized v g q w od oe ot [] k en wrote refl

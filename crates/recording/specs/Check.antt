@@ -29,5 +29,6 @@ Within (Fine m) b = m ≤ b
 unfoldable pub BothChecked : CheckedBoth → Recording → Recording → Type 0
 unfolding numberOf
 BothChecked (both.Refused f) r q = numberOf f ≡ firstOf (recordingFault r ∷ recordingFault q ∷ [])
-BothChecked (both.Fine n m) r q =
-    (recordingFault r ≡ 0) × ((recordingFault q ≡ 0) × ((n ≡ length (textOf (items r))) × ((m ≡ length (textOf (items q))) × ((n ≤ 268435456) × (m ≤ 268435456)))))
+BothChecked (both.Fine n) r q =
+    (recordingFault r ≡ 0) × ((recordingFault q ≡ 0) × ((n .content ≡ length (textOf (items r))) × ((n .second ≡ length (textOf (items q)))
+    × ((n .content ≤ 268435456) × (n .second ≤ 268435456)))))

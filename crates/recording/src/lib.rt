@@ -74,12 +74,17 @@ pub enum Checked {
     Fine(usize),
 }
 
-// What a check of a content and a second recording found: a refusal, or none and then how long the entries' texts of each are together.
+// How long the entries' texts are, one after another: of a content and of a second recording.
+pub struct TextSizes {
+    pub content: usize,
+    pub second: usize,
+}
+
+// What a check of a content and a second recording found: a refusal, or the lengths of their texts.
 pub enum CheckedBoth {
     // The first refusal of the content, or of the second recording if the content has none.
     Refused(Refusal),
-    // The lengths of the texts of content and second recording.
-    Fine(usize, usize),
+    Fine(TextSizes),
 }
 
 // What a call answers: its refusal, or the lengths that it left and its number (a width or a count).
@@ -229,6 +234,9 @@ pub fn check_both(
     let next = check(t, second, second_entries, second_text);
     match next {
         Checked::Refused(f) => CheckedBoth::Refused(f),
-        Checked::Fine(n) => CheckedBoth::Fine(size, n),
+        Checked::Fine(n) => CheckedBoth::Fine(TextSizes {
+            content: size,
+            second: n,
+        }),
     }
 }

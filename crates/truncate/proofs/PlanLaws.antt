@@ -14,8 +14,9 @@ use Rattle.recording.specs.Edit.{edit}
 use Rattle.recording.proofs.EditLaws.{data-append}
 use Rattle.recording.proofs.SizeLaws.{entryCount, count-append, edit-count, edit-text}
 use Rattle.writer.proofs.Laws.{text-size}
-use Rattle.outcomes.proofs.SecondLaws.{Fine}
-use Rattle.layout.specs.Layout.{cutEnd, cutStart, trimmedStartPos, truncateEnd, truncateStart, resultItems, number}
+use Rattle.recording.specs.declared.TextSizes.{TextSizes}
+use Rattle.outcomes.proofs.SecondLaws.{Fine, Given, content, second, BothFine, Measured}
+use Rattle.layout.specs.Layout.{Kind, writeTruncatedStart, writeTruncatedEnd, withSecond, cutEnd, cutStart, trimmedStartPos, truncateEnd, truncateStart, resultItems, number}
 use Rattle.truncate.specs.declared.Plan.{Plan}
 use Rattle.truncate.specs.Plan.{planEnd, planStart, endItems, startItems, plusIf}
 use Rattle.truncate.proofs.CutLaws.{up-to-data, from-data}
@@ -57,7 +58,7 @@ uncut true x y h z = absurd (false≢true (sym z ∙ h))
 uncut false x y h z = refl
 
 module _ (max : ℕ) (r e : Recording) (p : Plan) where
-  pub end-items : p ≡ planEnd max (r .dataBytes) (e .dataBytes) → resultItems (truncateEnd max e) r ≡ endItems p r e
+  end-items : p ≡ planEnd max (r .dataBytes) (e .dataBytes) → resultItems (truncateEnd max e) r ≡ endItems p r e
   unfolding endItems planEnd resultItems
   end-items q = sym (ap (λ (x : Plan). endItems x r e) q ∙ end-chosen (ltb max (textWidth (r .dataBytes))) _ _ r e)
 
@@ -65,7 +66,7 @@ module _ (max : ℕ) (r e : Recording) (p : Plan) where
   unfolding planEnd number
   end-number q = width-chosen (ltb max (textWidth (r .dataBytes))) _ _ ∙ sym (ap (λ (x : Plan). x .width) q)
 
-  pub start-items : p ≡ planStart max (r .dataBytes) (e .dataBytes) → resultItems (truncateStart max e) r ≡ startItems p r e
+  start-items : p ≡ planStart max (r .dataBytes) (e .dataBytes) → resultItems (truncateStart max e) r ≡ startItems p r e
   unfolding startItems planStart resultItems
   start-items q = sym (ap (λ (x : Plan). startItems x r e) q ∙ start-chosen (ltb max (textWidth (r .dataBytes))) _ _ r e)
 
@@ -139,19 +140,19 @@ module _ (ds ns ts ds₂ ns₂ ts₂ : List ℕ) (n₁ n₂ : ℕ) (f : Fine ds 
   abbrev y : List Item
   y = edit (cutEnd (p .ellipsis) ds₂) (items e)
 
-  pub end-count : plusIf (p .cut) (length ns) (length ns₂) ≡ 4 * entryCount (endItems p (recording ds ns ts) (recording ds₂ ns₂ ts₂))
+  end-count : plusIf (p .cut) (length ns) (length ns₂) ≡ 4 * entryCount (endItems p (recording ds ns ts) (recording ds₂ ns₂ ts₂))
   unfolding endItems
   end-count =
       count-if (p .cut) (x ++ y) (items r) (length ns) (length ns₂)
       (omega (arith, count-append x y, edit-count (cutEnd (p .content) ds) (items r), edit-count (cutEnd (p .ellipsis) ds₂) (items e), f .entry-size, g .entry-size)) (sym (f .entry-size))
 
-  pub end-text : plusIf (p .cut) n₁ n₂ ≡ length (textOf (endItems p (recording ds ns ts) (recording ds₂ ns₂ ts₂)))
+  end-text : plusIf (p .cut) n₁ n₂ ≡ length (textOf (endItems p (recording ds ns ts) (recording ds₂ ns₂ ts₂)))
   unfolding endItems
   end-text =
       text-if (p .cut) (x ++ y) (items r) n₁ n₂
       (omega (arith, text-size x y, edit-text (cutEnd (p .content) ds) (items r), edit-text (cutEnd (p .ellipsis) ds₂) (items e), f .text-size, g .text-size)) (sym (f .text-size))
 
-  pub end-data : p ≡ planEnd max ds ds₂ → p .content ≤ length ds → p .ellipsis ≤ length ds₂ → p .content + p .ellipsis ≡ length (dataOf (endItems p (recording ds ns ts) (recording ds₂ ns₂ ts₂)))
+  end-data : p ≡ planEnd max ds ds₂ → p .content ≤ length ds → p .ellipsis ≤ length ds₂ → p .content + p .ellipsis ≡ length (dataOf (endItems p (recording ds ns ts) (recording ds₂ ns₂ ts₂)))
   end-data q a b = go (p .cut) refl
     where
       go : (t : Bool) → p .cut ≡ t → p .content + p .ellipsis ≡ length (dataOf (endItems p (recording ds ns ts) (recording ds₂ ns₂ ts₂)))
@@ -165,21 +166,43 @@ module _ (ds ns ts ds₂ ns₂ ts₂ : List ℕ) (n₁ n₂ : ℕ) (f : Fine ds 
   abbrev w : List Item
   w = edit (cutStart (p .content)) (items r)
 
-  pub start-count : plusIf (p .cut) (length ns) (length ns₂) ≡ 4 * entryCount (startItems p (recording ds ns ts) (recording ds₂ ns₂ ts₂))
+  start-count : plusIf (p .cut) (length ns) (length ns₂) ≡ 4 * entryCount (startItems p (recording ds ns ts) (recording ds₂ ns₂ ts₂))
   unfolding startItems
   start-count =
       let c = edit-count (cutStart (p .content)) (items r) in
       count-if (p .cut) (u ++ w) w (length ns) (length ns₂) (omega (arith, count-append u w, c, edit-count (cutStart (p .ellipsis)) (items e), f .entry-size, g .entry-size)) (omega (arith, c, f .entry-size))
 
-  pub start-text : plusIf (p .cut) n₁ n₂ ≡ length (textOf (startItems p (recording ds ns ts) (recording ds₂ ns₂ ts₂)))
+  start-text : plusIf (p .cut) n₁ n₂ ≡ length (textOf (startItems p (recording ds ns ts) (recording ds₂ ns₂ ts₂)))
   unfolding startItems
   start-text =
       let c = edit-text (cutStart (p .content)) (items r) in
       text-if (p .cut) (u ++ w) w n₁ n₂ (omega (arith, text-size u w, c, edit-text (cutStart (p .ellipsis)) (items e), f .text-size, g .text-size)) (omega (arith, c, f .text-size))
 
-  pub start-data : p ≡ planStart max ds ds₂ → (length ds - p .content) + (length ds₂ - p .ellipsis) ≡ length (dataOf (startItems p (recording ds ns ts) (recording ds₂ ns₂ ts₂)))
+  start-data : p ≡ planStart max ds ds₂ → (length ds - p .content) + (length ds₂ - p .ellipsis) ≡ length (dataOf (startItems p (recording ds ns ts) (recording ds₂ ns₂ ts₂)))
   start-data q = go (p .cut) refl
     where
       go : (t : Bool) → p .cut ≡ t → (length ds - p .content) + (length ds₂ - p .ellipsis) ≡ length (dataOf (startItems p (recording ds ns ts) (recording ds₂ ns₂ ts₂)))
       go true z = omega (arith, ap (λ (l : List Item). length (dataOf l)) (start-cut p r e z), data-size-append u w, from-data (p .content) ds ns ts, from-data (p .ellipsis) ds₂ ns₂ ts₂)
       go false z = omega (arith, ap (λ (l : List Item). length (dataOf l)) (start-whole p r e z), from-data (p .content) ds ns ts, start-uncut max ds ds₂ p q z)
+
+-- ── what a call leaves has the sizes that are settled
+module _ (x : Given) (n : TextSizes) (fine : BothFine x n) (p : Plan) (e t : ℕ) (ee : e ≡ plusIf (p .cut) (length (x .ns)) (length (x .gs))) (et : t ≡ plusIf (p .cut) (n .content) (n .second)) where
+  pub end-measured : x .kind ≡ writeTruncatedEnd → p ≡ planEnd (x .width) (x .ds) (x .fs) → p .content ≤ length (x .ds) → p .ellipsis ≤ length (x .fs)
+      → Measured x (endItems p (content x) (second x)) (p .content + p .ellipsis) e t
+  end-measured k q a b =
+      record {
+        leaves = ap (λ (j : Kind). resultItems (withSecond j (x .width) (second x)) (content x)) k ∙ end-items (x .width) (content x) (second x) p q;
+        data-size = end-data (x .ds) (x .ns) (x .ts) (x .fs) (x .gs) (x .us) (n .content) (n .second) (fine .0) (fine .1) (x .width) p q a b;
+        entry-size = ee ∙ end-count (x .ds) (x .ns) (x .ts) (x .fs) (x .gs) (x .us) (n .content) (n .second) (fine .0) (fine .1) (x .width) p;
+        text-size = et ∙ end-text (x .ds) (x .ns) (x .ts) (x .fs) (x .gs) (x .us) (n .content) (n .second) (fine .0) (fine .1) (x .width) p;
+      }
+
+  pub start-measured : x .kind ≡ writeTruncatedStart → p ≡ planStart (x .width) (x .ds) (x .fs)
+      → Measured x (startItems p (content x) (second x)) ((length (x .ds) - p .content) + (length (x .fs) - p .ellipsis)) e t
+  start-measured k q =
+      record {
+        leaves = ap (λ (j : Kind). resultItems (withSecond j (x .width) (second x)) (content x)) k ∙ start-items (x .width) (content x) (second x) p q;
+        data-size = start-data (x .ds) (x .ns) (x .ts) (x .fs) (x .gs) (x .us) (n .content) (n .second) (fine .0) (fine .1) (x .width) p q;
+        entry-size = ee ∙ start-count (x .ds) (x .ns) (x .ts) (x .fs) (x .gs) (x .us) (n .content) (n .second) (fine .0) (fine .1) (x .width) p;
+        text-size = et ∙ start-text (x .ds) (x .ns) (x .ts) (x .fs) (x .gs) (x .us) (n .content) (n .second) (fine .0) (fine .1) (x .width) p;
+      }

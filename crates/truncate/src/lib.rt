@@ -7,8 +7,8 @@ use chars::trim_start_zero_width_chars;
 use chars::truncate_end_pos;
 use chars::truncate_start_pos;
 use recording::Answer;
-use recording::Checked;
-use recording::check;
+use recording::CheckedBoth;
+use recording::check_both;
 use writer::Cursor;
 use writer::Settled;
 use writer::keep;
@@ -22,10 +22,9 @@ ghost use Rattle.chars.specs.Leads.{leadTable};
 ghost use Rattle.chars.specs.Cut.{zeroWidthLen};
 ghost use Rattle.recording.specs.Recording.{recording, items};
 ghost use Rattle.recording.specs.Edit.{edit};
-ghost use Rattle.recording.specs.Outcome.{answerOf, returned, lentAfter};
 ghost use Rattle.writer.specs.Write.{out, add, Fits, Sound, blank};
-ghost use Rattle.layout.specs.Layout.{cutEnd, cutStart, truncateEnd, truncateStart, outcome};
-ghost use Rattle.layout.specs.Lent.{lentOf, callOn};
+ghost use Rattle.layout.specs.Layout.{cutEnd, cutStart, truncateEnd, truncateStart};
+ghost use Rattle.layout.specs.Lent.{lentOf, Leaves};
 ghost use Rattle.truncate.specs.Plan.{planEnd, planStart, endItems, startItems, plusIf};
 
 // What a call is about to keep: whether it cuts, the places in the content and the ellipsis where it does, and the width kept.
@@ -309,31 +308,31 @@ pub fn write_truncated_end(
     numbers: &mut [u32],
     texts: &mut [u8],
 ) -> Answer
-    ensures { λ r. ⌜ answerOf r ≡ returned (outcome (callOn (truncateEnd «max_width» (recording (now (ellipsis .entry)) (now («ellipsis_entries» .entry)) (now («ellipsis_text» .entry)))) (now (bytes .entry)) (now (numbers .entry)) (now (texts .entry))) (recording (now (content .entry)) (now (entries .entry)) (now (text .entry)))) ⌝ }
-    ensures { λ r. ⌜ now (bytes .exit) ≡ lentAfter (outcome (callOn (truncateEnd «max_width» (recording (now (ellipsis .entry)) (now («ellipsis_entries» .entry)) (now («ellipsis_text» .entry)))) (now (bytes .entry)) (now (numbers .entry)) (now (texts .entry))) (recording (now (content .entry)) (now (entries .entry)) (now (text .entry)))) (lentOf (now (bytes .entry)) (now (numbers .entry)) (now (texts .entry))) .dataBytes ⌝ }
-    ensures { λ r. ⌜ now (numbers .exit) ≡ lentAfter (outcome (callOn (truncateEnd «max_width» (recording (now (ellipsis .entry)) (now («ellipsis_entries» .entry)) (now («ellipsis_text» .entry)))) (now (bytes .entry)) (now (numbers .entry)) (now (texts .entry))) (recording (now (content .entry)) (now (entries .entry)) (now (text .entry)))) (lentOf (now (bytes .entry)) (now (numbers .entry)) (now (texts .entry))) .entryNumbers ⌝ }
-    ensures { λ r. ⌜ now (texts .exit) ≡ lentAfter (outcome (callOn (truncateEnd «max_width» (recording (now (ellipsis .entry)) (now («ellipsis_entries» .entry)) (now («ellipsis_text» .entry)))) (now (bytes .entry)) (now (numbers .entry)) (now (texts .entry))) (recording (now (content .entry)) (now (entries .entry)) (now (text .entry)))) (lentOf (now (bytes .entry)) (now (numbers .entry)) (now (texts .entry))) .text ⌝ }
+    ensures { λ r. ⌜ Leaves (truncateEnd «max_width» (recording (now (ellipsis .entry)) (now («ellipsis_entries» .entry)) (now («ellipsis_text» .entry))))
+        (recording (now (content .entry)) (now (entries .entry)) (now (text .entry)))
+        (lentOf (now (bytes .entry)) (now (numbers .entry)) (now (texts .entry))) (lentOf (now (bytes .exit)) (now (numbers .exit)) (now (texts .exit))) r ⌝ }
 {
     let t = LEADS;
-    let checked = check(&t, content, entries, text);
-    let size = match checked {
-        Checked::Refused(f) => {
+    let checked = check_both(
+        &t,
+        content,
+        entries,
+        text,
+        ellipsis,
+        ellipsis_entries,
+        ellipsis_text,
+    );
+    let sizes = match checked {
+        CheckedBoth::Refused(f) => {
             return Answer::Refused(f);
         }
-        Checked::Fine(n) => n,
-    };
-    let second = check(&t, ellipsis, ellipsis_entries, ellipsis_text);
-    let more = match second {
-        Checked::Refused(f) => {
-            return Answer::Refused(f);
-        }
-        Checked::Fine(n) => n,
+        CheckedBoth::Fine(n) => n,
     };
     let p = measure_end(&t, content, ellipsis, max_width);
     let verdict = settle(
         p.content + p.ellipsis,
         plus_if(p.cut, entries.len(), ellipsis_entries.len()),
-        plus_if(p.cut, size, more),
+        plus_if(p.cut, sizes.content, sizes.second),
         0,
         bytes.len(),
         numbers.len(),
@@ -379,31 +378,31 @@ pub fn write_truncated_start(
     numbers: &mut [u32],
     texts: &mut [u8],
 ) -> Answer
-    ensures { λ r. ⌜ answerOf r ≡ returned (outcome (callOn (truncateStart «max_width» (recording (now (ellipsis .entry)) (now («ellipsis_entries» .entry)) (now («ellipsis_text» .entry)))) (now (bytes .entry)) (now (numbers .entry)) (now (texts .entry))) (recording (now (content .entry)) (now (entries .entry)) (now (text .entry)))) ⌝ }
-    ensures { λ r. ⌜ now (bytes .exit) ≡ lentAfter (outcome (callOn (truncateStart «max_width» (recording (now (ellipsis .entry)) (now («ellipsis_entries» .entry)) (now («ellipsis_text» .entry)))) (now (bytes .entry)) (now (numbers .entry)) (now (texts .entry))) (recording (now (content .entry)) (now (entries .entry)) (now (text .entry)))) (lentOf (now (bytes .entry)) (now (numbers .entry)) (now (texts .entry))) .dataBytes ⌝ }
-    ensures { λ r. ⌜ now (numbers .exit) ≡ lentAfter (outcome (callOn (truncateStart «max_width» (recording (now (ellipsis .entry)) (now («ellipsis_entries» .entry)) (now («ellipsis_text» .entry)))) (now (bytes .entry)) (now (numbers .entry)) (now (texts .entry))) (recording (now (content .entry)) (now (entries .entry)) (now (text .entry)))) (lentOf (now (bytes .entry)) (now (numbers .entry)) (now (texts .entry))) .entryNumbers ⌝ }
-    ensures { λ r. ⌜ now (texts .exit) ≡ lentAfter (outcome (callOn (truncateStart «max_width» (recording (now (ellipsis .entry)) (now («ellipsis_entries» .entry)) (now («ellipsis_text» .entry)))) (now (bytes .entry)) (now (numbers .entry)) (now (texts .entry))) (recording (now (content .entry)) (now (entries .entry)) (now (text .entry)))) (lentOf (now (bytes .entry)) (now (numbers .entry)) (now (texts .entry))) .text ⌝ }
+    ensures { λ r. ⌜ Leaves (truncateStart «max_width» (recording (now (ellipsis .entry)) (now («ellipsis_entries» .entry)) (now («ellipsis_text» .entry))))
+        (recording (now (content .entry)) (now (entries .entry)) (now (text .entry)))
+        (lentOf (now (bytes .entry)) (now (numbers .entry)) (now (texts .entry))) (lentOf (now (bytes .exit)) (now (numbers .exit)) (now (texts .exit))) r ⌝ }
 {
     let t = LEADS;
-    let checked = check(&t, content, entries, text);
-    let size = match checked {
-        Checked::Refused(f) => {
+    let checked = check_both(
+        &t,
+        content,
+        entries,
+        text,
+        ellipsis,
+        ellipsis_entries,
+        ellipsis_text,
+    );
+    let sizes = match checked {
+        CheckedBoth::Refused(f) => {
             return Answer::Refused(f);
         }
-        Checked::Fine(n) => n,
-    };
-    let second = check(&t, ellipsis, ellipsis_entries, ellipsis_text);
-    let more = match second {
-        Checked::Refused(f) => {
-            return Answer::Refused(f);
-        }
-        Checked::Fine(n) => n,
+        CheckedBoth::Fine(n) => n,
     };
     let p = measure_start(&t, content, ellipsis, max_width);
     let verdict = settle(
         (content.len() - p.content) + (ellipsis.len() - p.ellipsis),
         plus_if(p.cut, entries.len(), ellipsis_entries.len()),
-        plus_if(p.cut, size, more),
+        plus_if(p.cut, sizes.content, sizes.second),
         0,
         bytes.len(),
         numbers.len(),

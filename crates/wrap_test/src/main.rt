@@ -2,8 +2,8 @@
 // What is proved of a program is that it is safe; what it should print stands in the file `stdout`: the count of lines with the three lengths, or the refusal, and then all that the
 // lent places hold.
 use recording::Answer;
-use wrap_lines::wrap_bytes;
 use wrap::write_wrapped;
+use wrap_lines::wrap_bytes;
 ghost use Prim.Native.Nat.{_≤_};
 ghost use lib.ListN.{length};
 
