@@ -5,11 +5,15 @@ use mathlib.Core.Bool.{Bool, true, false}
 use mathlib.Core.List.{List, [], _∷_}
 use Rattle.chars.specs.Width.{charWidth}
 use Rattle.chars.specs.Chars.{textWidth}
-use Rattle.recording.specs.Recording.{Bytes, Recording, recording}
+use Rattle.recording.specs.Recording.{Bytes, Recording, recording, strip}
+use Rattle.recording.specs.Coloured.{Coloured, coloured}
+use Rattle.recording.specs.Pins.{under}
 use Rattle.recording.specs.Outcome.{Room, Outcome, refused, done}
 use Rattle.layout.specs.declared.Replacement.{Replacement}
 use Rattle.layout.specs.Wrap.{Line, lineOf, wrapLines}
-use Rattle.layout.specs.Layout.{Job, truncateStart, truncateEnd, padStart, padEnd, padCentered, indent, wrap, replace, outcome}
+use Rattle.layout.specs.Layout.{Job, truncateStart, truncateEnd, padStart, padEnd, padCentered, indent, wrap, replace, outcome, Call, refusal, after, run}
+use Rattle.layout.specs.Plain.{told, steps}
+use Rattle.layout.specs.Theorem.{again}
 
 -- ── what a row asks, and what it expects
 pub data Question : Type 0 where
@@ -17,21 +21,32 @@ pub data Question : Type 0 where
   widthOf : Bytes → Question
   charWidths : List ℕ → Question
   call : Job → Room → Recording → Question
+  -- of a list of calls: each one's refusal, the coloured bytes of what is left and of the plain steps, and the data left by stripping first
+  refusalsOf colouredRun colouredSteps strippedRun : List Call → Recording → Question
 
 pub data Reply : Type 0 where
   lines : List Line → Reply
   numbers : List ℕ → Reply
   outcomeOf : Outcome → Reply
+  colours : List Coloured → Reply
 
 abbrev eachWidth : List ℕ → List ℕ
 eachWidth [] = []
 eachWidth (c ∷ cs) = charWidth c ∷ eachWidth cs
+
+abbrev eachRefusal : List Call → Recording → List ℕ
+eachRefusal [] r = []
+eachRefusal (c ∷ cs) r = refusal c r ∷ eachRefusal cs (after c r)
 
 abbrev pub reply : Question → Reply
 reply (linesOf w b d) = lines (wrapLines w b d)
 reply (widthOf d) = numbers (textWidth d ∷ [])
 reply (charWidths cs) = numbers (eachWidth cs)
 reply (call j o r) = outcomeOf (outcome (record { job = j; room = o }) r)
+reply (refusalsOf cs r) = numbers (eachRefusal cs r)
+reply (colouredRun cs r) = colours (coloured (run cs r))
+reply (colouredSteps cs r) = colours (steps (told cs r) (coloured r))
+reply (strippedRun cs r) = numbers (run (again cs r) (strip r) .dataBytes)
 
 pub record Row : Type 0 where
   pub question : Question
@@ -67,6 +82,26 @@ fill (suc n) b = b ∷ fill n b
 abbrev pub fill4 : ℕ → List ℕ
 fill4 zero = []
 fill4 (suc n) = 0 ∷ 1 ∷ 0 ∷ 0 ∷ fill4 n
+
+-- ── a list of calls on C16's content, `ab cd` with `ab` labelled x: the first is refused 21, the others are not
+abbrev pub c16 : Recording
+c16 = recording (0x61 ∷ 0x62 ∷ 0x20 ∷ 0x63 ∷ 0x64 ∷ []) (0 ∷ 0 ∷ 0 ∷ 1 ∷ 2 ∷ 1 ∷ 0 ∷ 0 ∷ []) (0x78 ∷ [])
+
+-- a text of one byte and one of two, each with a label over all of it
+abbrev pub labelled1 : ℕ → ℕ → Recording
+labelled1 b l = recording (b ∷ []) (0 ∷ 0 ∷ 0 ∷ 1 ∷ 1 ∷ 1 ∷ 0 ∷ 0 ∷ []) (l ∷ [])
+
+abbrev pub labelled2 : ℕ → ℕ → ℕ → Recording
+labelled2 a b l = recording (a ∷ b ∷ []) (0 ∷ 0 ∷ 0 ∷ 1 ∷ 2 ∷ 1 ∷ 0 ∷ 0 ∷ []) (l ∷ [])
+
+-- pad at the end into 3 data bytes; wrap at 2; indent by `> ` labelled p; truncate at the end to 3 by `.` labelled e
+abbrev pub ticket : List Call
+ticket =
+    record { job = padEnd 9 (labelled1 0x2E 0x66); room = room 3 100 100 100 } ∷ record { job = wrap 2 false; room = roomy }
+    ∷ record { job = indent (labelled2 0x3E 0x20 0x70); room = roomy } ∷ record { job = truncateEnd 3 (labelled1 0x2E 0x65); room = roomy } ∷ []
+
+abbrev pub ticketColours : List Coloured
+ticketColours = under 0x3E ((0x78 ∷ []) ∷ (0x70 ∷ []) ∷ []) ∷ under 0x20 ((0x78 ∷ []) ∷ (0x70 ∷ []) ∷ []) ∷ under 0x2E ((0x65 ∷ []) ∷ []) ∷ []
 
 unfoldable pub pins : List Row
 pins =
@@ -254,4 +289,12 @@ pins =
     row (call (replace (replacement 1 0 0 0 ∷ []) (0x58 ∷ [])) roomy (recording [] (0 ∷ 2 ∷ 0 ∷ 65536 ∷ 0 ∷ 2 ∷ 0 ∷ 1 ∷ []) (fill 65536 0x61))) (outcomeOf (refused 8)) ∷
     -- 9: 9 before 21
     row (call (truncateEnd 0 (recording [] (fill4 4096) [])) (room 0 0 0 0) (recording (0x61 ∷ []) (fill4 1) [])) (outcomeOf (refused 9)) ∷
+    -- C16: the 0A at 2 has no label
+    row (colouredRun (record { job = wrap 2 false; room = roomy } ∷ []) c16)
+    (colours (under 0x61 ((0x78 ∷ []) ∷ []) ∷ under 0x62 ((0x78 ∷ []) ∷ []) ∷ under 0x0A [] ∷ under 0x63 [] ∷ under 0x64 [] ∷ [])) ∷
+    -- the list of calls: refusals, what is left in colour, what the plain steps make, and what stripping first leaves
+    row (refusalsOf ticket c16) (numbers (21 ∷ 0 ∷ 0 ∷ 0 ∷ [])) ∷
+    row (colouredRun ticket c16) (colours ticketColours) ∷
+    row (colouredSteps ticket c16) (colours ticketColours) ∷
+    row (strippedRun ticket c16) (numbers (0x3E ∷ 0x20 ∷ 0x2E ∷ [])) ∷
     []

@@ -6,3 +6,4 @@ pub mod FaultLaws
 pub mod EntryLaws
 pub mod OutcomeLaws
 pub mod CheckLaws
+pub mod PinsHold

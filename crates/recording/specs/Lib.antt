@@ -4,3 +4,4 @@ pub mod Edit
 pub mod Refusals
 pub mod Outcome
 pub mod Check
+pub mod Pins
