@@ -94,6 +94,13 @@ labelled1 b l = recording (b ∷ []) (0 ∷ 0 ∷ 0 ∷ 1 ∷ 1 ∷ 1 ∷ 0 ∷ 
 abbrev pub labelled2 : ℕ → ℕ → ℕ → Recording
 labelled2 a b l = recording (a ∷ b ∷ []) (0 ∷ 0 ∷ 0 ∷ 1 ∷ 2 ∷ 1 ∷ 0 ∷ 0 ∷ []) (l ∷ [])
 
+-- `ab` with the label f over `b` alone, and `.` under a label f that stays open
+abbrev pub inside : Recording
+inside = recording (0x61 ∷ 0x62 ∷ []) (1 ∷ 0 ∷ 0 ∷ 1 ∷ 2 ∷ 1 ∷ 0 ∷ 0 ∷ []) (0x66 ∷ [])
+
+abbrev pub unclosed : Recording
+unclosed = recording (0x2E ∷ []) (0 ∷ 0 ∷ 0 ∷ 1 ∷ []) (0x66 ∷ [])
+
 -- pad at the end into 3 data bytes; wrap at 2; indent by `> ` labelled p; truncate at the end to 3 by `.` labelled e
 abbrev pub ticket : List Call
 ticket =
@@ -297,4 +304,10 @@ pins =
     row (colouredRun ticket c16) (colours ticketColours) ∷
     row (colouredSteps ticket c16) (colours ticketColours) ∷
     row (strippedRun ticket c16) (numbers (0x3E ∷ 0x20 ∷ 0x2E ∷ [])) ∷
+    -- the theorem's hypotheses are needed. A fill with an entry inside, twice: piece by piece it is `aabb`, and the plain step would make `abab`
+    row (colouredRun (record { job = padEnd 2 inside; room = roomy } ∷ []) (recording [] [] [])) (colours (under 0x61 [] ∷ under 0x61 [] ∷ under 0x62 ((0x66 ∷ []) ∷ []) ∷ under 0x62 ((0x66 ∷ []) ∷ []) ∷ [])) ∷
+    row (colouredSteps (record { job = padEnd 2 inside; room = roomy } ∷ []) (recording [] [] [])) (colours (under 0x61 [] ∷ under 0x62 ((0x66 ∷ []) ∷ []) ∷ under 0x61 [] ∷ under 0x62 ((0x66 ∷ []) ∷ []) ∷ [])) ∷
+    -- an ellipsis whose label stays open: what follows it is under that label, and in the plain step it is not
+    row (colouredRun (record { job = truncateStart 2 unclosed; room = roomy } ∷ []) c16) (colours (under 0x2E ((0x66 ∷ []) ∷ []) ∷ under 0x64 ((0x66 ∷ []) ∷ []) ∷ [])) ∷
+    row (colouredSteps (record { job = truncateStart 2 unclosed; room = roomy } ∷ []) c16) (colours (under 0x2E ((0x66 ∷ []) ∷ []) ∷ under 0x64 [] ∷ [])) ∷
     []

@@ -28,7 +28,7 @@ ghost use Rattle.layout.specs.Lent.{lentOf, Leaves};
 ghost use Rattle.truncate.specs.Plan.{planEnd, planStart, endItems, startItems, plusIf};
 
 // What a call is about to keep: whether it cuts, the places in the content and the ellipsis where it does, and the width kept.
-pub struct Plan {
+struct Plan {
     pub cut: bool,
     pub content: usize,
     pub ellipsis: usize,
@@ -36,7 +36,7 @@ pub struct Plan {
 }
 
 // a less b, not below 0.
-pub fn less(a: u64, b: u64) -> u64
+fn less(a: u64, b: u64) -> u64
     ensures { λ r. ⌜ r ≡ a - b ⌝ }
 {
     if a < b {
@@ -46,7 +46,7 @@ pub fn less(a: u64, b: u64) -> u64
 }
 
 // a, and b more if so.
-pub fn plus_if(more: bool, a: usize, b: usize) -> usize
+fn plus_if(more: bool, a: usize, b: usize) -> usize
     requires { ⌜ a + b ≤ 18446744073709551615 ⌝ }
     ensures { λ r. ⌜ r ≡ plusIf more a b ⌝ }
 {
@@ -57,7 +57,7 @@ pub fn plus_if(more: bool, a: usize, b: usize) -> usize
 }
 
 // Where the text from `start` on begins once its leading zero-width characters are removed.
-pub fn trimmed_from(s: &[u8], start: usize) -> usize
+fn trimmed_from(s: &[u8], start: usize) -> usize
     requires { ⌜ start ≤ length (now s) ⌝ }
     ensures { λ r. ⌜ r ≡ start + zeroWidthLen (drop start (now (s .entry))) ⌝ }
     ensures { λ r. ⌜ r ≤ length (now (s .entry)) ⌝ }
@@ -67,7 +67,7 @@ pub fn trimmed_from(s: &[u8], start: usize) -> usize
 }
 
 // What the end call keeps: the content up to a place and the ellipsis up to one, or all of the content and nothing of the ellipsis.
-pub fn measure_end(t: &[u16; 256], content: &[u8], ellipsis: &[u8], max_width: u32) -> Plan
+fn measure_end(t: &[u16; 256], content: &[u8], ellipsis: &[u8], max_width: u32) -> Plan
     requires { ⌜ now t ≡ leadTable ⌝ }
     ensures { λ r. ⌜ r ≡ planEnd «max_width» (now (content .entry)) (now (ellipsis .entry)) ⌝ }
     ensures { λ r. ⌜ (r .content ≤ length (now (content .entry))) × (r .ellipsis ≤ length (now (ellipsis .entry))) ⌝ }
@@ -95,23 +95,23 @@ pub fn measure_end(t: &[u16; 256], content: &[u8], ellipsis: &[u8], max_width: u
 
 // What the start call keeps: the ellipsis from a place on and the content from one; nothing of the ellipsis if nothing is cut.
 // Each written text loses its leading zero-width characters, also when nothing is cut.
-pub fn measure_start(t: &[u16; 256], content: &[u8], ellipsis: &[u8], max_width: u32) -> Plan
+fn measure_start(t: &[u16; 256], content: &[u8], ellipsis: &[u8], max_width: u32) -> Plan
     requires { ⌜ now t ≡ leadTable ⌝ }
     ensures { λ r. ⌜ r ≡ planStart «max_width» (now (content .entry)) (now (ellipsis .entry)) ⌝ }
     ensures { λ r. ⌜ (r .content ≤ length (now (content .entry))) × (r .ellipsis ≤ length (now (ellipsis .entry))) ⌝ }
 {
     let max = max_width as u64;
-    let w = text_width(t, content);
-    if w <= max {
+    let whole = text_width(t, content);
+    if whole <= max {
         return Plan {
             cut: false,
             content: trimmed_from(content, 0),
             ellipsis: ellipsis.len(),
-            width: w,
+            width: whole,
         };
     }
     let e = text_width(t, ellipsis);
-    let a = truncate_start_pos(t, content, w, less(max, e));
+    let a = truncate_start_pos(t, content, whole, less(max, e));
     let b = truncate_start_pos(t, ellipsis, e, max);
     Plan {
         cut: true,
@@ -122,7 +122,7 @@ pub fn measure_start(t: &[u16; 256], content: &[u8], ellipsis: &[u8], max_width:
 }
 
 // Writes a recording at the ends up to the byte n; of the rest the entries.
-pub fn put_up_to(
+fn put_up_to(
     bytes: &mut [u8],
     numbers: &mut [u32],
     texts: &mut [u8],
@@ -158,7 +158,7 @@ pub fn put_up_to(
 }
 
 // Writes a recording at the ends from the byte n on; of what comes before it the entries.
-pub fn put_from(
+fn put_from(
     bytes: &mut [u8],
     numbers: &mut [u32],
     texts: &mut [u8],
@@ -194,7 +194,7 @@ pub fn put_from(
 }
 
 // Writes what the end call keeps: content, then ellipsis.
-pub fn put_end(
+fn put_end(
     bytes: &mut [u8],
     numbers: &mut [u32],
     texts: &mut [u8],
@@ -245,7 +245,7 @@ pub fn put_end(
 }
 
 // Writes what the start call keeps: ellipsis, then content.
-pub fn put_start(
+fn put_start(
     bytes: &mut [u8],
     numbers: &mut [u32],
     texts: &mut [u8],
