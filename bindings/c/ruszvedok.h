@@ -488,7 +488,8 @@ static inline ruszvedok_answer ruszvedok_write_wrapped_to(
 }
 
 static inline ruszvedok_answer ruszvedok_write_replaced_to(
-    ruszvedok_recording *out, ruszvedok_view content, const uint32_t *records, size_t records_len, const uint8_t *new_text, size_t new_text_len)
+    ruszvedok_recording *out, ruszvedok_view content, const uint32_t *records, size_t records_len, const uint8_t *new_text,
+    size_t new_text_len)
 {
     uint64_t res[5];
     ruszvedok_write_replaced(RUSZVEDOK_READ(content), records, records_len, new_text, new_text_len, RUSZVEDOK_LENT(out), res);
