@@ -5,12 +5,12 @@ use std::io::{Result as Io, Write as _};
 use std::rc::Rc;
 
 use bench::inputs::{Input, ROWS, SHORT_ROWS, SIZES, Size};
-use bench::recordings::view;
+use bench::recordings::{Answer, Left, view};
 use bench::room::Room;
 use bench::timing::Pair;
 use oracle::original::{FormatRecorder, Formatter};
 use oracle::{Entry, Kind, Lists, Recording, original};
-use ruszvedok::lent::{self, Answer, Place, Replacement, Used};
+use ruszvedok::lent::{self, Place, Replacement, Used};
 
 pub struct Case {
     pub name: &'static str,
@@ -136,7 +136,7 @@ fn second(data: &[u8]) -> (Lists, FormatRecorder) {
 fn recorded(
     input: &Input,
     rust: impl Fn(&Row, &mut FormatRecorder) -> Io<u64> + Copy + 'static,
-    rattle: impl Fn(&Row, &mut Room) -> Answer + Copy + 'static,
+    rattle: impl Fn(&Row, &mut Room) -> Left + Copy + 'static,
 ) -> Result<Pair, String> {
     let made = move |row: &Row| {
         let mut out = FormatRecorder::new(false);
@@ -147,7 +147,7 @@ fn recorded(
         let (out, number) = made(row);
         let expected = Recording::from_recorder(&out).to_lists();
         let mut room = Room::full();
-        let got = rattle(row, &mut room);
+        let got = Answer::from(rattle(row, &mut room));
         if got.refusal != 0 {
             return Err(format!("refused: {got:?}"));
         }
@@ -269,7 +269,7 @@ fn wrap_bytes(input: &Input) -> Result<Pair, String> {
     let check = move |row: &Row| {
         let expected = oracle::wrap_bytes(&row.lists.data, columns(row), false);
         let mut lines = vec![0; most];
-        let got = rattle(row, &mut lines);
+        let got = Answer::from(rattle(row, &mut lines));
         let listed: Vec<_> = lines.chunks(2).take(got.number as usize).map(|l| (l[0] as usize, l[1] as usize)).collect();
         if (got.refusal, listed) == (0, expected) { Ok(()) } else { Err("other lines".into()) }
     };
@@ -293,8 +293,9 @@ fn write_wrapped(input: &Input) -> Result<Pair, String> {
         |row, out| original::write_wrapped(out, &row.recorder, columns(row), false).map(|_| 0),
         |row, room| {
             let width = columns(row) as u32;
-            let answer = LINES.with(|lines| lent::write_wrapped(view(&row.lists), width, false, room.lent(), &mut lines.borrow_mut()));
-            Answer { number: 0, ..answer }
+            let mut done = LINES.with(|lines| lent::write_wrapped(view(&row.lists), width, false, room.lent(), &mut lines.borrow_mut()))?;
+            done.number = 0;
+            Ok(done)
         },
     )
 }
@@ -331,12 +332,12 @@ fn plain(input: &Input) -> Vec<(String, usize)> {
 fn texts(
     input: &Input,
     rust: impl Fn(&str, usize) -> (String, usize) + Copy + 'static,
-    rattle: impl Fn(&[u8], u32, &mut [u8]) -> Answer + Copy + 'static,
+    rattle: impl Fn(&[u8], u32, &mut [u8]) -> Left + Copy + 'static,
 ) -> Result<Pair, String> {
     let check = move |(s, max): &(String, usize)| {
         let (expected, width) = rust(s, *max);
         let mut out = vec![0; 1 << 20];
-        let got = rattle(s.as_bytes(), *max as u32, &mut out);
+        let got = Answer::from(rattle(s.as_bytes(), *max as u32, &mut out));
         let same = got.refusal == 0 && &out[..got.data as usize] == expected.as_bytes() && got.number == width as u64;
         if same { Ok(()) } else { Err(format!("other results: {got:?}, {width}")) }
     };
@@ -392,13 +393,13 @@ fn made_by_adding(input: &Input) -> Result<Pair, String> {
         |row, room| {
             let (mut at, mut u) = (0, Used::default());
             for entry in &row.recording.entries {
-                u = lent::write(room.lent(), u, &row.recording.data[at..entry.at]).used();
+                u = lent::write(room.lent(), u, &row.recording.data[at..entry.at])?.used;
                 at = entry.at;
                 let added = match entry.kind {
                     Kind::Push => lent::push_label(room.lent(), u, &entry.text),
                     _ => lent::pop_label(room.lent(), u),
                 };
-                u = added.used();
+                u = added?.used;
             }
             lent::write(room.lent(), u, &row.recording.data[at..])
         },

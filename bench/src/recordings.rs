@@ -4,7 +4,8 @@ use std::io::Write as _;
 
 use oracle::original::Formatter as _;
 use oracle::{Entry, Kind, Lists, Recording};
-use ruszvedok::lent::{Answer, View};
+use ruszvedok::Refusal;
+use ruszvedok::lent::{Done, Used, View};
 
 use crate::inputs::{Numbers, damaged};
 use crate::room::{LIMITS, Room};
@@ -198,6 +199,40 @@ pub fn with_added(lists: &Lists, content_fault: u64, content: &Recording, kind: 
         }
     }
     Ok((fault, result))
+}
+
+/// What a call of the library answers.
+pub type Left = Result<Done, Refusal>;
+
+/// The same as five numbers; after a refusal the others are 0.
+#[derive(Clone, Copy, Debug, Default, PartialEq, Eq)]
+pub struct Answer {
+    pub refusal: u64,
+    pub data: u64,
+    pub entries: u64,
+    pub text: u64,
+    pub number: u64,
+}
+
+impl Answer {
+    pub fn used(self) -> Used {
+        Used { data: self.data as usize, entries: self.entries as usize, text: self.text as usize }
+    }
+}
+
+impl From<Left> for Answer {
+    fn from(left: Left) -> Self {
+        match left {
+            Ok(done) => Self {
+                refusal: 0,
+                data: done.used.data as u64,
+                entries: done.used.entries as u64,
+                text: done.used.text as u64,
+                number: done.number,
+            },
+            Err(refusal) => Self { refusal: refusal.number(), ..Self::default() },
+        }
+    }
 }
 
 /// What a call must answer and leave: the faults of its inputs in their order, and then the original's result.

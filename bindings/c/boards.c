@@ -1,4 +1,5 @@
-/* Every function of the header once or more: document 01's cases C1 to C16, and a refusal of each kind that lengths can give. */
+/* Every function of the header once or more: document 01's cases C1 to C16, a refusal of each kind that lengths can give, and the
+ * calls over structs. */
 #include "ruszvedok.h"
 
 #include <stdio.h>
@@ -137,6 +138,70 @@ static void labels(void)
     refused("length over its buffer", RUSZVEDOK_LENGTH_OVER_BUFFER);
 }
 
+/* A recording's data is this, after a call that was not refused and had this number. */
+static void holds(const char *what, ruszvedok_answer answer, const ruszvedok_recording *row, const char *bytes, uint64_t number)
+{
+    expect(what, answer.refusal == 0 && answer.number == number && answer.data_len == row->data_len);
+    expect(what, row->data_len == strlen(bytes) && memcmp(row->data, bytes, row->data_len) == 0);
+}
+
+/* The calls over structs. */
+static void structs(void)
+{
+    const uint32_t replacements[] = {1, 3, 0, 1, 6, 6, 1, 2};
+    ruszvedok_view row = ruszvedok_plain("spruce"), dots = ruszvedok_plain(".."), dot = ruszvedok_plain(".");
+    RUSZVEDOK_RECORDING(out, 16, 4, 4);
+    holds("C9, structs", ruszvedok_write_truncated_end_to(&out, row, dots, 4), &out, "sp..", 4);
+    holds("C10, structs", ruszvedok_write_truncated_start_to(&out, row, dots, 4), &out, "..ce", 4);
+    holds("padded at its start, structs", ruszvedok_write_padded_start_to(&out, row, dot, 8), &out, "..spruce", 0);
+    holds("padded at its end, structs", ruszvedok_write_padded_end_to(&out, row, dot, 8), &out, "spruce..", 0);
+    holds("padded around, structs", ruszvedok_write_padded_centered_to(&out, row, dot, 9), &out, ".spruce..", 0);
+    holds("C13, structs", ruszvedok_write_indented_to(&out, ruszvedok_plain("a\n\nb"), ruszvedok_plain("> ")), &out, "> a\n\n> b", 0);
+    holds("C14, structs", ruszvedok_write_replaced_to(&out, ruszvedok_plain("abcdef"), replacements, COUNT(replacements), BYTES("XY")),
+        &out, "aXdefY", 0);
+    holds("C1, structs", ruszvedok_write_wrapped_to(&out, ruszvedok_plain("oak 12 ft b"), 5, false, lines, COUNT(lines)), &out,
+        "oak\n12 ft\nb", 3);
+    expect("C1, its last line", lines[2 * RUSZVEDOK_LINE_NUMBERS + RUSZVEDOK_LINE_FIRST] == 10
+            && lines[2 * RUSZVEDOK_LINE_NUMBERS + RUSZVEDOK_LINE_END] == 11);
+    holds("replayed, structs", ruszvedok_replay_to(&out, row), &out, "spruce", 0);
+    expect("refused, structs", ruszvedok_write_padded_end_to(&out, row, dot, 17).refusal == RUSZVEDOK_DATA_BUFFER_TOO_SHORT);
+    expect("what it held", out.data_len == 6 && memcmp(out.data, "spruce", 6) == 0);
+}
+
+/* Adding over structs, and reading part by part. */
+static void parts(void)
+{
+    static const enum ruszvedok_kind kinds[] = {RUSZVEDOK_KIND_DATA, RUSZVEDOK_KIND_PUSH_LABEL, RUSZVEDOK_KIND_DATA,
+        RUSZVEDOK_KIND_POP_LABEL, RUSZVEDOK_KIND_RAW, RUSZVEDOK_KIND_DATA};
+    static const char *const wanted[] = {"ab", "x", "cd", "", "\x1B[", "e"};
+    RUSZVEDOK_RECORDING(row, 8, 4, 8);
+    RUSZVEDOK_RECORDING(copy, 8, 4, 8);
+    ruszvedok_cursor at = {0, 0};
+    ruszvedok_part part;
+    size_t k;
+    holds("added", ruszvedok_string_to(&row, "ab"), &row, "ab", 0);
+    holds("labeled", ruszvedok_labeled_to(&row, "x", "cd"), &row, "abcd", 0);
+    holds("raw", ruszvedok_raw_to(&row, BYTES("\x1B[")), &row, "abcd", 0);
+    holds("added again", ruszvedok_write_to(&row, BYTES("e")), &row, "abcde", 0);
+    ruszvedok_replay_to(&copy, ruszvedok_view_of(&row));
+    for (k = 0; ruszvedok_next(ruszvedok_view_of(&copy), &at, &part) && k < COUNT(kinds); k++)
+        expect("part", part.kind == kinds[k] && part.len == strlen(wanted[k]) && memcmp(part.bytes, wanted[k], part.len) == 0);
+    expect("all parts", k == COUNT(kinds) && !ruszvedok_next(ruszvedok_view_of(&copy), &at, &part));
+    /* One entry is left: the label fits, its end does not, and nothing is added. */
+    expect("whole or not at all", ruszvedok_labeled_to(&row, "y", "f").refusal == RUSZVEDOK_ENTRY_BUFFER_TOO_SHORT);
+    holds("what it held", ruszvedok_pop_label_to(&row), &row, "abcde", 0);
+    expect("entries", row.entries_len == 4 * RUSZVEDOK_ENTRY_SIZE && row.text_len == 3);
+    expect("ill-formed label", ruszvedok_push_label_to(&row, BYTES("\xFF")).refusal == RUSZVEDOK_LABEL_ILL_FORMED);
+}
+
+static void names(void)
+{
+    expect("name", strcmp(ruszvedok_refusal_name(RUSZVEDOK_DATA_BUFFER_TOO_SHORT), "DATA_BUFFER_TOO_SHORT") == 0);
+    expect("reason", strcmp(ruszvedok_refusal_reason(RUSZVEDOK_DATA_TOO_LONG), "data over its limit") == 0);
+    expect("unknown", strcmp(ruszvedok_refusal_name(11), "UNKNOWN") == 0 && strcmp(ruszvedok_refusal_name(0), "NONE") == 0);
+    expect("version", strlen(RUSZVEDOK_VERSION) >= 5 && RUSZVEDOK_VERSION_MAJOR == RUSZVEDOK_VERSION[0] - '0');
+}
+
 int main(void)
 {
     memset(data, 0xEE, sizeof data);
@@ -144,5 +209,8 @@ int main(void)
     wrapping();
     layout();
     labels();
+    structs();
+    parts();
+    names();
     return failed;
 }

@@ -1,4 +1,4 @@
-/* Ruszvedok: recorded text and its layout. Link with the archive that `rt staticlib capi` writes (target/staticlib/libcapi.a).
+/* Ruszvedok: recorded text and its layout. Link with libruszvedok (`make install` in bindings/c), or with the archive itself.
  *
  * A slice is a pointer and its number of ELEMENTS (not bytes). Pointers are not null and aligned for their type, also where that
  * number is 0: the pointer is not read then, so any valid one will do. Where a call takes the used length of a buffer, `x_room` is
@@ -6,39 +6,47 @@
  *
  * A recording is three slices:
  *   data     bytes, at most RUSZVEDOK_MAX_DATA; any bytes, read as UTF-8 with U+FFFD for each maximal ill-formed part
- *   entries  four numbers an entry: position in the data, kind (0 push label, 1 pop label, 2 raw sequence), start and length of
- *            its part of the text; at most RUSZVEDOK_MAX_ENTRIES entries, positions never falling; a pop has 0 and 0
+ *   entries  four numbers an entry: position in the data, kind, start and length of its part of the text; at most
+ *            RUSZVEDOK_MAX_ENTRIES entries, positions never falling; a pop has start 0 and length 0
  *   text     the labels and raw sequences, at most RUSZVEDOK_MAX_TEXT bytes; labels are well-formed UTF-8
  *
  * A call on recordings takes its content, what else it reads, its numbers, and last the buffers that it writes. No buffer that is
  * written may overlap another argument. `res` gets five numbers, at the places RUSZVEDOK_RES_*:
- *   the refusal (0: none), data length, number of entry numbers, text length, and the call's number (a width or a count).
+ *   the refusal (0: none), data length, number of entry numbers, text length, and the call's number (a width or a count, or 0).
  * After a refusal the other four are 0 and every buffer holds what it held. Otherwise each buffer holds the result from its first
  * place on, and all beyond it is untouched. The texts of a result's entries lie one after another from 0, in entry order.
  *
- * No call allocates, keeps a pointer, or has a state of its own; calls over different buffers may run at the same time. */
+ * No call allocates, keeps a pointer, or has a state of its own; calls over different buffers may run at the same time.
+ *
+ * The calls on recordings stand here twice: as the library exports them, and at the end, with _to behind the name, over the structs
+ * ruszvedok_view (a recording that is read) and ruszvedok_recording (buffers that hold one), which are shorter to use. */
 #ifndef RUSZVEDOK_H
 #define RUSZVEDOK_H
 
 #include <stdbool.h>
 #include <stddef.h>
 #include <stdint.h>
+#include <string.h>
 
 #ifdef __cplusplus
 extern "C" {
 #endif
 
-/* Limits of a recording; a longer input is refused by 1, 2 or 5, a longer result by 9. A plain text counts as data. */
-#define RUSZVEDOK_MAX_DATA 1048576
-#define RUSZVEDOK_MAX_ENTRIES 4096
-#define RUSZVEDOK_MAX_ENTRY_NUMBERS 16384
-#define RUSZVEDOK_MAX_TEXT 65536
-
 /* Kinds of entries. */
 enum ruszvedok_kind {
     RUSZVEDOK_KIND_PUSH_LABEL = 0,
     RUSZVEDOK_KIND_POP_LABEL = 1,
-    RUSZVEDOK_KIND_RAW = 2
+    RUSZVEDOK_KIND_RAW = 2,
+    RUSZVEDOK_KIND_DATA = 3 /* no entry: a piece of data between two, where a recording is read part by part */
+};
+
+/* The numbers of an entry, and the place of each among them. */
+enum ruszvedok_entry {
+    RUSZVEDOK_ENTRY_POSITION_AT = 0,
+    RUSZVEDOK_ENTRY_KIND_AT = 1,
+    RUSZVEDOK_ENTRY_START_AT = 2,
+    RUSZVEDOK_ENTRY_LENGTH_AT = 3,
+    RUSZVEDOK_ENTRY_SIZE = 4
 };
 
 /* Places in `res`. */
@@ -50,24 +58,200 @@ enum ruszvedok_res {
     RUSZVEDOK_RES_NUMBER = 4
 };
 
+/* What a call answers: the five numbers of `res`. */
+typedef struct ruszvedok_answer {
+    uint64_t refusal;
+    size_t data_len, entries_len, text_len;
+    uint64_t number;
+} ruszvedok_answer;
+
+/* A recording that is read. */
+typedef struct ruszvedok_view {
+    const uint8_t *data;
+    size_t data_len;
+    const uint32_t *entries;
+    size_t entries_len;
+    const uint8_t *text;
+    size_t text_len;
+} ruszvedok_view;
+
+/* Buffers that hold a recording: their numbers of elements, and how many of them are used. */
+typedef struct ruszvedok_recording {
+    uint8_t *data;
+    size_t data_room, data_len;
+    uint32_t *entries;
+    size_t entries_room, entries_len;
+    uint8_t *text;
+    size_t text_room, text_len;
+} ruszvedok_recording;
+
+/* Declares a ruszvedok_recording `name`, empty, with room of its own: data bytes, entries, text bytes. */
+#define RUSZVEDOK_RECORDING(name, data_bytes, entry_count, text_bytes) \
+    uint8_t name##_data[data_bytes]; \
+    uint32_t name##_entries[RUSZVEDOK_ENTRY_SIZE * (entry_count)]; \
+    uint8_t name##_text[text_bytes]; \
+    ruszvedok_recording name = {name##_data, data_bytes, 0, name##_entries, RUSZVEDOK_ENTRY_SIZE * (entry_count), 0, name##_text, text_bytes, 0}
+
+/* The arguments that a view is where a call reads it, and a recording where a call writes it (LENT) or adds to it (USED). */
+#define RUSZVEDOK_READ(view) (view).data, (view).data_len, (view).entries, (view).entries_len, (view).text, (view).text_len
+#define RUSZVEDOK_LENT(out) (out)->data, (out)->data_room, (out)->entries, (out)->entries_room, (out)->text, (out)->text_room
+#define RUSZVEDOK_USED(to) \
+    (to)->data, (to)->data_room, (to)->data_len, (to)->entries, (to)->entries_room, (to)->entries_len, (to)->text, (to)->text_room, \
+        (to)->text_len
+
+/* What is used of a recording. */
+static inline ruszvedok_view ruszvedok_view_of(const ruszvedok_recording *from)
+{
+    ruszvedok_view view = {from->data, from->data_len, from->entries, from->entries_len, from->text, from->text_len};
+    return view;
+}
+
+/* A string without labels. */
+static inline ruszvedok_view ruszvedok_plain(const char *string)
+{
+    static const uint32_t none[1] = {0};
+    ruszvedok_view view = {(const uint8_t *)string, strlen(string), none, 0, (const uint8_t *)string, 0};
+    return view;
+}
+
+/* The five numbers by their names. */
+static inline ruszvedok_answer ruszvedok_answer_of(const uint64_t res[5])
+{
+    ruszvedok_answer answer = {
+        res[RUSZVEDOK_RES_REFUSAL], (size_t)res[RUSZVEDOK_RES_DATA], (size_t)res[RUSZVEDOK_RES_ENTRIES], (size_t)res[RUSZVEDOK_RES_TEXT],
+        res[RUSZVEDOK_RES_NUMBER]};
+    return answer;
+}
+
+/* Takes over the lengths that a call left; after a refusal the recording is what it was. */
+static inline ruszvedok_answer ruszvedok_take_over(ruszvedok_recording *out, const uint64_t res[5])
+{
+    ruszvedok_answer answer = ruszvedok_answer_of(res);
+    if (answer.refusal == 0) {
+        out->data_len = answer.data_len;
+        out->entries_len = answer.entries_len;
+        out->text_len = answer.text_len;
+    }
+    return answer;
+}
+
+/* A part of a recording: the label of a push, nothing for a pop, a raw sequence, or a piece of data. */
+typedef struct ruszvedok_part {
+    enum ruszvedok_kind kind;
+    const uint8_t *bytes;
+    size_t len;
+} ruszvedok_part;
+
+/* Where a recording is read: how much of data and entries is behind. All 0 at its start. */
+typedef struct ruszvedok_cursor {
+    size_t data, entries;
+} ruszvedok_cursor;
+
+/* The next part of a recording, which is one that the library made or did not refuse: false at its end. */
+static inline bool ruszvedok_next(ruszvedok_view view, ruszvedok_cursor *at, ruszvedok_part *part)
+{
+    const uint32_t *entry = view.entries + at->entries;
+    bool more = at->entries + RUSZVEDOK_ENTRY_SIZE <= view.entries_len;
+    size_t end = more ? entry[RUSZVEDOK_ENTRY_POSITION_AT] : view.data_len;
+    if (at->data < end) {
+        part->kind = RUSZVEDOK_KIND_DATA;
+        part->bytes = view.data + at->data;
+        part->len = end - at->data;
+        at->data = end;
+        return true;
+    }
+    if (!more)
+        return false;
+    part->kind = (enum ruszvedok_kind)entry[RUSZVEDOK_ENTRY_KIND_AT];
+    part->bytes = view.text + entry[RUSZVEDOK_ENTRY_START_AT];
+    part->len = entry[RUSZVEDOK_ENTRY_LENGTH_AT];
+    at->entries += RUSZVEDOK_ENTRY_SIZE;
+    return true;
+}
+
+/* ======== written by tools/declarations from the library's sources ======== */
+
+/* The version of this header. */
+#define RUSZVEDOK_VERSION "0.1.0"
+#define RUSZVEDOK_VERSION_MAJOR 0
+#define RUSZVEDOK_VERSION_MINOR 1
+#define RUSZVEDOK_VERSION_PATCH 0
+
+/* Limits of a recording; a longer input is refused by 1, 2 or 5, a longer result by 9. A plain text counts as data. */
+#define RUSZVEDOK_MAX_DATA 1048576
+#define RUSZVEDOK_MAX_ENTRIES 4096
+#define RUSZVEDOK_MAX_ENTRY_NUMBERS 16384
+#define RUSZVEDOK_MAX_TEXT 65536
+
+/* A line of a line list: how many numbers it has, and the place of each among them. */
+#define RUSZVEDOK_LINE_NUMBERS 2
+#define RUSZVEDOK_LINE_FIRST 0
+#define RUSZVEDOK_LINE_END 1
+
 /* Refusals. The first cause in this order is given: 10; the content, then the second recording, each 1, 2, 5 for its lengths and
  * then entry by entry 3, 4, 5, 6; a pushed label (6), an appended raw sequence (3); 7; 8; 9; 21 to 24. */
 enum ruszvedok_refusal {
-    RUSZVEDOK_DATA_TOO_LONG = 1,           /* data over its limit */
-    RUSZVEDOK_ENTRY_NUMBERS = 2,           /* entry numbers that are not four an entry, or over their limit */
-    RUSZVEDOK_ENTRY_SHAPE = 3,             /* kind over 2, a pop whose start or length is not 0, an empty raw sequence */
-    RUSZVEDOK_ENTRY_POSITION = 4,          /* a position that falls, or beyond the data */
-    RUSZVEDOK_TEXT_PART = 5,               /* text over its limit, or a part that passes its end */
-    RUSZVEDOK_LABEL_ILL_FORMED = 6,        /* a label that is not well-formed UTF-8 */
-    RUSZVEDOK_TEXT_ILL_FORMED = 7,         /* a plain text or ellipsis that is not well-formed UTF-8 */
-    RUSZVEDOK_REPLACEMENT_RANGE = 8,       /* start > end, end beyond the data, start below the previous end, from > to, to beyond its text */
-    RUSZVEDOK_RESULT_OVER_LIMIT = 9,       /* a result over a limit of the recording */
-    RUSZVEDOK_LENGTH_OVER_BUFFER = 10,     /* a used length above its buffer */
-    RUSZVEDOK_DATA_BUFFER_TOO_SHORT = 21,  /* the data buffer is too short for the result */
-    RUSZVEDOK_ENTRY_BUFFER_TOO_SHORT = 22, /* the entry buffer */
-    RUSZVEDOK_TEXT_BUFFER_TOO_SHORT = 23,  /* the text buffer */
-    RUSZVEDOK_LINE_LIST_TOO_SHORT = 24     /* the line list, two numbers a line */
+    RUSZVEDOK_DATA_TOO_LONG = 1,           /* Data over its limit. */
+    RUSZVEDOK_ENTRY_NUMBERS = 2,           /* Entry numbers that are not four an entry, or over their limit. */
+    RUSZVEDOK_ENTRY_SHAPE = 3,             /* An unknown kind, a pop with a text, a raw sequence without one. */
+    RUSZVEDOK_ENTRY_POSITION = 4,          /* A position that falls, or beyond the data. */
+    RUSZVEDOK_TEXT_PART = 5,               /* Text over its limit, or a part that passes its end. */
+    RUSZVEDOK_LABEL_ILL_FORMED = 6,        /* A label that is not well-formed UTF-8. */
+    RUSZVEDOK_TEXT_ILL_FORMED = 7,         /* A plain text or ellipsis that is not well-formed UTF-8. */
+    RUSZVEDOK_REPLACEMENT_RANGE = 8,       /* A replacement record out of order or out of range. */
+    RUSZVEDOK_RESULT_OVER_LIMIT = 9,       /* A result over a limit of the recording. */
+    RUSZVEDOK_LENGTH_OVER_BUFFER = 10,     /* A length above its buffer. */
+    RUSZVEDOK_DATA_BUFFER_TOO_SHORT = 21,  /* The data buffer is too short for the result. */
+    RUSZVEDOK_ENTRY_BUFFER_TOO_SHORT = 22, /* The entry buffer is too short for the result. */
+    RUSZVEDOK_TEXT_BUFFER_TOO_SHORT = 23,  /* The text buffer is too short for the result. */
+    RUSZVEDOK_LINE_LIST_TOO_SHORT = 24     /* The line list is too short for the result. */
 };
+
+/* The name of a refusal, as above without RUSZVEDOK_. */
+static inline const char *ruszvedok_refusal_name(uint64_t refusal)
+{
+    switch (refusal) {
+    case 0: return "NONE";
+    case RUSZVEDOK_DATA_TOO_LONG: return "DATA_TOO_LONG";
+    case RUSZVEDOK_ENTRY_NUMBERS: return "ENTRY_NUMBERS";
+    case RUSZVEDOK_ENTRY_SHAPE: return "ENTRY_SHAPE";
+    case RUSZVEDOK_ENTRY_POSITION: return "ENTRY_POSITION";
+    case RUSZVEDOK_TEXT_PART: return "TEXT_PART";
+    case RUSZVEDOK_LABEL_ILL_FORMED: return "LABEL_ILL_FORMED";
+    case RUSZVEDOK_TEXT_ILL_FORMED: return "TEXT_ILL_FORMED";
+    case RUSZVEDOK_REPLACEMENT_RANGE: return "REPLACEMENT_RANGE";
+    case RUSZVEDOK_RESULT_OVER_LIMIT: return "RESULT_OVER_LIMIT";
+    case RUSZVEDOK_LENGTH_OVER_BUFFER: return "LENGTH_OVER_BUFFER";
+    case RUSZVEDOK_DATA_BUFFER_TOO_SHORT: return "DATA_BUFFER_TOO_SHORT";
+    case RUSZVEDOK_ENTRY_BUFFER_TOO_SHORT: return "ENTRY_BUFFER_TOO_SHORT";
+    case RUSZVEDOK_TEXT_BUFFER_TOO_SHORT: return "TEXT_BUFFER_TOO_SHORT";
+    case RUSZVEDOK_LINE_LIST_TOO_SHORT: return "LINE_LIST_TOO_SHORT";
+    default: return "UNKNOWN";
+    }
+}
+
+/* Why a call was refused, in words. */
+static inline const char *ruszvedok_refusal_reason(uint64_t refusal)
+{
+    switch (refusal) {
+    case 0: return "not refused";
+    case RUSZVEDOK_DATA_TOO_LONG: return "data over its limit";
+    case RUSZVEDOK_ENTRY_NUMBERS: return "entry numbers that are not four an entry, or over their limit";
+    case RUSZVEDOK_ENTRY_SHAPE: return "an unknown kind, a pop with a text, a raw sequence without one";
+    case RUSZVEDOK_ENTRY_POSITION: return "a position that falls, or beyond the data";
+    case RUSZVEDOK_TEXT_PART: return "text over its limit, or a part that passes its end";
+    case RUSZVEDOK_LABEL_ILL_FORMED: return "a label that is not well-formed UTF-8";
+    case RUSZVEDOK_TEXT_ILL_FORMED: return "a plain text or ellipsis that is not well-formed UTF-8";
+    case RUSZVEDOK_REPLACEMENT_RANGE: return "a replacement record out of order or out of range";
+    case RUSZVEDOK_RESULT_OVER_LIMIT: return "a result over a limit of the recording";
+    case RUSZVEDOK_LENGTH_OVER_BUFFER: return "a length above its buffer";
+    case RUSZVEDOK_DATA_BUFFER_TOO_SHORT: return "the data buffer is too short for the result";
+    case RUSZVEDOK_ENTRY_BUFFER_TOO_SHORT: return "the entry buffer is too short for the result";
+    case RUSZVEDOK_TEXT_BUFFER_TOO_SHORT: return "the text buffer is too short for the result";
+    case RUSZVEDOK_LINE_LIST_TOO_SHORT: return "the line list is too short for the result";
+    default: return "unknown reason";
+    }
+}
 
 /* A place in a text, and the width of the part that is kept. */
 typedef struct ruszvedok_place {
@@ -77,7 +261,7 @@ typedef struct ruszvedok_place {
 
 /* ---- texts of any bytes: no refusal ---- */
 
-/* The width of a text: the sum over its characters (0, 1 or 2 each). */
+/* The width of a text. */
 uint64_t ruszvedok_text_width(const uint8_t *s, size_t s_len);
 
 /* Whether a text is well-formed UTF-8. */
@@ -89,120 +273,125 @@ ruszvedok_place ruszvedok_truncate_end_pos(const uint8_t *s, size_t s_len, uint6
 /* Where the longest ending starts that is at most max wide, and its width. */
 ruszvedok_place ruszvedok_truncate_start_pos(const uint8_t *s, size_t s_len, uint64_t max);
 
-/* How many bytes the leading zero-width characters of a text take: s + that is the text without them. */
+/* How many bytes the leading zero-width characters of a text take. The text without them starts there. */
 size_t ruszvedok_zero_width_len(const uint8_t *s, size_t s_len);
 
-/* ---- recordings: `bytes`, `numbers` and `texts` are the buffers for data, entries and text of the result ---- */
+/* ---- recordings: `out_data`, `out_entries` and `out_text` are lent for the result ---- */
 
-/* Copies a recording; text that no entry uses is left out. Number: 0. */
+/* Copies a recording into three lent buffers; text that no entry uses is left out. */
 void ruszvedok_replay(
     const uint8_t *content, size_t content_len, const uint32_t *entries, size_t entries_len, const uint8_t *text, size_t text_len,
     uint8_t *out_data, size_t out_data_len, uint32_t *out_entries, size_t out_entries_len, uint8_t *out_text, size_t out_text_len,
     uint64_t res[5]);
 
-/* Leaves the content cut at its start to max_width, the ellipsis before it if it was wider than that; zero-width characters that
- * then lead ellipsis or content are removed, also when nothing was cut. Number: the width kept. */
+/* Cuts a content wider than max_width at its start and writes the ellipsis before it. The number is the width kept. Zero-width
+ * characters that then lead ellipsis or content are removed, also when nothing was cut. */
 void ruszvedok_write_truncated_start(
     const uint8_t *content, size_t content_len, const uint32_t *entries, size_t entries_len, const uint8_t *text, size_t text_len,
     const uint8_t *ellipsis, size_t ellipsis_len, const uint32_t *ellipsis_entries, size_t ellipsis_entries_len,
     const uint8_t *ellipsis_text, size_t ellipsis_text_len,
     uint32_t max_width,
-    uint8_t *bytes, size_t bytes_len, uint32_t *numbers, size_t numbers_len, uint8_t *texts, size_t texts_len,
+    uint8_t *out_data, size_t out_data_len, uint32_t *out_entries, size_t out_entries_len, uint8_t *out_text, size_t out_text_len,
     uint64_t res[5]);
 
-/* Leaves the content cut at its end to max_width, the ellipsis behind it if it was wider than that. Number: the width kept. */
+/* Cuts a content wider than max_width at its end and writes the ellipsis after it. The number is the width kept. */
 void ruszvedok_write_truncated_end(
     const uint8_t *content, size_t content_len, const uint32_t *entries, size_t entries_len, const uint8_t *text, size_t text_len,
     const uint8_t *ellipsis, size_t ellipsis_len, const uint32_t *ellipsis_entries, size_t ellipsis_entries_len,
     const uint8_t *ellipsis_text, size_t ellipsis_text_len,
     uint32_t max_width,
-    uint8_t *bytes, size_t bytes_len, uint32_t *numbers, size_t numbers_len, uint8_t *texts, size_t texts_len,
+    uint8_t *out_data, size_t out_data_len, uint32_t *out_entries, size_t out_entries_len, uint8_t *out_text, size_t out_text_len,
     uint64_t res[5]);
 
-/* Leaves the content with the fill before it as often as columns lack to min_width; not at all if none lacks. Number: 0.
- * The fill should be one character of width 1; each of its pieces between entries is repeated by itself. */
+/* Writes the fill before a content that is narrower than min_width. The fill should be one character of width 1; each of its
+ * pieces between entries is repeated by itself. */
 void ruszvedok_write_padded_start(
     const uint8_t *content, size_t content_len, const uint32_t *entries, size_t entries_len, const uint8_t *text, size_t text_len,
     const uint8_t *fill, size_t fill_len, const uint32_t *fill_entries, size_t fill_entries_len,
     const uint8_t *fill_text, size_t fill_text_len,
     uint32_t min_width,
-    uint8_t *bytes, size_t bytes_len, uint32_t *numbers, size_t numbers_len, uint8_t *texts, size_t texts_len,
+    uint8_t *out_data, size_t out_data_len, uint32_t *out_entries, size_t out_entries_len, uint8_t *out_text, size_t out_text_len,
     uint64_t res[5]);
 
-/* The same with the fill behind the content. Number: 0. */
+/* Writes the fill behind a content that is narrower than min_width. The fill should be one character of width 1; each of its
+ * pieces between entries is repeated by itself. */
 void ruszvedok_write_padded_end(
     const uint8_t *content, size_t content_len, const uint32_t *entries, size_t entries_len, const uint8_t *text, size_t text_len,
     const uint8_t *fill, size_t fill_len, const uint32_t *fill_entries, size_t fill_entries_len,
     const uint8_t *fill_text, size_t fill_text_len,
     uint32_t min_width,
-    uint8_t *bytes, size_t bytes_len, uint32_t *numbers, size_t numbers_len, uint8_t *texts, size_t texts_len,
+    uint8_t *out_data, size_t out_data_len, uint32_t *out_entries, size_t out_entries_len, uint8_t *out_text, size_t out_text_len,
     uint64_t res[5]);
 
-/* The same with half of the fill, rounded down, before the content and the rest behind it. Number: 0. */
+/* Writes half of the fill, rounded down, before a content that is narrower than min_width and the rest behind it. The fill
+ * should be one character of width 1; each of its pieces between entries is repeated by itself. */
 void ruszvedok_write_padded_centered(
     const uint8_t *content, size_t content_len, const uint32_t *entries, size_t entries_len, const uint8_t *text, size_t text_len,
     const uint8_t *fill, size_t fill_len, const uint32_t *fill_entries, size_t fill_entries_len,
     const uint8_t *fill_text, size_t fill_text_len,
     uint32_t min_width,
-    uint8_t *bytes, size_t bytes_len, uint32_t *numbers, size_t numbers_len, uint8_t *texts, size_t texts_len,
+    uint8_t *out_data, size_t out_data_len, uint32_t *out_entries, size_t out_entries_len, uint8_t *out_text, size_t out_text_len,
     uint64_t res[5]);
 
-/* Leaves the content with the prefix before every line that is not empty, under the labels of that line's first byte. Number: 0. */
+/* Writes the prefix before every line that is not empty. The prefix is under the labels of that line's first byte. */
 void ruszvedok_write_indented(
     const uint8_t *content, size_t content_len, const uint32_t *entries, size_t entries_len, const uint8_t *text, size_t text_len,
     const uint8_t *prefix, size_t prefix_len, const uint32_t *prefix_entries, size_t prefix_entries_len,
     const uint8_t *prefix_text, size_t prefix_text_len,
-    uint8_t *bytes, size_t bytes_len, uint32_t *numbers, size_t numbers_len, uint8_t *texts, size_t texts_len,
+    uint8_t *out_data, size_t out_data_len, uint32_t *out_entries, size_t out_entries_len, uint8_t *out_text, size_t out_text_len,
     uint64_t res[5]);
 
-/* Leaves the lines of a text broken at the width, two numbers each: first byte and end. break_words: also inside of words that are
- * wider. Number: how many lines; a text of n bytes has at most n + 1. The lengths in res are 0. */
+/* The lines of a text broken at the width, two numbers each: first byte and end. The number is how many. With break_words also
+ * inside of words that are wider. A text of n bytes has at most n + 1 lines. The lengths in `res` are 0. */
 void ruszvedok_wrap_bytes(
     const uint8_t *data, size_t data_len,
     uint32_t width, bool break_words,
-    uint32_t *lines, size_t lines_len,
+    uint32_t *out_lines, size_t out_lines_len,
     uint64_t res[5]);
 
-/* Leaves the content broken at the width, its lines joined by 0A, and in `lines` the lines as wrap_bytes does.
- * Number: how many lines. */
+/* Writes a recording broken at the width. The number is how many lines. They are joined by 0A, and `out_lines` gets them as
+ * ruszvedok_wrap_bytes lists them. */
 void ruszvedok_write_wrapped(
     const uint8_t *content, size_t content_len, const uint32_t *entries, size_t entries_len, const uint8_t *text, size_t text_len,
     uint32_t width, bool break_words,
-    uint8_t *bytes, size_t bytes_len, uint32_t *numbers, size_t numbers_len, uint8_t *texts, size_t texts_len,
-    uint32_t *lines, size_t lines_len,
+    uint8_t *out_data, size_t out_data_len, uint32_t *out_entries, size_t out_entries_len, uint8_t *out_text, size_t out_text_len,
+    uint32_t *out_lines, size_t out_lines_len,
     uint64_t res[5]);
 
-/* Leaves the content with the bytes start to end of each record gone and the bytes from to `to` of new_text in their stead, under
- * the labels of the byte at start. `records` has four numbers a record (start, end, from, to), in order; fewer than four at its
- * end are none. Number: 0. */
+/* Writes the content with each record's stretch gone and its part of the replacement text in its stead; a record is four
+ * numbers. These are start, end, from, to: the bytes start to end of the data go, the bytes from to `to` of new_text come in,
+ * under the labels of the byte at start. Records are in order; fewer than four numbers at the end are none. */
 void ruszvedok_write_replaced(
     const uint8_t *content, size_t content_len, const uint32_t *entries, size_t entries_len, const uint8_t *text, size_t text_len,
-    const uint32_t *records, size_t records_len, const uint8_t *new_text, size_t new_text_len,
-    uint8_t *bytes, size_t bytes_len, uint32_t *numbers, size_t numbers_len, uint8_t *texts, size_t texts_len,
+    const uint32_t *records, size_t records_len,
+    const uint8_t *new_text, size_t new_text_len,
+    uint8_t *out_data, size_t out_data_len, uint32_t *out_entries, size_t out_entries_len, uint8_t *out_text, size_t out_text_len,
     uint64_t res[5]);
 
-/* ---- plain texts, well-formed UTF-8 (otherwise refusal 7): the result is in `out`, its length at RUSZVEDOK_RES_DATA ---- */
+/* ---- plain texts, well-formed UTF-8 (otherwise refusal 7): the result is in `out_data` ---- */
 
-/* Leaves the text, shortened at its start to max_width with the ellipsis before it if it is wider. Number: its width. */
+/* The text, shortened at its start to max_width with the ellipsis. The number is its width. */
 void ruszvedok_elide_start(
     const uint8_t *text, size_t text_len,
-    const uint8_t *ellipsis, size_t ellipsis_len, uint32_t max_width,
-    uint8_t *out, size_t out_len,
+    const uint8_t *ellipsis, size_t ellipsis_len,
+    uint32_t max_width,
+    uint8_t *out_data, size_t out_data_len,
     uint64_t res[5]);
 
-/* Leaves the text, shortened at its end to max_width with the ellipsis behind it if it is wider. Number: its width. */
+/* The text, shortened at its end to max_width with the ellipsis. The number is its width. */
 void ruszvedok_elide_end(
     const uint8_t *text, size_t text_len,
-    const uint8_t *ellipsis, size_t ellipsis_len, uint32_t max_width,
-    uint8_t *out, size_t out_len,
+    const uint8_t *ellipsis, size_t ellipsis_len,
+    uint32_t max_width,
+    uint8_t *out_data, size_t out_data_len,
     uint64_t res[5]);
 
-/* Leaves the text with 0A at its end, which is added unless the text is empty or ends in it. Number: 0. */
-void ruszvedok_complete_newline(const uint8_t *text, size_t text_len, uint8_t *out, size_t out_len, uint64_t res[5]);
+/* The text with 0A at its end, which is added unless the text is empty or ends in it. */
+void ruszvedok_complete_newline(const uint8_t *text, size_t text_len, uint8_t *out_data, size_t out_data_len, uint64_t res[5]);
 
-/* ---- the recorder: each call adds at the ends of the recording that the used lengths say; res has its new lengths, number 0 ---- */
+/* ---- the recorder: each call adds at the ends of the recording that the used lengths say; `res` has its new lengths ---- */
 
-/* Appends bytes to the data. */
+/* Appends bytes to the data of a recording, of whose buffers the lengths are used. */
 void ruszvedok_write(
     uint8_t *content, size_t content_room, size_t content_len,
     const uint32_t *entries, size_t entries_room, size_t entries_len,
@@ -210,7 +399,7 @@ void ruszvedok_write(
     const uint8_t *added, size_t added_len,
     uint64_t res[5]);
 
-/* Pushes a label at the current end of the data. */
+/* Pushes a label, at the current end. */
 void ruszvedok_push_label(
     const uint8_t *content, size_t content_room, size_t content_len,
     uint32_t *entries, size_t entries_room, size_t entries_len,
@@ -218,20 +407,144 @@ void ruszvedok_push_label(
     const uint8_t *label, size_t label_len,
     uint64_t res[5]);
 
-/* Pops the last label at the current end of the data. */
+/* A pop of the last label, at the current end. */
 void ruszvedok_pop_label(
     const uint8_t *content, size_t content_room, size_t content_len,
     uint32_t *entries, size_t entries_room, size_t entries_len,
     const uint8_t *text, size_t text_room, size_t text_len,
     uint64_t res[5]);
 
-/* Appends a raw sequence, which is not empty, as one entry at the current end of the data. */
+/* Appends a raw sequence as one entry at the current end. An empty one is refused. */
 void ruszvedok_raw(
     const uint8_t *content, size_t content_room, size_t content_len,
     uint32_t *entries, size_t entries_room, size_t entries_len,
     uint8_t *text, size_t text_room, size_t text_len,
     const uint8_t *sequence, size_t sequence_len,
     uint64_t res[5]);
+
+/* ---- the calls on recordings over the structs: `out` is written, `to` is added to; its lengths are taken over ---- */
+
+static inline ruszvedok_answer ruszvedok_replay_to(ruszvedok_recording *out, ruszvedok_view content)
+{
+    uint64_t res[5];
+    ruszvedok_replay(RUSZVEDOK_READ(content), RUSZVEDOK_LENT(out), res);
+    return ruszvedok_take_over(out, res);
+}
+
+static inline ruszvedok_answer ruszvedok_write_truncated_start_to(
+    ruszvedok_recording *out, ruszvedok_view content, ruszvedok_view ellipsis, uint32_t max_width)
+{
+    uint64_t res[5];
+    ruszvedok_write_truncated_start(RUSZVEDOK_READ(content), RUSZVEDOK_READ(ellipsis), max_width, RUSZVEDOK_LENT(out), res);
+    return ruszvedok_take_over(out, res);
+}
+
+static inline ruszvedok_answer ruszvedok_write_truncated_end_to(
+    ruszvedok_recording *out, ruszvedok_view content, ruszvedok_view ellipsis, uint32_t max_width)
+{
+    uint64_t res[5];
+    ruszvedok_write_truncated_end(RUSZVEDOK_READ(content), RUSZVEDOK_READ(ellipsis), max_width, RUSZVEDOK_LENT(out), res);
+    return ruszvedok_take_over(out, res);
+}
+
+static inline ruszvedok_answer ruszvedok_write_padded_start_to(
+    ruszvedok_recording *out, ruszvedok_view content, ruszvedok_view fill, uint32_t min_width)
+{
+    uint64_t res[5];
+    ruszvedok_write_padded_start(RUSZVEDOK_READ(content), RUSZVEDOK_READ(fill), min_width, RUSZVEDOK_LENT(out), res);
+    return ruszvedok_take_over(out, res);
+}
+
+static inline ruszvedok_answer ruszvedok_write_padded_end_to(
+    ruszvedok_recording *out, ruszvedok_view content, ruszvedok_view fill, uint32_t min_width)
+{
+    uint64_t res[5];
+    ruszvedok_write_padded_end(RUSZVEDOK_READ(content), RUSZVEDOK_READ(fill), min_width, RUSZVEDOK_LENT(out), res);
+    return ruszvedok_take_over(out, res);
+}
+
+static inline ruszvedok_answer ruszvedok_write_padded_centered_to(
+    ruszvedok_recording *out, ruszvedok_view content, ruszvedok_view fill, uint32_t min_width)
+{
+    uint64_t res[5];
+    ruszvedok_write_padded_centered(RUSZVEDOK_READ(content), RUSZVEDOK_READ(fill), min_width, RUSZVEDOK_LENT(out), res);
+    return ruszvedok_take_over(out, res);
+}
+
+static inline ruszvedok_answer ruszvedok_write_indented_to(
+    ruszvedok_recording *out, ruszvedok_view content, ruszvedok_view prefix)
+{
+    uint64_t res[5];
+    ruszvedok_write_indented(RUSZVEDOK_READ(content), RUSZVEDOK_READ(prefix), RUSZVEDOK_LENT(out), res);
+    return ruszvedok_take_over(out, res);
+}
+
+static inline ruszvedok_answer ruszvedok_write_wrapped_to(
+    ruszvedok_recording *out, ruszvedok_view content, uint32_t width, bool break_words, uint32_t *out_lines, size_t out_lines_len)
+{
+    uint64_t res[5];
+    ruszvedok_write_wrapped(RUSZVEDOK_READ(content), width, break_words, RUSZVEDOK_LENT(out), out_lines, out_lines_len, res);
+    return ruszvedok_take_over(out, res);
+}
+
+static inline ruszvedok_answer ruszvedok_write_replaced_to(
+    ruszvedok_recording *out, ruszvedok_view content, const uint32_t *records, size_t records_len, const uint8_t *new_text,
+    size_t new_text_len)
+{
+    uint64_t res[5];
+    ruszvedok_write_replaced(RUSZVEDOK_READ(content), records, records_len, new_text, new_text_len, RUSZVEDOK_LENT(out), res);
+    return ruszvedok_take_over(out, res);
+}
+
+static inline ruszvedok_answer ruszvedok_write_to(ruszvedok_recording *to, const uint8_t *added, size_t added_len)
+{
+    uint64_t res[5];
+    ruszvedok_write(RUSZVEDOK_USED(to), added, added_len, res);
+    return ruszvedok_take_over(to, res);
+}
+
+static inline ruszvedok_answer ruszvedok_push_label_to(ruszvedok_recording *to, const uint8_t *label, size_t label_len)
+{
+    uint64_t res[5];
+    ruszvedok_push_label(RUSZVEDOK_USED(to), label, label_len, res);
+    return ruszvedok_take_over(to, res);
+}
+
+static inline ruszvedok_answer ruszvedok_pop_label_to(ruszvedok_recording *to)
+{
+    uint64_t res[5];
+    ruszvedok_pop_label(RUSZVEDOK_USED(to), res);
+    return ruszvedok_take_over(to, res);
+}
+
+static inline ruszvedok_answer ruszvedok_raw_to(ruszvedok_recording *to, const uint8_t *sequence, size_t sequence_len)
+{
+    uint64_t res[5];
+    ruszvedok_raw(RUSZVEDOK_USED(to), sequence, sequence_len, res);
+    return ruszvedok_take_over(to, res);
+}
+
+/* ======== end of the written part ======== */
+
+/* Adds a string. */
+static inline ruszvedok_answer ruszvedok_string_to(ruszvedok_recording *to, const char *string)
+{
+    return ruszvedok_write_to(to, (const uint8_t *)string, strlen(string));
+}
+
+/* Adds a string under a label; nothing of it if any part is refused. */
+static inline ruszvedok_answer ruszvedok_labeled_to(ruszvedok_recording *to, const char *label, const char *string)
+{
+    ruszvedok_recording before = *to;
+    ruszvedok_answer answer = ruszvedok_push_label_to(to, (const uint8_t *)label, strlen(label));
+    if (answer.refusal == 0)
+        answer = ruszvedok_string_to(to, string);
+    if (answer.refusal == 0)
+        answer = ruszvedok_pop_label_to(to);
+    if (answer.refusal != 0)
+        *to = before;
+    return answer;
+}
 
 #ifdef __cplusplus
 }

@@ -2,19 +2,24 @@
 //! the library asks. All of the crate's `unsafe` is here.
 //!
 //! After a refusal every buffer holds what it held; otherwise each holds the result from its first place on, with all beyond untouched.
+//! The numbers under "Errors" are those of [`Refusal`], in the order in which they are looked for.
 //!
 //! ```
 //! use ruszvedok::lent::{replay, Buffers, View};
 //!
 //! let row = View { data: b"oak", entries: &[0, 0, 1, 4, 3, 1, 0, 0], text: b"-wood" };
 //! let (mut data, mut entries, mut text) = ([0; 4], [0; 8], [0; 8]);
-//! let answer = replay(row, Buffers { data: &mut data, entries: &mut entries, text: &mut text });
-//! assert_eq!((answer.refusal, answer.data, answer.entries, answer.text), (0, 3, 8, 4));
+//! let left = replay(row, Buffers { data: &mut data, entries: &mut entries, text: &mut text })?;
+//! assert_eq!((left.used.data, left.used.entries, left.used.text), (3, 8, 4));
 //! assert_eq!((&data, &text), (b"oak\0", b"wood\0\0\0\0"));
+//! # Ok::<(), ruszvedok::Refusal>(())
 //! ```
+use std::ops::Range;
+use std::slice::ChunksExact;
+
 use crate::refusal::Refusal;
 use crate::sys;
-pub use crate::sys::Place;
+pub use crate::sys::{Place, LINE_NUMBERS};
 
 /// A recording to be read.
 #[derive(Clone, Copy, Debug, Default)]
@@ -49,44 +54,74 @@ pub struct Used {
     pub text: usize,
 }
 
-/// What a call answers. After a refusal all but its number are 0.
+/// What a call left.
 #[derive(Clone, Copy, Debug, Default, PartialEq, Eq)]
-pub struct Answer {
-    /// The refusal's number, or 0.
-    pub refusal: u64,
-    /// The data length left.
-    pub data: u64,
-    /// How many entry numbers were left.
-    pub entries: u64,
-    /// The text length left.
-    pub text: u64,
-    /// A width or a count.
+#[must_use]
+#[non_exhaustive]
+pub struct Done {
+    /// How much of each buffer is the result.
+    pub used: Used,
+    /// The call's number: a width, a count, or 0.
     pub number: u64,
 }
 
-impl Answer {
-    /// The answer of a call that was not refused.
-    #[inline]
-    pub fn done(self) -> Result<Self, Refusal> {
-        match self.refusal {
-            0 => Ok(self),
-            n => Err(Refusal::from_number(n).expect("the library answers by document 01's numbers")),
-        }
-    }
-
-    /// The lengths left.
-    #[inline]
-    pub fn used(self) -> Used {
-        Used { data: self.data as usize, entries: self.entries as usize, text: self.text as usize }
+/// What a call answers by its five numbers.
+#[inline]
+fn answered([refusal, data, entries, text, number]: [u64; 5]) -> Result<Done, Refusal> {
+    debug_assert!(refusal == 0 || [data, entries, text, number] == [0; 4], "a refusal comes alone");
+    match Refusal::from_number(refusal) {
+        None => Ok(Done { used: Used { data: data as usize, entries: entries as usize, text: text as usize }, number }),
+        Some(refusal) => Err(refusal),
     }
 }
 
-impl From<[u64; 5]> for Answer {
-    #[inline]
-    fn from([refusal, data, entries, text, number]: [u64; 5]) -> Self {
-        Self { refusal, data, entries, text, number }
+/// A line as a line list has it: a stretch of the text that was wrapped.
+#[derive(Clone, Copy, Debug, PartialEq, Eq, Hash)]
+#[non_exhaustive]
+pub struct Line {
+    /// Its first byte.
+    pub first: usize,
+    /// Its end.
+    pub end: usize,
+}
+
+impl Line {
+    /// The stretch as a range.
+    #[must_use]
+    pub fn range(self) -> Range<usize> {
+        self.first..self.end
     }
 }
+
+/// The lines of a line list.
+#[derive(Clone, Debug)]
+pub struct Lines<'a>(ChunksExact<'a, u32>);
+
+impl<'a> Lines<'a> {
+    /// The first `count` lines of a list.
+    ///
+    /// # Panics
+    ///
+    /// If the list is shorter.
+    #[must_use]
+    pub fn new(list: &'a [u32], count: usize) -> Self {
+        Self(list[..count * LINE_NUMBERS].chunks_exact(LINE_NUMBERS))
+    }
+}
+
+impl Iterator for Lines<'_> {
+    type Item = Line;
+
+    fn next(&mut self) -> Option<Line> {
+        self.0.next().map(|line| Line { first: line[0] as usize, end: line[1] as usize })
+    }
+
+    fn size_hint(&self) -> (usize, Option<usize>) {
+        self.0.size_hint()
+    }
+}
+
+impl ExactSizeIterator for Lines<'_> {}
 
 /// A replacement: the bytes `start` to `end` of the data by the bytes `from` to `to` of the replacement text.
 #[derive(Clone, Copy, Debug, PartialEq, Eq, Hash)]
@@ -118,7 +153,7 @@ macro_rules! layout {
                 &mut res,
             )
         };
-        Answer::from(res)
+        answered(res)
     }};
 }
 
@@ -134,150 +169,223 @@ macro_rules! add {
                 &mut res,
             )
         };
-        Answer::from(res)
+        answered(res)
     }};
 }
 
 /// The width of a text of any bytes.
 #[inline]
+#[must_use]
 pub fn text_width(s: &[u8]) -> u64 {
     unsafe { sys::ruszvedok_text_width(s.as_ptr(), s.len()) }
 }
 
 /// Whether a text is well-formed UTF-8.
 #[inline]
+#[must_use]
 pub fn well_formed(s: &[u8]) -> bool {
     unsafe { sys::ruszvedok_well_formed(s.as_ptr(), s.len()) }
 }
 
 /// Where the longest beginning ends that is at most `max` wide, and its width.
 #[inline]
+#[must_use]
 pub fn truncate_end_pos(s: &[u8], max: u64) -> Place {
     unsafe { sys::ruszvedok_truncate_end_pos(s.as_ptr(), s.len(), max) }
 }
 
 /// Where the longest ending starts that is at most `max` wide, and its width.
 #[inline]
+#[must_use]
 pub fn truncate_start_pos(s: &[u8], max: u64) -> Place {
     unsafe { sys::ruszvedok_truncate_start_pos(s.as_ptr(), s.len(), max) }
 }
 
 /// How many bytes the leading zero-width characters of a text take.
 #[inline]
+#[must_use]
 pub fn zero_width_len(s: &[u8]) -> usize {
     unsafe { sys::ruszvedok_zero_width_len(s.as_ptr(), s.len()) }
 }
 
 /// Copies a recording; text that no entry uses is left out.
+///
+/// # Errors
+///
+/// Refusals 1 to 6, 9, 21 to 23.
 #[inline]
-pub fn replay(content: View, out: Buffers) -> Answer {
+pub fn replay(content: View, out: Buffers) -> Result<Done, Refusal> {
     layout!(ruszvedok_replay, [content], [], out)
 }
 
 /// Cuts a content wider than `max_width` at its start, the ellipsis before it; the number is the width kept.
+///
+/// # Errors
+///
+/// Refusals 1 to 6 for either recording, 9, 21 to 23.
 #[inline]
-pub fn write_truncated_start(content: View, ellipsis: View, max_width: u32, out: Buffers) -> Answer {
+pub fn write_truncated_start(content: View, ellipsis: View, max_width: u32, out: Buffers) -> Result<Done, Refusal> {
     layout!(ruszvedok_write_truncated_start, [content, ellipsis], [max_width], out)
 }
 
 /// Cuts a content wider than `max_width` at its end, the ellipsis behind it; the number is the width kept.
+///
+/// # Errors
+///
+/// Refusals 1 to 6 for either recording, 9, 21 to 23.
 #[inline]
-pub fn write_truncated_end(content: View, ellipsis: View, max_width: u32, out: Buffers) -> Answer {
+pub fn write_truncated_end(content: View, ellipsis: View, max_width: u32, out: Buffers) -> Result<Done, Refusal> {
     layout!(ruszvedok_write_truncated_end, [content, ellipsis], [max_width], out)
 }
 
 /// The fill before a content narrower than `min_width`.
+///
+/// # Errors
+///
+/// Refusals 1 to 6 for either recording, 9, 21 to 23.
 #[inline]
-pub fn write_padded_start(content: View, fill: View, min_width: u32, out: Buffers) -> Answer {
+pub fn write_padded_start(content: View, fill: View, min_width: u32, out: Buffers) -> Result<Done, Refusal> {
     layout!(ruszvedok_write_padded_start, [content, fill], [min_width], out)
 }
 
 /// The fill behind a content narrower than `min_width`.
+///
+/// # Errors
+///
+/// Refusals 1 to 6 for either recording, 9, 21 to 23.
 #[inline]
-pub fn write_padded_end(content: View, fill: View, min_width: u32, out: Buffers) -> Answer {
+pub fn write_padded_end(content: View, fill: View, min_width: u32, out: Buffers) -> Result<Done, Refusal> {
     layout!(ruszvedok_write_padded_end, [content, fill], [min_width], out)
 }
 
 /// Half of the fill, rounded down, before a content narrower than `min_width`, the rest behind it.
+///
+/// # Errors
+///
+/// Refusals 1 to 6 for either recording, 9, 21 to 23.
 #[inline]
-pub fn write_padded_centered(content: View, fill: View, min_width: u32, out: Buffers) -> Answer {
+pub fn write_padded_centered(content: View, fill: View, min_width: u32, out: Buffers) -> Result<Done, Refusal> {
     layout!(ruszvedok_write_padded_centered, [content, fill], [min_width], out)
 }
 
 /// The prefix before every line that is not empty.
+///
+/// # Errors
+///
+/// Refusals 1 to 6 for either recording, 9, 21 to 23.
 #[inline]
-pub fn write_indented(content: View, prefix: View, out: Buffers) -> Answer {
+pub fn write_indented(content: View, prefix: View, out: Buffers) -> Result<Done, Refusal> {
     layout!(ruszvedok_write_indented, [content, prefix], [], out)
 }
 
 /// The lines of a text, first byte and end of each; the number is how many.
+///
+/// # Errors
+///
+/// Refusals 1, 24.
 #[inline]
-pub fn wrap_bytes(data: &[u8], width: u32, break_words: bool, lines: &mut [u32]) -> Answer {
+pub fn wrap_bytes(data: &[u8], width: u32, break_words: bool, lines: &mut [u32]) -> Result<Done, Refusal> {
     let mut res = [0; 5];
     unsafe { sys::ruszvedok_wrap_bytes(data.as_ptr(), data.len(), width, break_words, lines.as_mut_ptr(), lines.len(), &mut res) };
-    res.into()
+    answered(res)
 }
 
 /// A recording broken at the width, and its lines as [`wrap_bytes`] has them; the number is how many.
+///
+/// # Errors
+///
+/// Refusals 1 to 6, 9, 21 to 24.
 #[inline]
-pub fn write_wrapped(content: View, width: u32, break_words: bool, out: Buffers, lines: &mut [u32]) -> Answer {
+pub fn write_wrapped(content: View, width: u32, break_words: bool, out: Buffers, lines: &mut [u32]) -> Result<Done, Refusal> {
     layout!(ruszvedok_write_wrapped, [content], [width, break_words], out, lines)
 }
 
 /// The stretch of each record by its part of `new`.
+///
+/// # Errors
+///
+/// Refusals 1 to 6, 8, 9, 21 to 23.
 #[inline]
-pub fn write_replaced(content: View, records: &[Replacement], new: &[u8], out: Buffers) -> Answer {
+pub fn write_replaced(content: View, records: &[Replacement], new: &[u8], out: Buffers) -> Result<Done, Refusal> {
     // A record is four numbers in a row, which `repr(C)` makes it.
     let (numbers, count) = (records.as_ptr().cast::<u32>(), records.len() * 4);
     layout!(ruszvedok_write_replaced, [content], [numbers, count, new.as_ptr(), new.len()], out)
 }
 
 /// A text shortened at its start; the number is its width.
+///
+/// # Errors
+///
+/// Refusals 1, 7, 9, 21.
 #[inline]
-pub fn elide_start(text: &[u8], ellipsis: &[u8], max_width: u32, out: &mut [u8]) -> Answer {
+pub fn elide_start(text: &[u8], ellipsis: &[u8], max_width: u32, out: &mut [u8]) -> Result<Done, Refusal> {
     let mut res = [0; 5];
     let (t, e, o) = ((text.as_ptr(), text.len()), (ellipsis.as_ptr(), ellipsis.len()), (out.as_mut_ptr(), out.len()));
     unsafe { sys::ruszvedok_elide_start(t.0, t.1, e.0, e.1, max_width, o.0, o.1, &mut res) };
-    res.into()
+    answered(res)
 }
 
 /// A text shortened at its end; the number is its width.
+///
+/// # Errors
+///
+/// Refusals 1, 7, 9, 21.
 #[inline]
-pub fn elide_end(text: &[u8], ellipsis: &[u8], max_width: u32, out: &mut [u8]) -> Answer {
+pub fn elide_end(text: &[u8], ellipsis: &[u8], max_width: u32, out: &mut [u8]) -> Result<Done, Refusal> {
     let mut res = [0; 5];
     let (t, e, o) = ((text.as_ptr(), text.len()), (ellipsis.as_ptr(), ellipsis.len()), (out.as_mut_ptr(), out.len()));
     unsafe { sys::ruszvedok_elide_end(t.0, t.1, e.0, e.1, max_width, o.0, o.1, &mut res) };
-    res.into()
+    answered(res)
 }
 
 /// A text with a newline at its end, unless it is empty.
+///
+/// # Errors
+///
+/// Refusals 1, 7, 9, 21.
 #[inline]
-pub fn complete_newline(text: &[u8], out: &mut [u8]) -> Answer {
+pub fn complete_newline(text: &[u8], out: &mut [u8]) -> Result<Done, Refusal> {
     let mut res = [0; 5];
     unsafe { sys::ruszvedok_complete_newline(text.as_ptr(), text.len(), out.as_mut_ptr(), out.len(), &mut res) };
-    res.into()
+    answered(res)
 }
 
 /// Appends data to the recording that takes `used` of the buffers.
+///
+/// # Errors
+///
+/// Refusals 10, 1 to 6, 9, 21.
 #[inline]
-pub fn write(to: Buffers, used: Used, added: &[u8]) -> Answer {
+pub fn write(to: Buffers, used: Used, added: &[u8]) -> Result<Done, Refusal> {
     add!(ruszvedok_write, to, used, added)
 }
 
 /// Pushes a label at the current end.
+///
+/// # Errors
+///
+/// Refusals 10, 1 to 6, 6 for the label, 9, 22, 23.
 #[inline]
-pub fn push_label(to: Buffers, used: Used, label: &[u8]) -> Answer {
+pub fn push_label(to: Buffers, used: Used, label: &[u8]) -> Result<Done, Refusal> {
     add!(ruszvedok_push_label, to, used, label)
 }
 
 /// Pops the last label at the current end.
+///
+/// # Errors
+///
+/// Refusals 10, 1 to 6, 9, 22.
 #[inline]
-pub fn pop_label(to: Buffers, used: Used) -> Answer {
+pub fn pop_label(to: Buffers, used: Used) -> Result<Done, Refusal> {
     add!(ruszvedok_pop_label, to, used)
 }
 
 /// Appends a raw sequence at the current end.
+///
+/// # Errors
+///
+/// Refusals 10, 1 to 6, 3 for an empty sequence, 9, 22, 23.
 #[inline]
-pub fn raw(to: Buffers, used: Used, sequence: &[u8]) -> Answer {
+pub fn raw(to: Buffers, used: Used, sequence: &[u8]) -> Result<Done, Refusal> {
     add!(ruszvedok_raw, to, used, sequence)
 }

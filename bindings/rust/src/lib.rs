@@ -12,9 +12,7 @@
 //! use ruszvedok::{write_truncated_end, FormatRecorder, Refusal};
 //!
 //! let mut row = FormatRecorder::new();
-//! row.push_label("grade")?;
-//! row.write_data(b"spruce")?;
-//! row.pop_label()?;
+//! row.write_labeled("grade", "spruce")?;
 //! let ellipsis = FormatRecorder::with_data("..")?;
 //! let mut out = FormatRecorder::new();
 //! assert_eq!(write_truncated_end(&mut out, &row, &ellipsis, 4)?, 4);
@@ -22,6 +20,7 @@
 //! # Ok::<(), Refusal>(())
 //! ```
 #![deny(missing_docs, unsafe_code, unsafe_op_in_unsafe_fn)]
+#![warn(clippy::missing_errors_doc, clippy::missing_panics_doc, clippy::must_use_candidate)]
 
 #[allow(unsafe_code)]
 pub mod lent;
@@ -31,17 +30,11 @@ mod refusal;
 mod sys;
 pub mod text_util;
 
-pub use recorder::{FormatOp, FormatRecorder};
+pub use recorder::{FormatOp, FormatRecorder, Span};
 pub use refusal::Refusal;
+pub use sys::{LINE_NUMBERS, MAX_DATA, MAX_ENTRIES, MAX_ENTRY_NUMBERS, MAX_TEXT};
 pub use text_util::{
     complete_newline, elide_end, elide_start, text_width, trim_start_zero_width_chars, wrap_bytes, write_indented,
     write_padded_centered, write_padded_end, write_padded_start, write_replaced, write_truncated_end, write_truncated_start,
     write_wrapped,
 };
-
-/// The most data bytes of a recording; a plain text has the same limit.
-pub const MAX_DATA: usize = 1_048_576;
-/// The most entries of a recording.
-pub const MAX_ENTRIES: usize = 4_096;
-/// The most text bytes of a recording: labels and raw sequences.
-pub const MAX_TEXT: usize = 65_536;

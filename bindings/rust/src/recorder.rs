@@ -1,14 +1,25 @@
 //! The recorder: data and labels in buffers of its own.
+use std::borrow::Cow;
 use std::fmt;
 use std::io;
 use std::ops::Range;
+use std::str::FromStr;
 
-use crate::lent::{self, Answer, Buffers, Used, View};
+use crate::lent::{self, Buffers, Done, Used, View};
 use crate::refusal::Refusal;
-use crate::{MAX_DATA, MAX_ENTRIES, MAX_TEXT};
+use crate::{LINE_NUMBERS, MAX_DATA, MAX_ENTRY_NUMBERS, MAX_TEXT};
+
+/// Kinds of entries.
+const PUSH_LABEL: u32 = 0;
+const POP_LABEL: u32 = 1;
+const RAW: u32 = 2;
+
+/// How many numbers an entry has: position, kind, start and length of its text.
+const ENTRY_NUMBERS: usize = 4;
 
 /// What an entry of a recording does.
 #[derive(Clone, Copy, Debug, PartialEq, Eq, Hash)]
+#[non_exhaustive]
 pub enum FormatOp<'a> {
     /// Opens a label.
     PushLabel(&'a str),
@@ -18,20 +29,36 @@ pub enum FormatOp<'a> {
     RawEscapeSequence(&'a [u8]),
 }
 
+/// A piece of data under the same labels.
+#[derive(Clone, Debug, PartialEq, Eq, Hash)]
+#[non_exhaustive]
+pub struct Span<'a> {
+    /// The data, which is not empty.
+    pub data: &'a [u8],
+    /// The labels that are open, the outermost first.
+    pub labels: Vec<&'a str>,
+}
+
+impl<'a> Span<'a> {
+    /// The data as text, with U+FFFD for what is not UTF-8.
+    #[must_use]
+    pub fn text(&self) -> Cow<'a, str> {
+        String::from_utf8_lossy(self.data)
+    }
+}
+
 /// Records data, labels and raw sequences, to be laid out and replayed.
 ///
-/// Its buffers grow as needed and are kept: a recorder that is used again as the `out` of layout calls allocates nothing. (The
+/// What is added goes to the ends of its own buffers: what they hold is a recording at any time, so only the limits are looked at.
+/// The buffers grow as needed and are kept: a recorder that is used again as the `out` of layout calls allocates nothing. (The
 /// original's `maybe_color` is left out, as all painting is.)
 ///
 /// ```
 /// use ruszvedok::{FormatOp, FormatRecorder, Refusal};
-/// use std::io::Write as _;
 ///
 /// let mut row = FormatRecorder::new();
-/// write!(row, "oak {} ft ", 12).unwrap();
-/// row.push_label("grade")?;
-/// row.write_data(b"FAS")?;
-/// row.pop_label()?;
+/// write!(row, "oak {} ft ", 12)?;
+/// row.write_labeled("grade", "FAS")?;
 /// assert_eq!(row.data(), b"oak 12 ft FAS");
 /// assert!(row.ops().eq([(10, FormatOp::PushLabel("grade")), (13, FormatOp::PopLabel)]));
 /// # Ok::<(), Refusal>(())
@@ -47,53 +74,230 @@ pub struct FormatRecorder {
     lines: Vec<u32>,
 }
 
+/// Adding. Each call adds all of what it is given or, if it is refused, nothing.
 impl FormatRecorder {
     /// An empty recording.
+    #[must_use]
     pub fn new() -> Self {
         Self::default()
     }
 
     /// A recording of this data, without labels.
+    ///
+    /// # Errors
+    ///
+    /// [`Refusal::ResultOverLimit`] over [`MAX_DATA`].
     pub fn with_data(data: impl Into<Vec<u8>>) -> Result<Self, Refusal> {
         let data = data.into();
-        if data.len() > MAX_DATA {
-            return Err(Refusal::ResultOverLimit);
-        }
-        let used = Used { data: data.len(), ..Used::default() };
+        let used = Used { data: within(0, data.len(), MAX_DATA)?, ..Used::default() };
         Ok(Self { data, used, ..Self::default() })
     }
 
-    /// Appends data, which may be any bytes. Each call that adds checks the whole recording: a few large pieces are cheaper than many
-    /// small ones.
-    pub fn write_data(&mut self, data: &[u8]) -> Result<(), Refusal> {
-        let used = self.used;
-        self.lend(Used { data: used.data + data.len(), ..used }, |to, _| lent::write(to, used, data)).map(drop)
+    /// Appends data, which may be any bytes.
+    ///
+    /// # Errors
+    ///
+    /// [`Refusal::ResultOverLimit`] if the data would be over [`MAX_DATA`].
+    #[inline]
+    pub fn write_data(&mut self, data: impl AsRef<[u8]>) -> Result<(), Refusal> {
+        let data = data.as_ref();
+        let end = within(self.used.data, data.len(), MAX_DATA)?;
+        self.data.truncate(self.used.data);
+        self.data.extend_from_slice(data);
+        self.used.data = end;
+        Ok(())
+    }
+
+    /// Appends data that is formatted: what `write!` calls.
+    ///
+    /// # Errors
+    ///
+    /// [`Refusal::ResultOverLimit`] if the data would be over [`MAX_DATA`].
+    ///
+    /// # Panics
+    ///
+    /// As [`std::format!`]: if a value fails to format itself.
+    #[inline]
+    pub fn write_fmt(&mut self, data: fmt::Arguments<'_>) -> Result<(), Refusal> {
+        if let Some(data) = data.as_str() {
+            return self.write_data(data);
+        }
+        self.data.truncate(self.used.data);
+        let mut to = Formatted { data: &mut self.data, refused: false };
+        let failed = fmt::write(&mut to, data).is_err();
+        if to.refused {
+            self.data.truncate(self.used.data);
+            return Err(Refusal::ResultOverLimit);
+        }
+        assert!(!failed, "a value failed to format itself");
+        self.used.data = self.data.len();
+        Ok(())
     }
 
     /// Opens a label at the current end of the data.
+    ///
+    /// # Errors
+    ///
+    /// [`Refusal::ResultOverLimit`] if there would be more than [`MAX_ENTRIES`](crate::MAX_ENTRIES) entries, or their text would be
+    /// over [`MAX_TEXT`].
+    #[inline]
     pub fn push_label(&mut self, label: &str) -> Result<(), Refusal> {
-        let used = self.used;
-        self.lend(used.with_entry(label.len()), |to, _| lent::push_label(to, used, label.as_bytes())).map(drop)
+        self.push_entry(PUSH_LABEL, label.as_bytes())
     }
 
     /// Closes the last label still open, at the current end of the data.
+    ///
+    /// # Errors
+    ///
+    /// [`Refusal::ResultOverLimit`] if there would be more than [`MAX_ENTRIES`](crate::MAX_ENTRIES) entries.
+    #[inline]
     pub fn pop_label(&mut self) -> Result<(), Refusal> {
-        let used = self.used;
-        self.lend(used.with_entry(0), |to, _| lent::pop_label(to, used)).map(drop)
+        self.push_entry(POP_LABEL, b"")
     }
 
-    /// Appends a raw sequence as one entry at the current end of the data. An empty one is refused ([`Refusal::EntryShape`]).
+    /// Appends a raw sequence as one entry at the current end of the data.
+    ///
+    /// # Errors
+    ///
+    /// [`Refusal::EntryShape`] if it is empty; [`Refusal::ResultOverLimit`] as in [`push_label`](Self::push_label).
+    #[inline]
     pub fn raw(&mut self, sequence: &[u8]) -> Result<(), Refusal> {
-        let used = self.used;
-        self.lend(used.with_entry(sequence.len()), |to, _| lent::raw(to, used, sequence)).map(drop)
+        if sequence.is_empty() {
+            return Err(Refusal::EntryShape);
+        }
+        self.push_entry(RAW, sequence)
+    }
+
+    /// Appends data under a label.
+    ///
+    /// # Errors
+    ///
+    /// As [`push_label`](Self::push_label), [`write_data`](Self::write_data) and [`pop_label`](Self::pop_label).
+    #[inline]
+    pub fn write_labeled(&mut self, label: &str, data: impl AsRef<[u8]>) -> Result<(), Refusal> {
+        self.labeled(label, |row| row.write_data(data))
+    }
+
+    /// Puts what `add` adds under a label.
+    ///
+    /// ```
+    /// use ruszvedok::{FormatRecorder, Refusal};
+    ///
+    /// let mut row = FormatRecorder::new();
+    /// row.labeled("board", |row| {
+    ///     write!(row, "oak {} ft ", 12)?;
+    ///     row.write_labeled("grade", "FAS")
+    /// })?;
+    /// let labels: Vec<_> = row.spans().map(|span| span.labels.join(" ")).collect();
+    /// assert_eq!(labels, ["board", "board grade"]);
+    /// # Ok::<(), Refusal>(())
+    /// ```
+    ///
+    /// # Errors
+    ///
+    /// What `add` gives; or as [`push_label`](Self::push_label), for the label or its end. What was added is taken back then.
+    #[inline]
+    pub fn labeled<E: From<Refusal>>(&mut self, label: &str, add: impl FnOnce(&mut Self) -> Result<(), E>) -> Result<(), E> {
+        let before = self.used;
+        self.push_label(label)?;
+        let added = add(self).and_then(|()| Ok(self.pop_label()?));
+        if added.is_err() {
+            self.take_back(before);
+        }
+        added
+    }
+
+    /// Appends another recording.
+    ///
+    /// ```
+    /// use ruszvedok::{FormatRecorder, Refusal};
+    ///
+    /// let (mut row, cell) = (FormatRecorder::with_data("oak ")?, FormatRecorder::with_data("FAS")?);
+    /// row.labeled("grade", |row| row.append(&cell))?;
+    /// assert_eq!(row.data(), b"oak FAS");
+    /// # Ok::<(), Refusal>(())
+    /// ```
+    ///
+    /// # Errors
+    ///
+    /// [`Refusal::ResultOverLimit`] if both together would be over a limit.
+    pub fn append(&mut self, other: &Self) -> Result<(), Refusal> {
+        let View { data, entries, text } = other.view();
+        let end = Used {
+            data: within(self.used.data, data.len(), MAX_DATA)?,
+            entries: within(self.used.entries, entries.len(), MAX_ENTRY_NUMBERS)?,
+            text: within(self.used.text, text.len(), MAX_TEXT)?,
+        };
+        let (data_before, text_before) = (self.used.data as u32, self.used.text as u32);
+        self.truncate();
+        self.data.extend_from_slice(data);
+        self.text.extend_from_slice(text);
+        self.entries.extend(entries.chunks_exact(ENTRY_NUMBERS).flat_map(|entry| {
+            let start = if entry[1] == POP_LABEL { 0 } else { text_before + entry[2] };
+            [data_before + entry[0], entry[1], start, entry[3]]
+        }));
+        self.used = end;
+        Ok(())
+    }
+
+    /// Takes everything out. The buffers are kept.
+    pub fn clear(&mut self) {
+        self.used = Used::default();
+    }
+
+    #[inline]
+    fn push_entry(&mut self, kind: u32, text: &[u8]) -> Result<(), Refusal> {
+        let entries = within(self.used.entries, ENTRY_NUMBERS, MAX_ENTRY_NUMBERS)?;
+        let end = within(self.used.text, text.len(), MAX_TEXT)?;
+        self.entries.truncate(self.used.entries);
+        self.text.truncate(self.used.text);
+        let start = if kind == POP_LABEL { 0 } else { self.used.text as u32 };
+        self.entries.extend_from_slice(&[self.used.data as u32, kind, start, text.len() as u32]);
+        self.text.extend_from_slice(text);
+        self.used = Used { entries, text: end, ..self.used };
+        Ok(())
+    }
+
+    /// Ends the buffers where the recording ends.
+    fn truncate(&mut self) {
+        self.data.truncate(self.used.data);
+        self.entries.truncate(self.used.entries);
+        self.text.truncate(self.used.text);
+    }
+
+    /// Makes the recording as long as it was, unless it was replaced by another one that has no end there.
+    fn take_back(&mut self, before: Used) {
+        let now = self.used;
+        let shorter = before.data > now.data || before.entries > now.entries || before.text > now.text;
+        if shorter {
+            return;
+        }
+        // Positions never fall and texts lie in order: the last entry, and the last one with a text, say where they end.
+        let mut last = self.entries[..before.entries].rchunks_exact(ENTRY_NUMBERS);
+        let position = last.clone().next().map_or(0, |entry| entry[0]);
+        let text = last.find(|entry| entry[1] != POP_LABEL).map_or(0, |entry| entry[2] + entry[3]);
+        if position as usize <= before.data && text as usize <= before.text {
+            self.used = before;
+        }
+    }
+}
+
+/// Reading.
+impl FormatRecorder {
+    /// Whether it has neither data nor entries.
+    #[must_use]
+    pub fn is_empty(&self) -> bool {
+        self.used.data == 0 && self.used.entries == 0
     }
 
     /// The data without labels and raw sequences.
+    #[must_use]
     pub fn data(&self) -> &[u8] {
         &self.data[..self.used.data]
     }
 
     /// The recording as its three slices.
+    #[must_use]
     pub fn view(&self) -> View<'_> {
         View { data: self.data(), entries: &self.entries[..self.used.entries], text: &self.text[..self.used.text] }
     }
@@ -101,18 +305,53 @@ impl FormatRecorder {
     /// The entries with their positions in the data, which never fall.
     pub fn ops(&self) -> impl Iterator<Item = (usize, FormatOp<'_>)> {
         let View { entries, text, .. } = self.view();
-        entries.chunks_exact(4).map(move |entry| {
+        entries.chunks_exact(ENTRY_NUMBERS).map(move |entry| {
             let part = &text[entry[2] as usize..][..entry[3] as usize];
             let op = match entry[1] {
-                0 => FormatOp::PushLabel(std::str::from_utf8(part).expect("the library lets no other label in")),
-                1 => FormatOp::PopLabel,
+                // Neither the type nor the library lets another label in.
+                PUSH_LABEL => FormatOp::PushLabel(std::str::from_utf8(part).unwrap_or_default()),
+                POP_LABEL => FormatOp::PopLabel,
                 _ => FormatOp::RawEscapeSequence(part),
             };
             (entry[0] as usize, op)
         })
     }
 
+    /// The data piece by piece, each with the labels that are open, for printing. Raw sequences are left out.
+    ///
+    /// ```
+    /// use ruszvedok::{FormatRecorder, Refusal};
+    ///
+    /// let mut row = FormatRecorder::with_data("oak ")?;
+    /// row.write_labeled("grade", "FAS")?;
+    /// let spans: Vec<_> = row.spans().map(|span| (span.text(), span.labels)).collect();
+    /// assert_eq!(spans, [("oak ".into(), vec![]), ("FAS".into(), vec!["grade"])]);
+    /// # Ok::<(), Refusal>(())
+    /// ```
+    pub fn spans(&self) -> impl Iterator<Item = Span<'_>> {
+        let (mut at, mut labels, mut ops) = (0, vec![], self.ops());
+        std::iter::from_fn(move || loop {
+            let next = ops.next();
+            let end = next.map_or(self.used.data, |(position, _)| position);
+            let span = (at < end).then(|| Span { data: &self.data[at..end], labels: labels.clone() });
+            at = end;
+            match next {
+                Some((_, FormatOp::PushLabel(label))) => labels.push(label),
+                Some((_, FormatOp::PopLabel)) => drop(labels.pop()),
+                Some((_, FormatOp::RawEscapeSequence(_))) => {}
+                None => return span,
+            }
+            if span.is_some() {
+                return span;
+            }
+        })
+    }
+
     /// Copies the recording into `out`, in place of what it held.
+    ///
+    /// # Errors
+    ///
+    /// None: a recording is within the limits. (The type is that of the other calls.)
     pub fn replay(&self, out: &mut Self) -> Result<(), Refusal> {
         out.copy(self.view())
     }
@@ -123,9 +362,7 @@ impl FormatRecorder {
     /// use ruszvedok::{FormatOp, FormatRecorder, Refusal};
     ///
     /// let mut row = FormatRecorder::with_data("oak ")?;
-    /// row.push_label("grade")?;
-    /// row.write_data(b"FAS")?;
-    /// row.pop_label()?;
+    /// row.write_labeled("grade", "FAS")?;
     /// let mut html = String::new();
     /// row.replay_with(
     ///     &mut html,
@@ -133,7 +370,7 @@ impl FormatRecorder {
     ///         match op {
     ///             FormatOp::PushLabel(label) => *html += &format!("<b class='{label}'>"),
     ///             FormatOp::PopLabel => *html += "</b>",
-    ///             FormatOp::RawEscapeSequence(_) => {}
+    ///             _ => {}
     ///         }
     ///         Ok(())
     ///     },
@@ -142,6 +379,10 @@ impl FormatRecorder {
     /// assert_eq!(html, "oak <b class='grade'>FAS</b>");
     /// # Ok::<(), Refusal>(())
     /// ```
+    ///
+    /// # Errors
+    ///
+    /// The first that one of the two gives.
     pub fn replay_with<F: ?Sized, E>(
         &self,
         formatter: &mut F,
@@ -161,44 +402,99 @@ impl FormatRecorder {
         }
         Ok(())
     }
+}
 
+/// Lending the buffers to the library.
+impl FormatRecorder {
     fn copy(&mut self, content: View<'_>) -> Result<(), Refusal> {
         self.lend(content.used(), |out, _| lent::replay(content, out)).map(drop)
     }
 
+    /// The line list of the last call that wrote one.
+    pub(crate) fn lines(&self, count: usize) -> lent::Lines<'_> {
+        lent::Lines::new(&self.lines, count)
+    }
+
     /// Lends the buffers to a call until they are long enough, and takes over what it leaves. `least` is a guess of what it needs.
-    pub(crate) fn lend(&mut self, least: Used, mut call: impl FnMut(Buffers<'_>, &mut [u32]) -> Answer) -> Result<usize, Refusal> {
+    pub(crate) fn lend(
+        &mut self,
+        least: Used,
+        mut call: impl FnMut(Buffers<'_>, &mut [u32]) -> Result<Done, Refusal>,
+    ) -> Result<usize, Refusal> {
+        lengthen(&mut self.data, least.data, MAX_DATA);
+        lengthen(&mut self.entries, least.entries, MAX_ENTRY_NUMBERS);
+        lengthen(&mut self.text, least.text, MAX_TEXT);
         loop {
             let buffers = Buffers { data: &mut self.data, entries: &mut self.entries, text: &mut self.text };
-            let refusal = match call(buffers, &mut self.lines).done() {
-                Ok(answer) => {
-                    self.used = answer.used();
-                    return Ok(answer.number as usize);
+            let refusal = match call(buffers, &mut self.lines) {
+                Ok(done) => {
+                    self.used = done.used;
+                    return Ok(done.number as usize);
                 }
                 Err(refusal) => refusal,
             };
-            match refusal {
-                Refusal::DataBufferTooShort => grow(&mut self.data, least.data, MAX_DATA),
-                Refusal::EntryBufferTooShort => grow(&mut self.entries, least.entries, 4 * MAX_ENTRIES),
-                Refusal::TextBufferTooShort => grow(&mut self.text, least.text, MAX_TEXT),
-                Refusal::LineListTooShort => grow(&mut self.lines, least.data / 8, 2 * (MAX_DATA + 1)),
-                _ => return Err(refusal),
+            let grown = match refusal {
+                Refusal::DataBufferTooShort => grow(&mut self.data, MAX_DATA),
+                Refusal::EntryBufferTooShort => grow(&mut self.entries, MAX_ENTRY_NUMBERS),
+                Refusal::TextBufferTooShort => grow(&mut self.text, MAX_TEXT),
+                Refusal::LineListTooShort => {
+                    lengthen(&mut self.lines, least.data / 8, MAX_LINE_NUMBERS) || grow(&mut self.lines, MAX_LINE_NUMBERS)
+                }
+                _ => false,
+            };
+            if !grown {
+                return Err(refusal);
             }
         }
     }
 }
 
-/// Doubles a buffer, or makes it `least` long if that is more. Refusal 9 comes before 21 to 24, so none of them comes at the limit.
-pub(crate) fn grow<T: Clone + Default>(buffer: &mut Vec<T>, least: usize, limit: usize) {
-    assert!(buffer.len() < limit, "no result passes the limit");
-    buffer.resize((2 * buffer.len()).max(least).max(16).min(limit), T::default());
+/// The most numbers of a line list: a text of n bytes has at most n + 1 lines.
+pub(crate) const MAX_LINE_NUMBERS: usize = LINE_NUMBERS * (MAX_DATA + 1);
+
+/// The length with so much more, if that is within the limit.
+#[inline]
+fn within(used: usize, more: usize, limit: usize) -> Result<usize, Refusal> {
+    if more > limit - used {
+        return Err(Refusal::ResultOverLimit);
+    }
+    Ok(used + more)
+}
+
+/// Makes a buffer at least this long, and as long as it can be without allocating; false if it is.
+fn lengthen<T: Clone + Default>(buffer: &mut Vec<T>, least: usize, limit: usize) -> bool {
+    let length = least.max(buffer.capacity()).min(limit);
+    let short = buffer.len() < length;
+    if short {
+        buffer.resize(length, T::default());
+    }
+    short
+}
+
+/// Doubles a buffer up to the limit; false if it is that long. (Refusal 9 comes before 21 to 24, so none of them comes then.)
+pub(crate) fn grow<T: Clone + Default>(buffer: &mut Vec<T>, limit: usize) -> bool {
+    lengthen(buffer, (2 * buffer.len()).max(16), limit)
+}
+
+/// Data that is formatted, up to the limit.
+struct Formatted<'a> {
+    data: &'a mut Vec<u8>,
+    refused: bool,
+}
+
+impl fmt::Write for Formatted<'_> {
+    #[inline]
+    fn write_str(&mut self, piece: &str) -> fmt::Result {
+        if within(self.data.len(), piece.len(), MAX_DATA).is_err() {
+            self.refused = true;
+            return Err(fmt::Error);
+        }
+        self.data.extend_from_slice(piece.as_bytes());
+        Ok(())
+    }
 }
 
 impl Used {
-    fn with_entry(self, text: usize) -> Self {
-        Self { entries: self.entries + 4, text: self.text + text, ..self }
-    }
-
     /// Room for a content and a second recording.
     pub(crate) fn and(self, other: Self) -> Self {
         Self { data: self.data + other.data, entries: self.entries + other.entries, text: self.text + other.text }
@@ -222,11 +518,33 @@ impl TryFrom<View<'_>> for FormatRecorder {
     }
 }
 
+/// A text without labels.
+impl TryFrom<&str> for FormatRecorder {
+    type Error = Refusal;
+
+    fn try_from(text: &str) -> Result<Self, Refusal> {
+        Self::with_data(text)
+    }
+}
+
+/// A text without labels.
+impl FromStr for FormatRecorder {
+    type Err = Refusal;
+
+    fn from_str(text: &str) -> Result<Self, Refusal> {
+        Self::with_data(text)
+    }
+}
+
 /// Appends data. A refusal comes as an [`io::Error`] that holds it.
 impl io::Write for FormatRecorder {
     fn write(&mut self, data: &[u8]) -> io::Result<usize> {
         self.write_data(data)?;
         Ok(data.len())
+    }
+
+    fn write_fmt(&mut self, data: fmt::Arguments<'_>) -> io::Result<()> {
+        Ok(Self::write_fmt(self, data)?)
     }
 
     fn flush(&mut self) -> io::Result<()> {

@@ -3,42 +3,47 @@ use std::error::Error;
 use std::fmt;
 use std::io;
 
-/// Why a call was refused; its number is document 01's.
+// ---- written by tools/declarations from the library's sources ----
+
+/// Why a call was refused; the numbers are document 01's.
 #[derive(Clone, Copy, Debug, PartialEq, Eq, Hash)]
+#[non_exhaustive]
 pub enum Refusal {
-    /// Data over its limit.
-    DataTooLong = 1,
-    /// Entry numbers that are not four an entry, or over their limit.
-    EntryNumbers = 2,
-    /// An unknown kind, a pop with a text, a raw sequence without one.
-    EntryShape = 3,
-    /// A position that falls, or beyond the data.
-    EntryPosition = 4,
-    /// Text over its limit, or a part that passes its end.
-    TextPart = 5,
-    /// A label that is not well-formed UTF-8.
-    LabelIllFormed = 6,
-    /// A plain text or ellipsis that is not well-formed UTF-8.
-    TextIllFormed = 7,
-    /// A replacement record out of order or out of range.
-    ReplacementRange = 8,
-    /// A result over a limit of the recording.
-    ResultOverLimit = 9,
-    /// A length above its buffer.
-    LengthOverBuffer = 10,
-    /// The data buffer is too short for the result.
-    DataBufferTooShort = 21,
-    /// The entry buffer is too short for the result.
-    EntryBufferTooShort = 22,
-    /// The text buffer is too short for the result.
-    TextBufferTooShort = 23,
-    /// The line list is too short for the result.
-    LineListTooShort = 24,
+    /// 1: data over its limit.
+    DataTooLong,
+    /// 2: entry numbers that are not four an entry, or over their limit.
+    EntryNumbers,
+    /// 3: an unknown kind, a pop with a text, a raw sequence without one.
+    EntryShape,
+    /// 4: a position that falls, or beyond the data.
+    EntryPosition,
+    /// 5: text over its limit, or a part that passes its end.
+    TextPart,
+    /// 6: a label that is not well-formed UTF-8.
+    LabelIllFormed,
+    /// 7: a plain text or ellipsis that is not well-formed UTF-8.
+    TextIllFormed,
+    /// 8: a replacement record out of order or out of range.
+    ReplacementRange,
+    /// 9: a result over a limit of the recording.
+    ResultOverLimit,
+    /// 10: a length above its buffer.
+    LengthOverBuffer,
+    /// 21: the data buffer is too short for the result.
+    DataBufferTooShort,
+    /// 22: the entry buffer is too short for the result.
+    EntryBufferTooShort,
+    /// 23: the text buffer is too short for the result.
+    TextBufferTooShort,
+    /// 24: the line list is too short for the result.
+    LineListTooShort,
+    /// A number that this version of the crate does not know.
+    Other(u64),
 }
 
 impl Refusal {
-    /// All of them, by their numbers.
-    pub const ALL: [Self; 14] = [
+    /// All known ones, by their numbers.
+    pub const ALL: &'static [Self] = &[
         Self::DataTooLong,
         Self::EntryNumbers,
         Self::EntryShape,
@@ -55,36 +60,65 @@ impl Refusal {
         Self::LineListTooShort,
     ];
 
-    /// Document 01's number.
-    pub fn number(self) -> u64 {
-        self as u64
+    /// Its number.
+    #[must_use]
+    pub const fn number(self) -> u64 {
+        match self {
+            Self::DataTooLong => 1,
+            Self::EntryNumbers => 2,
+            Self::EntryShape => 3,
+            Self::EntryPosition => 4,
+            Self::TextPart => 5,
+            Self::LabelIllFormed => 6,
+            Self::TextIllFormed => 7,
+            Self::ReplacementRange => 8,
+            Self::ResultOverLimit => 9,
+            Self::LengthOverBuffer => 10,
+            Self::DataBufferTooShort => 21,
+            Self::EntryBufferTooShort => 22,
+            Self::TextBufferTooShort => 23,
+            Self::LineListTooShort => 24,
+            Self::Other(number) => number,
+        }
     }
 
-    /// The refusal with this number.
+    /// Why, in words.
+    #[must_use]
+    pub const fn reason(self) -> &'static str {
+        match self {
+            Self::DataTooLong => "data over its limit",
+            Self::EntryNumbers => "entry numbers that are not four an entry, or over their limit",
+            Self::EntryShape => "an unknown kind, a pop with a text, a raw sequence without one",
+            Self::EntryPosition => "a position that falls, or beyond the data",
+            Self::TextPart => "text over its limit, or a part that passes its end",
+            Self::LabelIllFormed => "a label that is not well-formed UTF-8",
+            Self::TextIllFormed => "a plain text or ellipsis that is not well-formed UTF-8",
+            Self::ReplacementRange => "a replacement record out of order or out of range",
+            Self::ResultOverLimit => "a result over a limit of the recording",
+            Self::LengthOverBuffer => "a length above its buffer",
+            Self::DataBufferTooShort => "the data buffer is too short for the result",
+            Self::EntryBufferTooShort => "the entry buffer is too short for the result",
+            Self::TextBufferTooShort => "the text buffer is too short for the result",
+            Self::LineListTooShort => "the line list is too short for the result",
+            Self::Other(_) => "unknown reason",
+        }
+    }
+}
+
+// ---- end of the written part ----
+
+impl Refusal {
+    /// The refusal with this number; 0 is none.
+    #[must_use]
     pub fn from_number(number: u64) -> Option<Self> {
-        Self::ALL.into_iter().find(|refusal| refusal.number() == number)
+        let known = Self::ALL.iter().copied().find(|refusal| refusal.number() == number);
+        (number != 0).then(|| known.unwrap_or(Self::Other(number)))
     }
 }
 
 impl fmt::Display for Refusal {
     fn fmt(&self, f: &mut fmt::Formatter<'_>) -> fmt::Result {
-        let cause = match self {
-            Self::DataTooLong => "data over its limit",
-            Self::EntryNumbers => "entry numbers that are not four an entry, or over their limit",
-            Self::EntryShape => "an entry of unknown kind, a pop with a text, or an empty raw sequence",
-            Self::EntryPosition => "an entry's position falls or is beyond the data",
-            Self::TextPart => "text over its limit, or a part that passes its end",
-            Self::LabelIllFormed => "a label is not well-formed UTF-8",
-            Self::TextIllFormed => "a text or ellipsis is not well-formed UTF-8",
-            Self::ReplacementRange => "a replacement is out of order or out of range",
-            Self::ResultOverLimit => "the result is over a limit",
-            Self::LengthOverBuffer => "a length is above its buffer",
-            Self::DataBufferTooShort => "the data buffer is too short",
-            Self::EntryBufferTooShort => "the entry buffer is too short",
-            Self::TextBufferTooShort => "the text buffer is too short",
-            Self::LineListTooShort => "the line list is too short",
-        };
-        write!(f, "{cause} (refusal {})", self.number())
+        write!(f, "{} (refusal {})", self.reason(), self.number())
     }
 }
 

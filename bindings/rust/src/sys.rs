@@ -1,5 +1,16 @@
 //! The exported functions as they are: a slice is a pointer and its number of elements, `res` five numbers.
-//! `bindings/check_signatures.py` compares them with the signatures in `crates/capi`.
+//! Written by tools/declarations.
+
+/// The most data bytes of a recording; a plain text has the same limit.
+pub const MAX_DATA: usize = 1_048_576;
+/// The most entries of a recording.
+pub const MAX_ENTRIES: usize = 4_096;
+/// The most entry numbers of a recording, four an entry.
+pub const MAX_ENTRY_NUMBERS: usize = 16_384;
+/// The most text bytes of a recording: labels and raw sequences.
+pub const MAX_TEXT: usize = 65_536;
+/// How many numbers a line has in a line list: first and end.
+pub const LINE_NUMBERS: usize = 2;
 
 /// A place in a text, and the width of the part that is kept.
 #[derive(Clone, Copy, Debug, PartialEq, Eq)]
@@ -23,63 +34,67 @@ extern "C" {
     pub fn ruszvedok_write_truncated_start(
         content: *const u8, content_len: usize, entries: *const u32, entries_len: usize, text: *const u8,
         text_len: usize, ellipsis: *const u8, ellipsis_len: usize, ellipsis_entries: *const u32,
-        ellipsis_entries_len: usize, ellipsis_text: *const u8, ellipsis_text_len: usize, max_width: u32, bytes: *mut u8,
-        bytes_len: usize, numbers: *mut u32, numbers_len: usize, texts: *mut u8, texts_len: usize, res: *mut [u64; 5],
+        ellipsis_entries_len: usize, ellipsis_text: *const u8, ellipsis_text_len: usize, max_width: u32,
+        out_data: *mut u8, out_data_len: usize, out_entries: *mut u32, out_entries_len: usize, out_text: *mut u8,
+        out_text_len: usize, res: *mut [u64; 5],
     );
     pub fn ruszvedok_write_truncated_end(
         content: *const u8, content_len: usize, entries: *const u32, entries_len: usize, text: *const u8,
         text_len: usize, ellipsis: *const u8, ellipsis_len: usize, ellipsis_entries: *const u32,
-        ellipsis_entries_len: usize, ellipsis_text: *const u8, ellipsis_text_len: usize, max_width: u32, bytes: *mut u8,
-        bytes_len: usize, numbers: *mut u32, numbers_len: usize, texts: *mut u8, texts_len: usize, res: *mut [u64; 5],
+        ellipsis_entries_len: usize, ellipsis_text: *const u8, ellipsis_text_len: usize, max_width: u32,
+        out_data: *mut u8, out_data_len: usize, out_entries: *mut u32, out_entries_len: usize, out_text: *mut u8,
+        out_text_len: usize, res: *mut [u64; 5],
     );
     pub fn ruszvedok_write_padded_start(
         content: *const u8, content_len: usize, entries: *const u32, entries_len: usize, text: *const u8,
         text_len: usize, fill: *const u8, fill_len: usize, fill_entries: *const u32, fill_entries_len: usize,
-        fill_text: *const u8, fill_text_len: usize, min_width: u32, bytes: *mut u8, bytes_len: usize, numbers: *mut u32,
-        numbers_len: usize, texts: *mut u8, texts_len: usize, res: *mut [u64; 5],
+        fill_text: *const u8, fill_text_len: usize, min_width: u32, out_data: *mut u8, out_data_len: usize,
+        out_entries: *mut u32, out_entries_len: usize, out_text: *mut u8, out_text_len: usize, res: *mut [u64; 5],
     );
     pub fn ruszvedok_write_padded_end(
         content: *const u8, content_len: usize, entries: *const u32, entries_len: usize, text: *const u8,
         text_len: usize, fill: *const u8, fill_len: usize, fill_entries: *const u32, fill_entries_len: usize,
-        fill_text: *const u8, fill_text_len: usize, min_width: u32, bytes: *mut u8, bytes_len: usize, numbers: *mut u32,
-        numbers_len: usize, texts: *mut u8, texts_len: usize, res: *mut [u64; 5],
+        fill_text: *const u8, fill_text_len: usize, min_width: u32, out_data: *mut u8, out_data_len: usize,
+        out_entries: *mut u32, out_entries_len: usize, out_text: *mut u8, out_text_len: usize, res: *mut [u64; 5],
     );
     pub fn ruszvedok_write_padded_centered(
         content: *const u8, content_len: usize, entries: *const u32, entries_len: usize, text: *const u8,
         text_len: usize, fill: *const u8, fill_len: usize, fill_entries: *const u32, fill_entries_len: usize,
-        fill_text: *const u8, fill_text_len: usize, min_width: u32, bytes: *mut u8, bytes_len: usize, numbers: *mut u32,
-        numbers_len: usize, texts: *mut u8, texts_len: usize, res: *mut [u64; 5],
+        fill_text: *const u8, fill_text_len: usize, min_width: u32, out_data: *mut u8, out_data_len: usize,
+        out_entries: *mut u32, out_entries_len: usize, out_text: *mut u8, out_text_len: usize, res: *mut [u64; 5],
     );
     pub fn ruszvedok_write_indented(
         content: *const u8, content_len: usize, entries: *const u32, entries_len: usize, text: *const u8,
         text_len: usize, prefix: *const u8, prefix_len: usize, prefix_entries: *const u32, prefix_entries_len: usize,
-        prefix_text: *const u8, prefix_text_len: usize, bytes: *mut u8, bytes_len: usize, numbers: *mut u32,
-        numbers_len: usize, texts: *mut u8, texts_len: usize, res: *mut [u64; 5],
+        prefix_text: *const u8, prefix_text_len: usize, out_data: *mut u8, out_data_len: usize, out_entries: *mut u32,
+        out_entries_len: usize, out_text: *mut u8, out_text_len: usize, res: *mut [u64; 5],
     );
     pub fn ruszvedok_wrap_bytes(
-        data: *const u8, data_len: usize, width: u32, break_words: bool, lines: *mut u32, lines_len: usize,
+        data: *const u8, data_len: usize, width: u32, break_words: bool, out_lines: *mut u32, out_lines_len: usize,
         res: *mut [u64; 5],
     );
     pub fn ruszvedok_write_wrapped(
         content: *const u8, content_len: usize, entries: *const u32, entries_len: usize, text: *const u8,
-        text_len: usize, width: u32, break_words: bool, bytes: *mut u8, bytes_len: usize, numbers: *mut u32,
-        numbers_len: usize, texts: *mut u8, texts_len: usize, lines: *mut u32, lines_len: usize, res: *mut [u64; 5],
+        text_len: usize, width: u32, break_words: bool, out_data: *mut u8, out_data_len: usize, out_entries: *mut u32,
+        out_entries_len: usize, out_text: *mut u8, out_text_len: usize, out_lines: *mut u32, out_lines_len: usize,
+        res: *mut [u64; 5],
     );
     pub fn ruszvedok_write_replaced(
         content: *const u8, content_len: usize, entries: *const u32, entries_len: usize, text: *const u8,
-        text_len: usize, records: *const u32, records_len: usize, new: *const u8, new_len: usize, bytes: *mut u8,
-        bytes_len: usize, numbers: *mut u32, numbers_len: usize, texts: *mut u8, texts_len: usize, res: *mut [u64; 5],
+        text_len: usize, records: *const u32, records_len: usize, new_text: *const u8, new_text_len: usize,
+        out_data: *mut u8, out_data_len: usize, out_entries: *mut u32, out_entries_len: usize, out_text: *mut u8,
+        out_text_len: usize, res: *mut [u64; 5],
     );
     pub fn ruszvedok_elide_start(
-        text: *const u8, text_len: usize, ellipsis: *const u8, ellipsis_len: usize, max_width: u32, out: *mut u8,
-        out_len: usize, res: *mut [u64; 5],
+        text: *const u8, text_len: usize, ellipsis: *const u8, ellipsis_len: usize, max_width: u32, out_data: *mut u8,
+        out_data_len: usize, res: *mut [u64; 5],
     );
     pub fn ruszvedok_elide_end(
-        text: *const u8, text_len: usize, ellipsis: *const u8, ellipsis_len: usize, max_width: u32, out: *mut u8,
-        out_len: usize, res: *mut [u64; 5],
+        text: *const u8, text_len: usize, ellipsis: *const u8, ellipsis_len: usize, max_width: u32, out_data: *mut u8,
+        out_data_len: usize, res: *mut [u64; 5],
     );
     pub fn ruszvedok_complete_newline(
-        text: *const u8, text_len: usize, out: *mut u8, out_len: usize, res: *mut [u64; 5],
+        text: *const u8, text_len: usize, out_data: *mut u8, out_data_len: usize, res: *mut [u64; 5],
     );
     pub fn ruszvedok_write(
         content: *mut u8, content_room: usize, content_len: usize, entries: *const u32, entries_room: usize,

@@ -1,12 +1,15 @@
 //! The layout calls and the calls on plain texts, with the original's names and order of parameters.
 //!
 //! What a layout call leaves TAKES THE PLACE of what `out` held; the original appends. After a refusal `out` holds what it held.
+//!
+//! # Errors
+//!
 //! Of all refusals these can come: [`Refusal::ResultOverLimit`], [`Refusal::ReplacementRange`] (`write_replaced`) and, for texts that
 //! are no recordings, [`Refusal::DataTooLong`].
 use std::borrow::Cow;
 
-use crate::lent::{self, Answer, Replacement};
-use crate::recorder::{grow, FormatRecorder};
+use crate::lent::{self, Done, Lines, Replacement};
+use crate::recorder::{grow, FormatRecorder, MAX_LINE_NUMBERS};
 use crate::refusal::Refusal;
 use crate::MAX_DATA;
 
@@ -34,6 +37,10 @@ macro_rules! with_second {
 /// assert_eq!(out.data(), b"..ce");
 /// # Ok::<(), Refusal>(())
 /// ```
+///
+/// # Errors
+///
+/// [`Refusal::ResultOverLimit`] if the result would be over a limit.
 pub fn write_truncated_start(
     out: &mut FormatRecorder,
     recorded_content: &FormatRecorder,
@@ -54,6 +61,10 @@ pub fn write_truncated_start(
 /// assert_eq!(out.data(), b"sp..");
 /// # Ok::<(), Refusal>(())
 /// ```
+///
+/// # Errors
+///
+/// [`Refusal::ResultOverLimit`] if the result would be over a limit.
 pub fn write_truncated_end(
     out: &mut FormatRecorder,
     recorded_content: &FormatRecorder,
@@ -74,6 +85,10 @@ pub fn write_truncated_end(
 /// assert_eq!(out.data(), b"...fir");
 /// # Ok::<(), Refusal>(())
 /// ```
+///
+/// # Errors
+///
+/// [`Refusal::ResultOverLimit`] if the result would be over a limit.
 pub fn write_padded_start(
     out: &mut FormatRecorder,
     recorded_content: &FormatRecorder,
@@ -94,6 +109,10 @@ pub fn write_padded_start(
 /// assert_eq!(out.data(), b"fir...");
 /// # Ok::<(), Refusal>(())
 /// ```
+///
+/// # Errors
+///
+/// [`Refusal::ResultOverLimit`] if the result would be over a limit.
 pub fn write_padded_end(
     out: &mut FormatRecorder,
     recorded_content: &FormatRecorder,
@@ -114,6 +133,10 @@ pub fn write_padded_end(
 /// assert_eq!(out.data(), b".fir..");
 /// # Ok::<(), Refusal>(())
 /// ```
+///
+/// # Errors
+///
+/// [`Refusal::ResultOverLimit`] if the result would be over a limit.
 pub fn write_padded_centered(
     out: &mut FormatRecorder,
     recorded_content: &FormatRecorder,
@@ -135,6 +158,10 @@ pub fn write_padded_centered(
 /// assert_eq!(out.data(), b"> a\n\n> b");
 /// # Ok::<(), Refusal>(())
 /// ```
+///
+/// # Errors
+///
+/// [`Refusal::ResultOverLimit`] if the result would be over a limit.
 pub fn write_indented(
     out: &mut FormatRecorder,
     recorded_content: &FormatRecorder,
@@ -143,25 +170,32 @@ pub fn write_indented(
     with_second!(out, write_indented, recorded_content, recorded_prefix).map(drop)
 }
 
-/// Writes the content wrapped at the width, and inside of words that are wider if `break_words`. Returns the number of lines.
+/// Writes the content wrapped at the width, and inside of words that are wider if `break_words`. Returns its lines, as stretches of
+/// the content's data.
 ///
 /// ```
 /// use ruszvedok::{write_wrapped, FormatRecorder, Refusal};
 ///
 /// let row = FormatRecorder::with_data("oak 12 ft b")?;
 /// let mut out = FormatRecorder::new();
-/// assert_eq!(write_wrapped(&mut out, &row, 5, false)?, 3);
+/// let lines: Vec<_> = write_wrapped(&mut out, &row, 5, false)?.map(|line| line.range()).collect();
+/// assert_eq!(lines, [0..3, 4..9, 10..11]);
 /// assert_eq!(out.data(), b"oak\n12 ft\nb");
 /// # Ok::<(), Refusal>(())
 /// ```
-pub fn write_wrapped(
-    out: &mut FormatRecorder,
+///
+/// # Errors
+///
+/// [`Refusal::ResultOverLimit`] if the result would be over a limit.
+pub fn write_wrapped<'a>(
+    out: &'a mut FormatRecorder,
     recorded_content: &FormatRecorder,
     width: usize,
     break_words: bool,
-) -> Result<usize, Refusal> {
+) -> Result<Lines<'a>, Refusal> {
     let content = recorded_content.view();
-    out.lend(content.used(), |out, lines| lent::write_wrapped(content, columns(width), break_words, out, lines))
+    let count = out.lend(content.used(), |out, lines| lent::write_wrapped(content, columns(width), break_words, out, lines))?;
+    Ok(out.lines(count))
 }
 
 /// Writes the content with each record's stretch replaced by its part of `text`, under the labels of the byte at its start. Records are
@@ -178,6 +212,11 @@ pub fn write_wrapped(
 /// assert_eq!(out.data(), b"aXdefY");
 /// # Ok::<(), Refusal>(())
 /// ```
+///
+/// # Errors
+///
+/// [`Refusal::ResultOverLimit`] if the result would be over a limit, [`Refusal::ReplacementRange`] if a record is out of
+/// order or out of range.
 pub fn write_replaced(
     out: &mut FormatRecorder,
     recorded_content: &FormatRecorder,
@@ -197,26 +236,27 @@ pub fn write_replaced(
 /// assert_eq!(wrap_bytes(b"oak 12 ft b", 5, false)?, [&b"oak"[..], b"12 ft", b"b"]);
 /// # Ok::<(), Refusal>(())
 /// ```
+///
+/// # Errors
+///
+/// [`Refusal::DataTooLong`] if the text is over [`MAX_DATA`].
 pub fn wrap_bytes(text: &[u8], width: usize, break_words: bool) -> Result<Vec<&[u8]>, Refusal> {
-    let mut lines = vec![0; text.len() / 8 + 16];
+    let mut list = vec![0; text.len() / 8 + 16];
     loop {
-        match lent::wrap_bytes(text, columns(width), break_words, &mut lines).done() {
-            Ok(answer) => {
-                let line = |ends: &[u32]| &text[ends[0] as usize..ends[1] as usize];
-                return Ok(lines.chunks_exact(2).take(answer.number as usize).map(line).collect());
-            }
-            Err(Refusal::LineListTooShort) => grow(&mut lines, 0, 2 * (MAX_DATA + 1)),
+        match lent::wrap_bytes(text, columns(width), break_words, &mut list) {
+            Ok(done) => return Ok(Lines::new(&list, done.number as usize).map(|line| &text[line.range()]).collect()),
+            Err(Refusal::LineListTooShort) if grow(&mut list, MAX_LINE_NUMBERS) => {}
             Err(refusal) => return Err(refusal),
         }
     }
 }
 
 /// A text of one of the calls on plain texts, in a buffer of the most bytes that it can take.
-fn plain(most: usize, call: impl FnOnce(&mut [u8]) -> Answer) -> Result<(String, usize), Refusal> {
+fn plain(most: usize, call: impl FnOnce(&mut [u8]) -> Result<Done, Refusal>) -> Result<(String, usize), Refusal> {
     let mut out = vec![0; most.min(MAX_DATA)];
-    let answer = call(&mut out).done()?;
-    out.truncate(answer.used().data);
-    Ok((String::from_utf8(out).expect("cut between characters"), answer.number as usize))
+    let done = call(&mut out)?;
+    out.truncate(done.used.data);
+    Ok((String::from_utf8(out).expect("cut between characters"), done.number as usize))
 }
 
 /// The text itself if it is the result.
@@ -235,6 +275,10 @@ fn borrowed<'a>(text: &'a str, (made, width): (String, usize)) -> (Cow<'a, str>,
 /// assert_eq!(elide_start("spruce", "..", 4)?, ("..ce".into(), 4));
 /// # Ok::<(), Refusal>(())
 /// ```
+///
+/// # Errors
+///
+/// [`Refusal::DataTooLong`] if a text is over [`MAX_DATA`], [`Refusal::ResultOverLimit`] if the result would be.
 pub fn elide_start<'a>(text: &'a str, ellipsis: &str, max_width: usize) -> Result<(Cow<'a, str>, usize), Refusal> {
     let call = |out: &mut [u8]| lent::elide_start(text.as_bytes(), ellipsis.as_bytes(), columns(max_width), out);
     Ok(borrowed(text, plain(text.len() + ellipsis.len(), call)?))
@@ -247,6 +291,10 @@ pub fn elide_start<'a>(text: &'a str, ellipsis: &str, max_width: usize) -> Resul
 /// assert_eq!(elide_end("spruce", "..", 4)?, ("sp..".into(), 4));
 /// # Ok::<(), Refusal>(())
 /// ```
+///
+/// # Errors
+///
+/// [`Refusal::DataTooLong`] if a text is over [`MAX_DATA`], [`Refusal::ResultOverLimit`] if the result would be.
 pub fn elide_end<'a>(text: &'a str, ellipsis: &str, max_width: usize) -> Result<(Cow<'a, str>, usize), Refusal> {
     let call = |out: &mut [u8]| lent::elide_end(text.as_bytes(), ellipsis.as_bytes(), columns(max_width), out);
     Ok(borrowed(text, plain(text.len() + ellipsis.len(), call)?))
@@ -259,6 +307,10 @@ pub fn elide_end<'a>(text: &'a str, ellipsis: &str, max_width: usize) -> Result<
 /// assert_eq!(complete_newline("oak")?, "oak\n");
 /// # Ok::<(), Refusal>(())
 /// ```
+///
+/// # Errors
+///
+/// [`Refusal::DataTooLong`] if a text is over [`MAX_DATA`], [`Refusal::ResultOverLimit`] if the result would be.
 pub fn complete_newline(s: impl AsRef<str>) -> Result<String, Refusal> {
     let s = s.as_ref();
     Ok(plain(s.len() + 1, |out| lent::complete_newline(s.as_bytes(), out))?.0)
@@ -270,6 +322,7 @@ pub fn complete_newline(s: impl AsRef<str>) -> Result<String, Refusal> {
 /// # use ruszvedok::trim_start_zero_width_chars;
 /// assert_eq!(trim_start_zero_width_chars("\u{301}a\u{301}"), "a\u{301}");
 /// ```
+#[must_use]
 pub fn trim_start_zero_width_chars(text: &str) -> &str {
     &text[lent::zero_width_len(text.as_bytes())..]
 }
@@ -280,6 +333,7 @@ pub fn trim_start_zero_width_chars(text: &str) -> &str {
 /// # use ruszvedok::text_width;
 /// assert_eq!(text_width("木x".as_bytes()), 3);
 /// ```
+#[must_use]
 pub fn text_width(text: &[u8]) -> usize {
     lent::text_width(text) as usize
 }

@@ -35,8 +35,8 @@ fn c1_to_c7_wrapping() {
     assert_eq!(lines(b"abcde", 2, false), [(0, 5)]);
     assert_eq!(lines(b"ab c", 0, true), [(0, 2), (3, 4)]); // C6
     assert_eq!(lines(b"\xE6\x9C\xA8a", 1, true), [(0, 3), (3, 4)]); // C7
-    assert_eq!(left(|out| write_wrapped(out, &plain("oak 12 ft b"), 5, false)), Ok(("oak\n12 ft\nb".into(), 3)));
-    assert_eq!(left(|out| write_wrapped(out, &plain("abcde"), 2, true)), Ok(("ab\ncd\ne".into(), 3)));
+    assert_eq!(left(|out| Ok(write_wrapped(out, &plain("oak 12 ft b"), 5, false)?.len())), Ok(("oak\n12 ft\nb".into(), 3)));
+    assert_eq!(left(|out| Ok(write_wrapped(out, &plain("abcde"), 2, true)?.len())), Ok(("ab\ncd\ne".into(), 3)));
 }
 
 #[test]
@@ -100,7 +100,8 @@ fn c16_labels() {
     row.pop_label().unwrap();
     row.write_data(b" cd").unwrap();
     let mut out = FormatRecorder::new();
-    assert_eq!(write_wrapped(&mut out, &row, 2, false), Ok(2));
+    let lines: Vec<_> = write_wrapped(&mut out, &row, 2, false).unwrap().map(|line| (line.first, line.end)).collect();
+    assert_eq!(lines, [(0, 2), (3, 5)]);
     assert_eq!(out.data(), b"ab\ncd");
     assert!(out.ops().eq([(0, FormatOp::PushLabel("x")), (2, FormatOp::PopLabel)]));
 }

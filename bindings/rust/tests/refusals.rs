@@ -2,18 +2,22 @@
 use std::io;
 use std::io::Write as _;
 
-use ruszvedok::lent::{self, Answer, Buffers, Replacement, Used, View};
+use ruszvedok::lent::{self, Buffers, Done, Replacement, Used, View};
 use ruszvedok::*;
 
+/// Its number, or 0.
+fn number(answer: Result<Done, Refusal>) -> u64 {
+    answer.err().map_or(0, Refusal::number)
+}
+
 /// Runs a call over buffers of these lengths; after a refusal they must hold what they held.
-fn refused(sizes: (usize, usize, usize), call: impl FnOnce(Buffers) -> Answer) -> u64 {
+fn refused(sizes: (usize, usize, usize), call: impl FnOnce(Buffers) -> Result<Done, Refusal>) -> u64 {
     let (mut data, mut entries, mut text) = (vec![0xA5; sizes.0], vec![7; sizes.1], vec![0xA5; sizes.2]);
     let answer = call(Buffers { data: &mut data, entries: &mut entries, text: &mut text });
-    if answer.refusal != 0 {
-        assert_eq!(answer, Answer { refusal: answer.refusal, ..Answer::default() });
+    if answer.is_err() {
         assert_eq!((data, entries, text), (vec![0xA5; sizes.0], vec![7; sizes.1], vec![0xA5; sizes.2]));
     }
-    answer.refusal
+    number(answer)
 }
 
 const ENOUGH: (usize, usize, usize) = (64, 64, 64);
@@ -50,11 +54,11 @@ fn of_the_buffers() {
     assert_eq!(of((5, 8, 1), 3), 24);
     assert_eq!(of((5, 8, 1), 4), 0);
     let mut lines = [7; 3];
-    assert_eq!((lent::wrap_bytes(b"ab cd", 2, false, &mut lines).refusal, lines), (24, [7; 3]));
+    assert_eq!((number(lent::wrap_bytes(b"ab cd", 2, false, &mut lines)), lines), (24, [7; 3]));
     let mut out = [7; 3];
-    assert_eq!((lent::elide_end(b"spruce", b"..", 4, &mut out).refusal, out), (21, [7; 3]));
-    assert_eq!((lent::elide_start(b"spruce", b"..", 4, &mut out).refusal, out), (21, [7; 3]));
-    assert_eq!((lent::complete_newline(b"fir", &mut out).refusal, out), (21, [7; 3]));
+    assert_eq!((number(lent::elide_end(b"spruce", b"..", 4, &mut out)), out), (21, [7; 3]));
+    assert_eq!((number(lent::elide_start(b"spruce", b"..", 4, &mut out)), out), (21, [7; 3]));
+    assert_eq!((number(lent::complete_newline(b"fir", &mut out)), out), (21, [7; 3]));
 }
 
 #[test]
@@ -87,8 +91,8 @@ fn of_replacements() {
 fn of_plain_texts() {
     let long = "a".repeat(MAX_DATA + 1);
     let mut out = [7; 3];
-    assert_eq!((lent::elide_end(b"\xFF", b"", 1, &mut out).refusal, out), (7, [7; 3]));
-    assert_eq!((lent::complete_newline(b"\xFF", &mut out).refusal, out), (7, [7; 3]));
+    assert_eq!((number(lent::elide_end(b"\xFF", b"", 1, &mut out)), out), (7, [7; 3]));
+    assert_eq!((number(lent::complete_newline(b"\xFF", &mut out)), out), (7, [7; 3]));
     assert_eq!(elide_end(&long, "", 1), Err(Refusal::DataTooLong));
     assert_eq!(elide_start("", &long, 1), Err(Refusal::DataTooLong));
     assert_eq!(wrap_bytes(long.as_bytes(), 1, false), Err(Refusal::DataTooLong));
@@ -102,8 +106,9 @@ fn names_and_numbers() {
     let numbers: Vec<_> = Refusal::ALL.iter().map(|refusal| refusal.number()).collect();
     assert_eq!(numbers, [1, 2, 3, 4, 5, 6, 7, 8, 9, 10, 21, 22, 23, 24]);
     assert!(Refusal::ALL.iter().all(|refusal| Refusal::from_number(refusal.number()) == Some(*refusal)));
-    assert_eq!((Refusal::from_number(0), Refusal::from_number(11)), (None, None));
-    assert_eq!(Refusal::ResultOverLimit.to_string(), "the result is over a limit (refusal 9)");
+    assert_eq!((Refusal::from_number(0), Refusal::from_number(11)), (None, Some(Refusal::Other(11))));
+    assert_eq!(Refusal::ResultOverLimit.to_string(), "a result over a limit of the recording (refusal 9)");
+    assert_eq!(Refusal::Other(11).to_string(), "unknown reason (refusal 11)");
     // As an error of writing it can be taken out again.
     let error: io::Error = FormatRecorder::new().write_all(&vec![0; MAX_DATA + 1]).unwrap_err();
     assert_eq!(error.get_ref().unwrap().downcast_ref(), Some(&Refusal::ResultOverLimit));

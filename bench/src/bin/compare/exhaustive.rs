@@ -3,9 +3,9 @@
 use std::ops::RangeInclusive;
 
 use bench::inputs::Numbers;
-use bench::recordings::{Expected, view};
+use bench::recordings::{Expected, Left, view};
 use oracle::{Entry, Kind, Lists, Recording};
-use ruszvedok::lent::{self, Answer, Buffers, Replacement, View};
+use ruszvedok::lent::{self, Buffers, Replacement, View};
 
 use crate::{complete_newline_of, elide_of, lend, wrap_bytes_of, write_replaced_of, write_wrapped_of};
 
@@ -91,7 +91,7 @@ fn plain_texts() -> impl Iterator<Item = Vec<u8>> {
 pub fn elide(
     numbers: &mut Numbers,
     rust: fn(&str, &str, usize) -> (String, usize),
-    rattle: fn(&[u8], &[u8], u32, &mut [u8]) -> Answer,
+    rattle: fn(&[u8], &[u8], u32, &mut [u8]) -> Left,
 ) -> Checked {
     let mut made = 0;
     for text in plain_texts() {
@@ -163,7 +163,7 @@ pub fn replay(numbers: &mut Numbers) -> Checked {
 pub fn with_second(
     numbers: &mut Numbers,
     rust: fn(&Recording, &Recording, usize) -> (Recording, usize),
-    rattle: fn(View, View, u32, Buffers) -> Answer,
+    rattle: fn(View, View, u32, Buffers) -> Left,
 ) -> Checked {
     let mut made = 0;
     for (content, second) in pairs() {

@@ -1,11 +1,11 @@
 //! Lists of layout calls on one content: each call's content is the result of the last one that was not refused. The original's
 //! recorders go the same way beside it, and both are compared after every call.
 use bench::inputs::{Numbers, damaged};
-use bench::recordings::{Expected, view};
+use bench::recordings::{Answer, Expected, view};
 use bench::room::Room;
 use oracle::original::{self, FormatRecorder};
 use oracle::{Lists, Recording};
-use ruszvedok::lent::{self, Answer};
+use ruszvedok::lent;
 
 use crate::{input, lend_to, numbers_of, records, records_fault, same, wrap_width};
 

@@ -9,10 +9,10 @@ use std::fmt::Debug;
 use std::process::ExitCode;
 
 use bench::inputs::{Numbers, damaged};
-use bench::recordings::{Expected, at_a_limit, content, fault, maybe_damaged, numbers_of, recording, scattered, view, with_added};
+use bench::recordings::{Answer, Expected, Left, at_a_limit, content, fault, maybe_damaged, numbers_of, recording, scattered, view, with_added};
 use bench::room::{LIMITS, Room};
 use oracle::{Lists, Recording};
-use ruszvedok::lent::{self, Answer, Buffers, Place, Replacement, Used, View};
+use ruszvedok::lent::{self, Buffers, Place, Replacement, Used, View};
 
 /// One call on one generated input.
 type Call = fn(&mut Numbers) -> Result<(), String>;
@@ -149,7 +149,7 @@ fn read(mut lists: Lists, numbers: &mut Numbers) -> (Lists, u64, Recording) {
 fn lend(
     numbers: &mut Numbers,
     expected: Expected,
-    mut call: impl FnMut(&mut Room, &mut [u32]) -> Answer,
+    mut call: impl FnMut(&mut Room, &mut [u32]) -> Left,
     input: &dyn Debug,
 ) -> Result<(), String> {
     let (got, _) = lend_to(expected.room(numbers), &expected, &mut call, input)?;
@@ -163,11 +163,11 @@ fn lend(
 fn lend_to(
     sizes: (usize, usize, usize, usize),
     expected: &Expected,
-    call: impl FnOnce(&mut Room, &mut [u32]) -> Answer,
+    call: impl FnOnce(&mut Room, &mut [u32]) -> Left,
     input: &dyn Debug,
 ) -> Result<(Answer, Room), String> {
     let (mut room, mut lines) = (Room::of(sizes.0, sizes.1, sizes.2), vec![0xA5A5_A5A5; sizes.3]);
-    let got = call(&mut room, &mut lines);
+    let got = Answer::from(call(&mut room, &mut lines));
     REFUSED.with(|n| n.set(n.get() + (got.refusal != 0) as u64));
     expected.check(got, &room, &lines).map_err(|e| format!("{e} on {input:x?}, buffers of {sizes:?}"))?;
     Ok((got, room))
@@ -189,7 +189,7 @@ fn replay(numbers: &mut Numbers) -> Result<(), String> {
 fn with_second(
     numbers: &mut Numbers,
     rust: fn(&Recording, &Recording, usize) -> (Recording, usize),
-    rattle: fn(View, View, u32, Buffers) -> Answer,
+    rattle: fn(View, View, u32, Buffers) -> Left,
     any: bool,
 ) -> Result<(), String> {
     let (lists, fault, content) = input(numbers, 8);
@@ -324,7 +324,7 @@ fn plain(numbers: &mut Numbers) -> Vec<u8> {
 fn elide(
     numbers: &mut Numbers,
     rust: fn(&str, &str, usize) -> (String, usize),
-    rattle: fn(&[u8], &[u8], u32, &mut [u8]) -> Answer,
+    rattle: fn(&[u8], &[u8], u32, &mut [u8]) -> Left,
 ) -> Result<(), String> {
     let (text, ellipsis) = (plain(numbers), if numbers.within(0, 2) == 0 { b"..".to_vec() } else { plain(numbers) });
     let width = match numbers.within(0, 39) {
@@ -339,7 +339,7 @@ fn elide_of(
     ellipsis: &[u8],
     width: usize,
     rust: fn(&str, &str, usize) -> (String, usize),
-    rattle: fn(&[u8], &[u8], u32, &mut [u8]) -> Answer,
+    rattle: fn(&[u8], &[u8], u32, &mut [u8]) -> Left,
     numbers: &mut Numbers,
 ) -> Result<(), String> {
     let (fault, (result, number)) = match (std::str::from_utf8(text), std::str::from_utf8(ellipsis)) {
@@ -380,12 +380,12 @@ fn adding(numbers: &mut Numbers, kind: u64) -> Result<(), String> {
     room.entries[..used.entries].copy_from_slice(&lists.entries);
     room.text[..used.text].copy_from_slice(&lists.text);
     let before = room.clone();
-    let got = match kind {
+    let got = Answer::from(match kind {
         0 => lent::write(room.lent(), used, &added),
         1 => lent::push_label(room.lent(), used, &added),
         2 => lent::pop_label(room.lent(), used),
         _ => lent::raw(room.lent(), used, &added),
-    };
+    });
     REFUSED.with(|n| n.set(n.get() + (got.refusal != 0) as u64));
     if got.refusal != 0 {
         same((&before.data, &before.entries, &before.text), (&room.data, &room.entries, &room.text), &(&lists, &added))?;

@@ -23,6 +23,7 @@ fn read(recorder: &FormatRecorder) -> Recording {
         FormatOp::PushLabel(label) => Entry { at, kind: Kind::Push, text: label.into() },
         FormatOp::PopLabel => Entry { at, kind: Kind::Pop, text: vec![] },
         FormatOp::RawEscapeSequence(sequence) => Entry { at, kind: Kind::Raw, text: sequence.to_vec() },
+        _ => unreachable!("a recording has no other entries"),
     };
     Recording { data: recorder.data().to_vec(), entries: recorder.ops().map(entry).collect() }
 }
@@ -68,7 +69,7 @@ impl Sides {
             3 => write_padded_end(out, ours, &our_second, width).map(|()| 0),
             4 => write_padded_centered(out, ours, &our_second, width).map(|()| 0),
             5 => write_indented(out, ours, &our_second).map(|()| 0),
-            6 => write_wrapped(out, ours, wrap_width, break_words),
+            6 => write_wrapped(out, ours, wrap_width, break_words).map(|lines| lines.len()),
             7 => write_replaced(out, ours, &records, &text).map(|()| 0),
             _ => ours.replay(out).map(|()| 0),
         };

@@ -1,3 +1,4 @@
+-- Written by tools/declarations.
 -- The exported call keeps the contract of the call behind it: the table that it makes is `leadTable`, by computing.
 use borrow.Author.Needs.{needs}
 use Rattle.chars.specs.Leads.{leadTable}
@@ -12,4 +13,5 @@ returns : tie.Need-returns
 returns c = search needs
 
 pub ruszvedok-truncate-end-pos-spec : {M : Type 1} → statement M
-ruszvedok-truncate-end-pos-spec = tie.close (tie.spec truncate-end-pos-requires returns)
+ruszvedok-truncate-end-pos-spec =
+    tie.close (tie.spec truncate-end-pos-requires returns)

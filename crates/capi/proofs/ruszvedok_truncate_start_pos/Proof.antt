@@ -1,3 +1,4 @@
+-- Written by tools/declarations.
 -- The exported call keeps the contract of the call behind it: the table that it makes is `leadTable`, by computing, and the total is the width that was just measured.
 use borrow.Author.Needs.{needs}
 use Rattle.chars.specs.Leads.{leadTable}
@@ -16,4 +17,5 @@ returns : tie.Need-returns
 returns c = search needs
 
 pub ruszvedok-truncate-start-pos-spec : {M : Type 1} → statement M
-ruszvedok-truncate-start-pos-spec = tie.close (tie.spec text-width-requires truncate-start-pos-requires returns)
+ruszvedok-truncate-start-pos-spec =
+    tie.close (tie.spec text-width-requires truncate-start-pos-requires returns)

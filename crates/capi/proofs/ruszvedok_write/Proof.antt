@@ -1,3 +1,4 @@
+-- Written by tools/declarations.
 -- The exported call keeps the contract of the call behind it, whose answer `store` turns into five numbers.
 use mathlib.Core.Path.{_∙_, ap}
 use borrow.Author.Needs.{needs}
@@ -20,4 +21,5 @@ returns c =
     (c .store .ensures ∙ ap five (k .ensures .0), k .ensures .1)
 
 pub ruszvedok-write-spec : {M : Type 1} → statement M
-ruszvedok-write-spec = tie.close (tie.spec write-requires store-requires same-length returns)
+ruszvedok-write-spec =
+    tie.close (tie.spec write-requires store-requires same-length returns)
