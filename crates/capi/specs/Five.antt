@@ -1,7 +1,19 @@
--- How an answer crosses the boundary: its five numbers in a row.
+-- How an answer crosses the boundary: its five numbers in a row; and what a C name then promises.
 use Prim.Native.Nat.{ℕ}
+use mathlib.Core.Path.{_≡_}
 use mathlib.Core.List.{List, [], _∷_}
-use Rattle.recording.specs.Outcome.{Returned}
+use Rattle.recording.specs.Recording.{Recording}
+use Rattle.recording.specs.Outcome.{Outcome, Lent, lentAfter, Returned, returned}
+use Rattle.layout.specs.Layout.{Job, outcome}
+use Rattle.layout.specs.Lent.{callIn}
 
 unfoldable pub five : Returned → List ℕ
 five r = r .refusal ∷ r .dataBytes ∷ r .entryNumbers ∷ r .text ∷ r .number ∷ []
+
+-- the promise of a call with this outcome, its answer as numbers in `res`
+abbrev pub PromisedNumbers : Outcome → Lent → Lent → List ℕ → Type 0
+PromisedNumbers x before after res = (res ≡ five (returned x)) × (after ≡ lentAfter x before)
+
+-- that of a layout call
+abbrev pub LeavesNumbers : Job → Recording → Lent → Lent → List ℕ → Type 0
+LeavesNumbers j r b b′ res = PromisedNumbers (outcome (callIn j b) r) b b′ res

@@ -1,6 +1,7 @@
 // The library's calls for Rust and C: each under the name that the archive gives it, with the contract of the call behind it.
 // A slice passes as a pointer and its number of elements.
-// A call on recordings takes its content, then what else it reads, its numbers, and last the lent buffers; none may overlap another. `res` gets five numbers: the refusal or 0, the lengths of data, entry numbers and text that were left, and the call's number.
+// A call on recordings takes its content, then what else it reads, its numbers, and last the lent buffers; none may overlap another.
+// `res` gets five numbers: the refusal or 0, the lengths of data, entry numbers and text that were left, and the call's number.
 use chars::LEADS;
 use chars::text_width;
 use chars::truncate_end_pos;
@@ -31,15 +32,14 @@ ghost use lib.ListN.{length};
 ghost use Rattle.chars.specs.Chars.{textWidth, wellFormed};
 ghost use Rattle.chars.specs.Cut.{truncateEndPos, truncateEndWidth, truncateStartPos, truncateStartWidth, zeroWidthLen};
 ghost use Rattle.recording.specs.Recording.{recording};
-ghost use Rattle.recording.specs.Outcome.{answerOf, returned, lentAfter};
+ghost use Rattle.recording.specs.Outcome.{answerOf};
 ghost use Rattle.recorder.specs.Recorder.{replayed, written, pushed, popped, rawAdded};
-ghost use Rattle.layout.specs.Layout.{truncateStart, truncateEnd, padStart, padEnd, padCentered, indent, wrap, replace, outcome};
-ghost use Rattle.layout.specs.Lent.{lentOf, callOn};
+ghost use Rattle.layout.specs.Layout.{truncateStart, truncateEnd, padStart, padEnd, padCentered, indent, wrap, replace};
+ghost use Rattle.layout.specs.Lent.{lentOf, lentLined};
 ghost use Rattle.wrap_lines.specs.WrapBytes.{lentLines, wrapBytesOutcome};
-ghost use Rattle.wrap.specs.Plan.{lentLined, callLined};
 ghost use Rattle.replace.specs.Records.{recordsOf};
 ghost use Rattle.elide.specs.Elide.{lent, elideEndOutcome, elideStartOutcome, completeNewlineOutcome};
-ghost use Rattle.capi.specs.Five.{five};
+ghost use Rattle.capi.specs.Five.{five, PromisedNumbers, LeavesNumbers};
 
 // The width of a text.
 #[no_mangle]
@@ -132,8 +132,10 @@ pub extern "C" fn ruszvedok_replay(
     out_text: &mut [u8],
     res: &mut [u64; 5],
 )
-    ensures { λ _. ⌜ now (res .exit) ≡ five (returned (replayed (recording (now (content .entry)) (now (entries .entry)) (now (text .entry))) (lentOf (now («out_data» .entry)) (now («out_entries» .entry)) (now («out_text» .entry))))) ⌝ }
-    ensures { λ _. ⌜ lentOf (now («out_data» .exit)) (now («out_entries» .exit)) (now («out_text» .exit)) ≡ lentAfter (replayed (recording (now (content .entry)) (now (entries .entry)) (now (text .entry))) (lentOf (now («out_data» .entry)) (now («out_entries» .entry)) (now («out_text» .entry)))) (lentOf (now («out_data» .entry)) (now («out_entries» .entry)) (now («out_text» .entry))) ⌝ }
+    ensures { λ _. ⌜ PromisedNumbers
+        (replayed (recording (now (content .entry)) (now (entries .entry)) (now (text .entry))) (lentOf (now («out_data» .entry)) (now («out_entries» .entry)) (now («out_text» .entry))))
+        (lentOf (now («out_data» .entry)) (now («out_entries» .entry)) (now («out_text» .entry)))
+        (lentOf (now («out_data» .exit)) (now («out_entries» .exit)) (now («out_text» .exit))) (now (res .exit)) ⌝ }
 {
     let a = replay(content, entries, text, out_data, out_entries, out_text);
     store(a, res);
@@ -154,10 +156,9 @@ pub extern "C" fn ruszvedok_write_truncated_start(
     texts: &mut [u8],
     res: &mut [u64; 5],
 )
-    ensures { λ _. ⌜ now (res .exit) ≡ five (returned (outcome (callOn (truncateStart «max_width» (recording (now (ellipsis .entry)) (now («ellipsis_entries» .entry)) (now («ellipsis_text» .entry)))) (now (bytes .entry)) (now (numbers .entry)) (now (texts .entry))) (recording (now (content .entry)) (now (entries .entry)) (now (text .entry))))) ⌝ }
-    ensures { λ _. ⌜ now (bytes .exit) ≡ lentAfter (outcome (callOn (truncateStart «max_width» (recording (now (ellipsis .entry)) (now («ellipsis_entries» .entry)) (now («ellipsis_text» .entry)))) (now (bytes .entry)) (now (numbers .entry)) (now (texts .entry))) (recording (now (content .entry)) (now (entries .entry)) (now (text .entry)))) (lentOf (now (bytes .entry)) (now (numbers .entry)) (now (texts .entry))) .dataBytes ⌝ }
-    ensures { λ _. ⌜ now (numbers .exit) ≡ lentAfter (outcome (callOn (truncateStart «max_width» (recording (now (ellipsis .entry)) (now («ellipsis_entries» .entry)) (now («ellipsis_text» .entry)))) (now (bytes .entry)) (now (numbers .entry)) (now (texts .entry))) (recording (now (content .entry)) (now (entries .entry)) (now (text .entry)))) (lentOf (now (bytes .entry)) (now (numbers .entry)) (now (texts .entry))) .entryNumbers ⌝ }
-    ensures { λ _. ⌜ now (texts .exit) ≡ lentAfter (outcome (callOn (truncateStart «max_width» (recording (now (ellipsis .entry)) (now («ellipsis_entries» .entry)) (now («ellipsis_text» .entry)))) (now (bytes .entry)) (now (numbers .entry)) (now (texts .entry))) (recording (now (content .entry)) (now (entries .entry)) (now (text .entry)))) (lentOf (now (bytes .entry)) (now (numbers .entry)) (now (texts .entry))) .text ⌝ }
+    ensures { λ _. ⌜ LeavesNumbers (truncateStart «max_width» (recording (now (ellipsis .entry)) (now («ellipsis_entries» .entry)) (now («ellipsis_text» .entry))))
+        (recording (now (content .entry)) (now (entries .entry)) (now (text .entry)))
+        (lentOf (now (bytes .entry)) (now (numbers .entry)) (now (texts .entry))) (lentOf (now (bytes .exit)) (now (numbers .exit)) (now (texts .exit))) (now (res .exit)) ⌝ }
 {
     let a = write_truncated_start(
         content,
@@ -189,10 +190,9 @@ pub extern "C" fn ruszvedok_write_truncated_end(
     texts: &mut [u8],
     res: &mut [u64; 5],
 )
-    ensures { λ _. ⌜ now (res .exit) ≡ five (returned (outcome (callOn (truncateEnd «max_width» (recording (now (ellipsis .entry)) (now («ellipsis_entries» .entry)) (now («ellipsis_text» .entry)))) (now (bytes .entry)) (now (numbers .entry)) (now (texts .entry))) (recording (now (content .entry)) (now (entries .entry)) (now (text .entry))))) ⌝ }
-    ensures { λ _. ⌜ now (bytes .exit) ≡ lentAfter (outcome (callOn (truncateEnd «max_width» (recording (now (ellipsis .entry)) (now («ellipsis_entries» .entry)) (now («ellipsis_text» .entry)))) (now (bytes .entry)) (now (numbers .entry)) (now (texts .entry))) (recording (now (content .entry)) (now (entries .entry)) (now (text .entry)))) (lentOf (now (bytes .entry)) (now (numbers .entry)) (now (texts .entry))) .dataBytes ⌝ }
-    ensures { λ _. ⌜ now (numbers .exit) ≡ lentAfter (outcome (callOn (truncateEnd «max_width» (recording (now (ellipsis .entry)) (now («ellipsis_entries» .entry)) (now («ellipsis_text» .entry)))) (now (bytes .entry)) (now (numbers .entry)) (now (texts .entry))) (recording (now (content .entry)) (now (entries .entry)) (now (text .entry)))) (lentOf (now (bytes .entry)) (now (numbers .entry)) (now (texts .entry))) .entryNumbers ⌝ }
-    ensures { λ _. ⌜ now (texts .exit) ≡ lentAfter (outcome (callOn (truncateEnd «max_width» (recording (now (ellipsis .entry)) (now («ellipsis_entries» .entry)) (now («ellipsis_text» .entry)))) (now (bytes .entry)) (now (numbers .entry)) (now (texts .entry))) (recording (now (content .entry)) (now (entries .entry)) (now (text .entry)))) (lentOf (now (bytes .entry)) (now (numbers .entry)) (now (texts .entry))) .text ⌝ }
+    ensures { λ _. ⌜ LeavesNumbers (truncateEnd «max_width» (recording (now (ellipsis .entry)) (now («ellipsis_entries» .entry)) (now («ellipsis_text» .entry))))
+        (recording (now (content .entry)) (now (entries .entry)) (now (text .entry)))
+        (lentOf (now (bytes .entry)) (now (numbers .entry)) (now (texts .entry))) (lentOf (now (bytes .exit)) (now (numbers .exit)) (now (texts .exit))) (now (res .exit)) ⌝ }
 {
     let a = write_truncated_end(
         content,
@@ -224,10 +224,9 @@ pub extern "C" fn ruszvedok_write_padded_start(
     texts: &mut [u8],
     res: &mut [u64; 5],
 )
-    ensures { λ _. ⌜ now (res .exit) ≡ five (returned (outcome (callOn (padStart «min_width» (recording (now (fill .entry)) (now («fill_entries» .entry)) (now («fill_text» .entry)))) (now (bytes .entry)) (now (numbers .entry)) (now (texts .entry))) (recording (now (content .entry)) (now (entries .entry)) (now (text .entry))))) ⌝ }
-    ensures { λ _. ⌜ now (bytes .exit) ≡ lentAfter (outcome (callOn (padStart «min_width» (recording (now (fill .entry)) (now («fill_entries» .entry)) (now («fill_text» .entry)))) (now (bytes .entry)) (now (numbers .entry)) (now (texts .entry))) (recording (now (content .entry)) (now (entries .entry)) (now (text .entry)))) (lentOf (now (bytes .entry)) (now (numbers .entry)) (now (texts .entry))) .dataBytes ⌝ }
-    ensures { λ _. ⌜ now (numbers .exit) ≡ lentAfter (outcome (callOn (padStart «min_width» (recording (now (fill .entry)) (now («fill_entries» .entry)) (now («fill_text» .entry)))) (now (bytes .entry)) (now (numbers .entry)) (now (texts .entry))) (recording (now (content .entry)) (now (entries .entry)) (now (text .entry)))) (lentOf (now (bytes .entry)) (now (numbers .entry)) (now (texts .entry))) .entryNumbers ⌝ }
-    ensures { λ _. ⌜ now (texts .exit) ≡ lentAfter (outcome (callOn (padStart «min_width» (recording (now (fill .entry)) (now («fill_entries» .entry)) (now («fill_text» .entry)))) (now (bytes .entry)) (now (numbers .entry)) (now (texts .entry))) (recording (now (content .entry)) (now (entries .entry)) (now (text .entry)))) (lentOf (now (bytes .entry)) (now (numbers .entry)) (now (texts .entry))) .text ⌝ }
+    ensures { λ _. ⌜ LeavesNumbers (padStart «min_width» (recording (now (fill .entry)) (now («fill_entries» .entry)) (now («fill_text» .entry))))
+        (recording (now (content .entry)) (now (entries .entry)) (now (text .entry)))
+        (lentOf (now (bytes .entry)) (now (numbers .entry)) (now (texts .entry))) (lentOf (now (bytes .exit)) (now (numbers .exit)) (now (texts .exit))) (now (res .exit)) ⌝ }
 {
     let a = write_padded_start(
         content,
@@ -259,10 +258,9 @@ pub extern "C" fn ruszvedok_write_padded_end(
     texts: &mut [u8],
     res: &mut [u64; 5],
 )
-    ensures { λ _. ⌜ now (res .exit) ≡ five (returned (outcome (callOn (padEnd «min_width» (recording (now (fill .entry)) (now («fill_entries» .entry)) (now («fill_text» .entry)))) (now (bytes .entry)) (now (numbers .entry)) (now (texts .entry))) (recording (now (content .entry)) (now (entries .entry)) (now (text .entry))))) ⌝ }
-    ensures { λ _. ⌜ now (bytes .exit) ≡ lentAfter (outcome (callOn (padEnd «min_width» (recording (now (fill .entry)) (now («fill_entries» .entry)) (now («fill_text» .entry)))) (now (bytes .entry)) (now (numbers .entry)) (now (texts .entry))) (recording (now (content .entry)) (now (entries .entry)) (now (text .entry)))) (lentOf (now (bytes .entry)) (now (numbers .entry)) (now (texts .entry))) .dataBytes ⌝ }
-    ensures { λ _. ⌜ now (numbers .exit) ≡ lentAfter (outcome (callOn (padEnd «min_width» (recording (now (fill .entry)) (now («fill_entries» .entry)) (now («fill_text» .entry)))) (now (bytes .entry)) (now (numbers .entry)) (now (texts .entry))) (recording (now (content .entry)) (now (entries .entry)) (now (text .entry)))) (lentOf (now (bytes .entry)) (now (numbers .entry)) (now (texts .entry))) .entryNumbers ⌝ }
-    ensures { λ _. ⌜ now (texts .exit) ≡ lentAfter (outcome (callOn (padEnd «min_width» (recording (now (fill .entry)) (now («fill_entries» .entry)) (now («fill_text» .entry)))) (now (bytes .entry)) (now (numbers .entry)) (now (texts .entry))) (recording (now (content .entry)) (now (entries .entry)) (now (text .entry)))) (lentOf (now (bytes .entry)) (now (numbers .entry)) (now (texts .entry))) .text ⌝ }
+    ensures { λ _. ⌜ LeavesNumbers (padEnd «min_width» (recording (now (fill .entry)) (now («fill_entries» .entry)) (now («fill_text» .entry))))
+        (recording (now (content .entry)) (now (entries .entry)) (now (text .entry)))
+        (lentOf (now (bytes .entry)) (now (numbers .entry)) (now (texts .entry))) (lentOf (now (bytes .exit)) (now (numbers .exit)) (now (texts .exit))) (now (res .exit)) ⌝ }
 {
     let a = write_padded_end(
         content,
@@ -294,10 +292,9 @@ pub extern "C" fn ruszvedok_write_padded_centered(
     texts: &mut [u8],
     res: &mut [u64; 5],
 )
-    ensures { λ _. ⌜ now (res .exit) ≡ five (returned (outcome (callOn (padCentered «min_width» (recording (now (fill .entry)) (now («fill_entries» .entry)) (now («fill_text» .entry)))) (now (bytes .entry)) (now (numbers .entry)) (now (texts .entry))) (recording (now (content .entry)) (now (entries .entry)) (now (text .entry))))) ⌝ }
-    ensures { λ _. ⌜ now (bytes .exit) ≡ lentAfter (outcome (callOn (padCentered «min_width» (recording (now (fill .entry)) (now («fill_entries» .entry)) (now («fill_text» .entry)))) (now (bytes .entry)) (now (numbers .entry)) (now (texts .entry))) (recording (now (content .entry)) (now (entries .entry)) (now (text .entry)))) (lentOf (now (bytes .entry)) (now (numbers .entry)) (now (texts .entry))) .dataBytes ⌝ }
-    ensures { λ _. ⌜ now (numbers .exit) ≡ lentAfter (outcome (callOn (padCentered «min_width» (recording (now (fill .entry)) (now («fill_entries» .entry)) (now («fill_text» .entry)))) (now (bytes .entry)) (now (numbers .entry)) (now (texts .entry))) (recording (now (content .entry)) (now (entries .entry)) (now (text .entry)))) (lentOf (now (bytes .entry)) (now (numbers .entry)) (now (texts .entry))) .entryNumbers ⌝ }
-    ensures { λ _. ⌜ now (texts .exit) ≡ lentAfter (outcome (callOn (padCentered «min_width» (recording (now (fill .entry)) (now («fill_entries» .entry)) (now («fill_text» .entry)))) (now (bytes .entry)) (now (numbers .entry)) (now (texts .entry))) (recording (now (content .entry)) (now (entries .entry)) (now (text .entry)))) (lentOf (now (bytes .entry)) (now (numbers .entry)) (now (texts .entry))) .text ⌝ }
+    ensures { λ _. ⌜ LeavesNumbers (padCentered «min_width» (recording (now (fill .entry)) (now («fill_entries» .entry)) (now («fill_text» .entry))))
+        (recording (now (content .entry)) (now (entries .entry)) (now (text .entry)))
+        (lentOf (now (bytes .entry)) (now (numbers .entry)) (now (texts .entry))) (lentOf (now (bytes .exit)) (now (numbers .exit)) (now (texts .exit))) (now (res .exit)) ⌝ }
 {
     let a = write_padded_centered(
         content,
@@ -328,10 +325,9 @@ pub extern "C" fn ruszvedok_write_indented(
     texts: &mut [u8],
     res: &mut [u64; 5],
 )
-    ensures { λ _. ⌜ now (res .exit) ≡ five (returned (outcome (callOn (indent (recording (now (prefix .entry)) (now («prefix_entries» .entry)) (now («prefix_text» .entry)))) (now (bytes .entry)) (now (numbers .entry)) (now (texts .entry))) (recording (now (content .entry)) (now (entries .entry)) (now (text .entry))))) ⌝ }
-    ensures { λ _. ⌜ now (bytes .exit) ≡ lentAfter (outcome (callOn (indent (recording (now (prefix .entry)) (now («prefix_entries» .entry)) (now («prefix_text» .entry)))) (now (bytes .entry)) (now (numbers .entry)) (now (texts .entry))) (recording (now (content .entry)) (now (entries .entry)) (now (text .entry)))) (lentOf (now (bytes .entry)) (now (numbers .entry)) (now (texts .entry))) .dataBytes ⌝ }
-    ensures { λ _. ⌜ now (numbers .exit) ≡ lentAfter (outcome (callOn (indent (recording (now (prefix .entry)) (now («prefix_entries» .entry)) (now («prefix_text» .entry)))) (now (bytes .entry)) (now (numbers .entry)) (now (texts .entry))) (recording (now (content .entry)) (now (entries .entry)) (now (text .entry)))) (lentOf (now (bytes .entry)) (now (numbers .entry)) (now (texts .entry))) .entryNumbers ⌝ }
-    ensures { λ _. ⌜ now (texts .exit) ≡ lentAfter (outcome (callOn (indent (recording (now (prefix .entry)) (now («prefix_entries» .entry)) (now («prefix_text» .entry)))) (now (bytes .entry)) (now (numbers .entry)) (now (texts .entry))) (recording (now (content .entry)) (now (entries .entry)) (now (text .entry)))) (lentOf (now (bytes .entry)) (now (numbers .entry)) (now (texts .entry))) .text ⌝ }
+    ensures { λ _. ⌜ LeavesNumbers (indent (recording (now (prefix .entry)) (now («prefix_entries» .entry)) (now («prefix_text» .entry))))
+        (recording (now (content .entry)) (now (entries .entry)) (now (text .entry)))
+        (lentOf (now (bytes .entry)) (now (numbers .entry)) (now (texts .entry))) (lentOf (now (bytes .exit)) (now (numbers .exit)) (now (texts .exit))) (now (res .exit)) ⌝ }
 {
     let a = write_indented(
         content,
@@ -356,8 +352,8 @@ pub extern "C" fn ruszvedok_wrap_bytes(
     lines: &mut [u32],
     res: &mut [u64; 5],
 )
-    ensures { λ _. ⌜ now (res .exit) ≡ five (returned (wrapBytesOutcome width «break_words» (now («data» .entry)) (length (now (lines .entry))))) ⌝ }
-    ensures { λ _. ⌜ now (lines .exit) ≡ lentAfter (wrapBytesOutcome width «break_words» (now («data» .entry)) (length (now (lines .entry)))) (lentLines (now (lines .entry))) .lines ⌝ }
+    ensures { λ _. ⌜ PromisedNumbers (wrapBytesOutcome width «break_words» (now («data» .entry)) (length (now (lines .entry))))
+        (lentLines (now (lines .entry))) (lentLines (now (lines .exit))) (now (res .exit)) ⌝ }
 {
     let a = wrap_bytes(data, width, break_words, lines);
     store(a, res);
@@ -377,8 +373,9 @@ pub extern "C" fn ruszvedok_write_wrapped(
     lines: &mut [u32],
     res: &mut [u64; 5],
 )
-    ensures { λ _. ⌜ now (res .exit) ≡ five (returned (outcome (callLined (wrap width «break_words») (now (bytes .entry)) (now (numbers .entry)) (now (texts .entry)) (now (lines .entry))) (recording (now (content .entry)) (now (entries .entry)) (now (text .entry))))) ⌝ }
-    ensures { λ _. ⌜ lentLined (now (bytes .exit)) (now (numbers .exit)) (now (texts .exit)) (now (lines .exit)) ≡ lentAfter (outcome (callLined (wrap width «break_words») (now (bytes .entry)) (now (numbers .entry)) (now (texts .entry)) (now (lines .entry))) (recording (now (content .entry)) (now (entries .entry)) (now (text .entry)))) (lentLined (now (bytes .entry)) (now (numbers .entry)) (now (texts .entry)) (now (lines .entry))) ⌝ }
+    ensures { λ _. ⌜ LeavesNumbers (wrap width «break_words») (recording (now (content .entry)) (now (entries .entry)) (now (text .entry)))
+        (lentLined (now (bytes .entry)) (now (numbers .entry)) (now (texts .entry)) (now (lines .entry)))
+        (lentLined (now (bytes .exit)) (now (numbers .exit)) (now (texts .exit)) (now (lines .exit))) (now (res .exit)) ⌝ }
 {
     let a = write_wrapped(
         content,
@@ -407,10 +404,8 @@ pub extern "C" fn ruszvedok_write_replaced(
     texts: &mut [u8],
     res: &mut [u64; 5],
 )
-    ensures { λ _. ⌜ now (res .exit) ≡ five (returned (outcome (callOn (replace (recordsOf (now (records .entry))) (now (new .entry))) (now (bytes .entry)) (now (numbers .entry)) (now (texts .entry))) (recording (now (content .entry)) (now (entries .entry)) (now (text .entry))))) ⌝ }
-    ensures { λ _. ⌜ now (bytes .exit) ≡ lentAfter (outcome (callOn (replace (recordsOf (now (records .entry))) (now (new .entry))) (now (bytes .entry)) (now (numbers .entry)) (now (texts .entry))) (recording (now (content .entry)) (now (entries .entry)) (now (text .entry)))) (lentOf (now (bytes .entry)) (now (numbers .entry)) (now (texts .entry))) .dataBytes ⌝ }
-    ensures { λ _. ⌜ now (numbers .exit) ≡ lentAfter (outcome (callOn (replace (recordsOf (now (records .entry))) (now (new .entry))) (now (bytes .entry)) (now (numbers .entry)) (now (texts .entry))) (recording (now (content .entry)) (now (entries .entry)) (now (text .entry)))) (lentOf (now (bytes .entry)) (now (numbers .entry)) (now (texts .entry))) .entryNumbers ⌝ }
-    ensures { λ _. ⌜ now (texts .exit) ≡ lentAfter (outcome (callOn (replace (recordsOf (now (records .entry))) (now (new .entry))) (now (bytes .entry)) (now (numbers .entry)) (now (texts .entry))) (recording (now (content .entry)) (now (entries .entry)) (now (text .entry)))) (lentOf (now (bytes .entry)) (now (numbers .entry)) (now (texts .entry))) .text ⌝ }
+    ensures { λ _. ⌜ LeavesNumbers (replace (recordsOf (now (records .entry))) (now (new .entry))) (recording (now (content .entry)) (now (entries .entry)) (now (text .entry)))
+        (lentOf (now (bytes .entry)) (now (numbers .entry)) (now (texts .entry))) (lentOf (now (bytes .exit)) (now (numbers .exit)) (now (texts .exit))) (now (res .exit)) ⌝ }
 {
     let a = write_replaced_flat(content, entries, text, records, new, bytes, numbers, texts);
     store(a, res);
@@ -425,8 +420,8 @@ pub extern "C" fn ruszvedok_elide_start(
     out: &mut [u8],
     res: &mut [u64; 5],
 )
-    ensures { λ _. ⌜ now (res .exit) ≡ five (returned (elideStartOutcome (length (now (out .entry))) (now (text .entry)) (now (ellipsis .entry)) «max_width»)) ⌝ }
-    ensures { λ _. ⌜ now (out .exit) ≡ lentAfter (elideStartOutcome (length (now (out .entry))) (now (text .entry)) (now (ellipsis .entry)) «max_width») (lent (now (out .entry))) .dataBytes ⌝ }
+    ensures { λ _. ⌜ PromisedNumbers (elideStartOutcome (length (now (out .entry))) (now (text .entry)) (now (ellipsis .entry)) «max_width»)
+        (lent (now (out .entry))) (lent (now (out .exit))) (now (res .exit)) ⌝ }
 {
     let a = elide_start(text, ellipsis, max_width, out);
     store(a, res);
@@ -441,8 +436,8 @@ pub extern "C" fn ruszvedok_elide_end(
     out: &mut [u8],
     res: &mut [u64; 5],
 )
-    ensures { λ _. ⌜ now (res .exit) ≡ five (returned (elideEndOutcome (length (now (out .entry))) (now (text .entry)) (now (ellipsis .entry)) «max_width»)) ⌝ }
-    ensures { λ _. ⌜ now (out .exit) ≡ lentAfter (elideEndOutcome (length (now (out .entry))) (now (text .entry)) (now (ellipsis .entry)) «max_width») (lent (now (out .entry))) .dataBytes ⌝ }
+    ensures { λ _. ⌜ PromisedNumbers (elideEndOutcome (length (now (out .entry))) (now (text .entry)) (now (ellipsis .entry)) «max_width»)
+        (lent (now (out .entry))) (lent (now (out .exit))) (now (res .exit)) ⌝ }
 {
     let a = elide_end(text, ellipsis, max_width, out);
     store(a, res);
@@ -451,8 +446,8 @@ pub extern "C" fn ruszvedok_elide_end(
 // The text with 0A at its end, which is added unless the text is empty or ends in it.
 #[no_mangle]
 pub extern "C" fn ruszvedok_complete_newline(text: &[u8], out: &mut [u8], res: &mut [u64; 5])
-    ensures { λ _. ⌜ now (res .exit) ≡ five (returned (completeNewlineOutcome (length (now (out .entry))) (now (text .entry)))) ⌝ }
-    ensures { λ _. ⌜ now (out .exit) ≡ lentAfter (completeNewlineOutcome (length (now (out .entry))) (now (text .entry))) (lent (now (out .entry))) .dataBytes ⌝ }
+    ensures { λ _. ⌜ PromisedNumbers (completeNewlineOutcome (length (now (out .entry))) (now (text .entry)))
+        (lent (now (out .entry))) (lent (now (out .exit))) (now (res .exit)) ⌝ }
 {
     let a = complete_newline(text, out);
     store(a, res);
@@ -470,8 +465,8 @@ pub extern "C" fn ruszvedok_write(
     added: &[u8],
     res: &mut [u64; 5],
 )
-    ensures { λ _. ⌜ now (res .exit) ≡ five (returned (written (now (added .entry)) (lentOf (now (content .entry)) (now (entries .entry)) (now (text .entry))) «content_len» «entries_len» «text_len»)) ⌝ }
-    ensures { λ _. ⌜ lentOf (now (content .exit)) (now (entries .entry)) (now (text .entry)) ≡ lentAfter (written (now (added .entry)) (lentOf (now (content .entry)) (now (entries .entry)) (now (text .entry))) «content_len» «entries_len» «text_len») (lentOf (now (content .entry)) (now (entries .entry)) (now (text .entry))) ⌝ }
+    ensures { λ _. ⌜ PromisedNumbers (written (now (added .entry)) (lentOf (now (content .entry)) (now (entries .entry)) (now (text .entry))) «content_len» «entries_len» «text_len»)
+        (lentOf (now (content .entry)) (now (entries .entry)) (now (text .entry))) (lentOf (now (content .exit)) (now (entries .entry)) (now (text .entry))) (now (res .exit)) ⌝ }
 {
     let a = write(
         content,
@@ -497,8 +492,8 @@ pub extern "C" fn ruszvedok_push_label(
     label: &[u8],
     res: &mut [u64; 5],
 )
-    ensures { λ _. ⌜ now (res .exit) ≡ five (returned (pushed (now (label .entry)) (lentOf (now (content .entry)) (now (entries .entry)) (now (text .entry))) «content_len» «entries_len» «text_len»)) ⌝ }
-    ensures { λ _. ⌜ lentOf (now (content .entry)) (now (entries .exit)) (now (text .exit)) ≡ lentAfter (pushed (now (label .entry)) (lentOf (now (content .entry)) (now (entries .entry)) (now (text .entry))) «content_len» «entries_len» «text_len») (lentOf (now (content .entry)) (now (entries .entry)) (now (text .entry))) ⌝ }
+    ensures { λ _. ⌜ PromisedNumbers (pushed (now (label .entry)) (lentOf (now (content .entry)) (now (entries .entry)) (now (text .entry))) «content_len» «entries_len» «text_len»)
+        (lentOf (now (content .entry)) (now (entries .entry)) (now (text .entry))) (lentOf (now (content .entry)) (now (entries .exit)) (now (text .exit))) (now (res .exit)) ⌝ }
 {
     let a = push_label(
         content,
@@ -523,8 +518,8 @@ pub extern "C" fn ruszvedok_pop_label(
     text_len: usize,
     res: &mut [u64; 5],
 )
-    ensures { λ _. ⌜ now (res .exit) ≡ five (returned (popped (lentOf (now (content .entry)) (now (entries .entry)) (now (text .entry))) «content_len» «entries_len» «text_len»)) ⌝ }
-    ensures { λ _. ⌜ lentOf (now (content .entry)) (now (entries .exit)) (now (text .entry)) ≡ lentAfter (popped (lentOf (now (content .entry)) (now (entries .entry)) (now (text .entry))) «content_len» «entries_len» «text_len») (lentOf (now (content .entry)) (now (entries .entry)) (now (text .entry))) ⌝ }
+    ensures { λ _. ⌜ PromisedNumbers (popped (lentOf (now (content .entry)) (now (entries .entry)) (now (text .entry))) «content_len» «entries_len» «text_len»)
+        (lentOf (now (content .entry)) (now (entries .entry)) (now (text .entry))) (lentOf (now (content .entry)) (now (entries .exit)) (now (text .entry))) (now (res .exit)) ⌝ }
 {
     let a = pop_label(content, content_len, entries, entries_len, text, text_len);
     store(a, res);
@@ -542,8 +537,8 @@ pub extern "C" fn ruszvedok_raw(
     sequence: &[u8],
     res: &mut [u64; 5],
 )
-    ensures { λ _. ⌜ now (res .exit) ≡ five (returned (rawAdded (now (sequence .entry)) (lentOf (now (content .entry)) (now (entries .entry)) (now (text .entry))) «content_len» «entries_len» «text_len»)) ⌝ }
-    ensures { λ _. ⌜ lentOf (now (content .entry)) (now (entries .exit)) (now (text .exit)) ≡ lentAfter (rawAdded (now (sequence .entry)) (lentOf (now (content .entry)) (now (entries .entry)) (now (text .entry))) «content_len» «entries_len» «text_len») (lentOf (now (content .entry)) (now (entries .entry)) (now (text .entry))) ⌝ }
+    ensures { λ _. ⌜ PromisedNumbers (rawAdded (now (sequence .entry)) (lentOf (now (content .entry)) (now (entries .entry)) (now (text .entry))) «content_len» «entries_len» «text_len»)
+        (lentOf (now (content .entry)) (now (entries .entry)) (now (text .entry))) (lentOf (now (content .entry)) (now (entries .exit)) (now (text .exit))) (now (res .exit)) ⌝ }
 {
     let a = raw(
         content,

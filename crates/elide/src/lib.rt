@@ -9,7 +9,7 @@ ghost use Rattle.chars.specs.Leads.{leadTable};
 ghost use Rattle.chars.specs.Chars.{wellFormed};
 ghost use Rattle.chars.specs.Cut.{truncateStartPos, truncateStartWidth};
 ghost use Rattle.buffer.specs.Place.{part};
-ghost use Rattle.recording.specs.Outcome.{settle, returned, lentAfter, answerOf};
+ghost use Rattle.recording.specs.Outcome.{settle, Promised};
 ghost use Rattle.elide.specs.Back.{StartBefore};
 ghost use Rattle.elide.specs.Elide.{trimmed, missingNewline, elideEnd, elideStart, plainFault, noFaults, plainRoom, plainResult, lent, elideEndOutcome, elideStartOutcome, completeNewlineOutcome};
 
@@ -86,7 +86,8 @@ fn trimmed_pos(t: &[u16; 256], s: &[u8], at: usize) -> usize
 // A text fits if its cut to max reaches its end. The second cut goes on from the first, so nothing is read twice, and nothing behind max.
 fn pieces_end(t: &[u16; 256], text: &[u8], ellipsis: &[u8], max: u64) -> Pieces
     requires { ⌜ now t ≡ leadTable ⌝ }
-    ensures { λ r. ⌜ (part (r .from) (r .to) (now (text .entry)) ++ part (r .begin) (r .end) (now (ellipsis .entry)) ≡ elideEnd max (now (text .entry)) (now (ellipsis .entry)) .text) × (r .width ≡ elideEnd max (now (text .entry)) (now (ellipsis .entry)) .columns) ⌝ }
+    ensures { λ r. ⌜ (part (r .from) (r .to) (now (text .entry)) ++ part (r .begin) (r .end) (now (ellipsis .entry)) ≡ elideEnd max (now (text .entry)) (now (ellipsis .entry)) .text)
+        × (r .width ≡ elideEnd max (now (text .entry)) (now (ellipsis .entry)) .columns) ⌝ }
     ensures { λ r. ⌜ (r .from ≤ r .to) × (r .to ≤ length (now (text .entry))) × (r .begin ≤ r .end) × (r .end ≤ length (now (ellipsis .entry))) ⌝ }
 {
     let n = text.len();
@@ -136,7 +137,8 @@ fn pieces_end(t: &[u16; 256], text: &[u8], ellipsis: &[u8], max: u64) -> Pieces
 fn pieces_start(t: &[u16; 256], text: &[u8], ellipsis: &[u8], max: u64) -> Pieces
     requires { ⌜ now t ≡ leadTable ⌝ }
     requires { ⌜ (wellFormed (now text) ≡ true) × (wellFormed (now ellipsis) ≡ true) ⌝ }
-    ensures { λ r. ⌜ (part (r .begin) (r .end) (now (ellipsis .entry)) ++ part (r .from) (r .to) (now (text .entry)) ≡ elideStart max (now (text .entry)) (now (ellipsis .entry)) .text) × (r .width ≡ elideStart max (now (text .entry)) (now (ellipsis .entry)) .columns) ⌝ }
+    ensures { λ r. ⌜ (part (r .begin) (r .end) (now (ellipsis .entry)) ++ part (r .from) (r .to) (now (text .entry)) ≡ elideStart max (now (text .entry)) (now (ellipsis .entry)) .text)
+        × (r .width ≡ elideStart max (now (text .entry)) (now (ellipsis .entry)) .columns) ⌝ }
     ensures { λ r. ⌜ (r .from ≤ r .to) × (r .to ≤ length (now (text .entry))) × (r .begin ≤ r .end) × (r .end ≤ length (now (ellipsis .entry))) ⌝ }
 {
     let n = text.len();
@@ -217,8 +219,8 @@ fn write_parts(
     width: u64,
 ) -> recording::Answer
     requires { ⌜ (a ≤ b) × (b ≤ length (now x)) × (b ≤ 1048576) × (c ≤ d) × (d ≤ length (now y)) × (d ≤ 1048576) ⌝ }
-    ensures { λ r. ⌜ answerOf r ≡ returned (settle noFaults (plainRoom (length (now (out .entry)))) (plainResult (part a b (now (x .entry)) ++ part c d (now (y .entry))) width)) ⌝ }
-    ensures { λ r. ⌜ now (out .exit) ≡ lentAfter (settle noFaults (plainRoom (length (now (out .entry)))) (plainResult (part a b (now (x .entry)) ++ part c d (now (y .entry))) width)) (lent (now (out .entry))) .dataBytes ⌝ }
+    ensures { λ r. ⌜ Promised (settle noFaults (plainRoom (length (now (out .entry)))) (plainResult (part a b (now (x .entry)) ++ part c d (now (y .entry))) width))
+        (lent (now (out .entry))) (lent (now (out .exit))) r ⌝ }
 {
     let n = (b - a) + (d - c);
     if LIMIT < n {
@@ -239,8 +241,8 @@ fn write_parts(
 
 // The text, shortened at its end to max_width with the ellipsis, which is added if something was cut.
 pub fn elide_end(text: &[u8], ellipsis: &[u8], max_width: u32, out: &mut [u8]) -> recording::Answer
-    ensures { λ r. ⌜ answerOf r ≡ returned (elideEndOutcome (length (now (out .entry))) (now (text .entry)) (now (ellipsis .entry)) «max_width») ⌝ }
-    ensures { λ r. ⌜ now (out .exit) ≡ lentAfter (elideEndOutcome (length (now (out .entry))) (now (text .entry)) (now (ellipsis .entry)) «max_width») (lent (now (out .entry))) .dataBytes ⌝ }
+    ensures { λ r. ⌜ Promised (elideEndOutcome (length (now (out .entry))) (now (text .entry)) (now (ellipsis .entry)) «max_width»)
+        (lent (now (out .entry))) (lent (now (out .exit))) r ⌝ }
 {
     let t = chars::LEADS;
     let f = fault(&t, text, ellipsis);
@@ -261,8 +263,8 @@ pub fn elide_start(
     max_width: u32,
     out: &mut [u8],
 ) -> recording::Answer
-    ensures { λ r. ⌜ answerOf r ≡ returned (elideStartOutcome (length (now (out .entry))) (now (text .entry)) (now (ellipsis .entry)) «max_width») ⌝ }
-    ensures { λ r. ⌜ now (out .exit) ≡ lentAfter (elideStartOutcome (length (now (out .entry))) (now (text .entry)) (now (ellipsis .entry)) «max_width») (lent (now (out .entry))) .dataBytes ⌝ }
+    ensures { λ r. ⌜ Promised (elideStartOutcome (length (now (out .entry))) (now (text .entry)) (now (ellipsis .entry)) «max_width»)
+        (lent (now (out .entry))) (lent (now (out .exit))) r ⌝ }
 {
     let t = chars::LEADS;
     let f = fault(&t, text, ellipsis);
@@ -293,8 +295,7 @@ fn missing(s: &[u8]) -> usize
 
 // The text with 0A at its end, which is added unless the text is empty or ends in it.
 pub fn complete_newline(text: &[u8], out: &mut [u8]) -> recording::Answer
-    ensures { λ r. ⌜ answerOf r ≡ returned (completeNewlineOutcome (length (now (out .entry))) (now (text .entry))) ⌝ }
-    ensures { λ r. ⌜ now (out .exit) ≡ lentAfter (completeNewlineOutcome (length (now (out .entry))) (now (text .entry))) (lent (now (out .entry))) .dataBytes ⌝ }
+    ensures { λ r. ⌜ Promised (completeNewlineOutcome (length (now (out .entry))) (now (text .entry))) (lent (now (out .entry))) (lent (now (out .exit))) r ⌝ }
 {
     let t = chars::LEADS;
     let f = fault(&t, text, b"");

@@ -65,7 +65,7 @@ returns-3 c =
     let w = c .before .before .write-parts in
     let none = no-fault (x .text .now) [] (f .result) (f .ensures .0) (c .before .before .before .before .before .before .before .if1 .left) (c .before .before .before .before .before .before .if2 .left) in
     let g = newline-goes (length (x .out .now)) (x .text .now) (f .result) (f .ensures .0) (m .result) none (m .ensures .0) in
-    (w .ensures .0 ∙ ap returned g, w .ensures .1 ∙ ap (λ (o : Outcome). lentAfter o (lent (x .out .now)) .dataBytes) g)
+    (w .ensures .0 ∙ ap returned g, w .ensures .1 ∙ ap (λ (o : Outcome). lentAfter o (lent (x .out .now))) g)
 
 pub complete-newline-spec : {M : Type 1} → statement M
 complete-newline-spec =

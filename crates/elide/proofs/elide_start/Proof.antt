@@ -65,7 +65,7 @@ returns-3 c =
     let w = c .before .before .write-parts in
     let none = no-fault (x .text .now) (x .ellipsis .now) (f .result) (f .ensures .0) (c .before .before .before .before .before .before .before .if1 .left) (c .before .before .before .before .before .before .if2 .left) in
     let g = start-goes (length (x .out .now)) (x .max-width) (x .text .now) (x .ellipsis .now) (f .result) (f .ensures .0) (part (p .result .begin) (p .result .end) (x .ellipsis .now) ++ part (p .result .from) (p .result .to) (x .text .now)) (p .result .width) none (p .ensures .0 .0) (p .ensures .0 .1) in
-    (w .ensures .0 ∙ ap returned g, w .ensures .1 ∙ ap (λ (o : Outcome). lentAfter o (lent (x .out .now)) .dataBytes) g)
+    (w .ensures .0 ∙ ap returned g, w .ensures .1 ∙ ap (λ (o : Outcome). lentAfter o (lent (x .out .now))) g)
 
 pub elide-start-spec : {M : Type 1} → statement M
 elide-start-spec =

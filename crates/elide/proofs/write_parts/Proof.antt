@@ -3,11 +3,12 @@ use native.Mathlib.Omega.{arith}
 use borrow.Author.Needs.{needs}
 use mathlib.Core.List.{_++_}
 use lib.ListN.{length}
-use Rattle.buffer.specs.Place.{part}
+use Rattle.buffer.specs.Place.{part, over}
 use Rattle.buffer.proofs.Laws.{length-part}
-use mathlib.Core.Path.{_≡_}
+use mathlib.Core.Path.{_≡_, ap}
 use Prim.Native.Nat.{_+_, _-_}
 use Rattle.recording.specs.Outcome.{returned, lentAfter, answerOf}
+use Rattle.elide.specs.Elide.{lent}
 use Rattle.elide.proofs.CallLaws.{over-limit, too-short, has-room, length-parts, two-puts}
 use Rattle.elide.proofs.write_parts.Statement.{statement}
 use Rattle.elide.proofs.write_parts.Tie as tie
@@ -50,7 +51,7 @@ same-length : tie.Need-same-length
 same-length c = search needs
 
 returns-3 : tie.Need-returns-3
-unfolding answerOf returned lentAfter
+unfolding answerOf returned lentAfter over
 returns-3 c =
     let x = c .before .before .before .before .before .before .before .before .before .before .before .before .before .args in
     let n = length-parts (x .a) (x .b) (x .x .now) (x .c) (x .d) (x .y .now) (omega arith) (omega arith) in
@@ -61,7 +62,7 @@ returns-3 c =
     let q = part (x .c) (x .d) (x .y .now) in
     let r : two .result ≡ length (p ++ q) = omega (arith, n, one .ensures .0, two .ensures .0) in
     let first : one .result ≡ length p = omega (arith, one .ensures .0, length-part (x .a) (x .b) (x .x .now) (omega arith)) in
-    (simp (e, r), simp e (two-puts p q (x .out .now) _ _ (one .result) (one .ensures .1) first (two .ensures .1)))
+    (simp (e, r), simp e (ap lent (two-puts p q (x .out .now) _ _ (one .result) (one .ensures .1) first (two .ensures .1))))
 
 pub write-parts-spec : {M : Type 1} → statement M
 write-parts-spec =
