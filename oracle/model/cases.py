@@ -1,0 +1,59 @@
+"""The model's own tests: document 01's cases C1 to C16, and its reading of UTF-8 against Python's decoder."""
+import random
+
+from ruszvedok_model import call, chars, coloured, recording, text_width, wraplist
+
+WRAPS = [
+    ("C2", b"", 5, False, [0, 0]),
+    ("C3", b"ab\n", 5, False, [0, 2, 3, 3]),
+    ("C4", b"   ab", 2, False, [0, 0, 3, 5]),
+    ("C5", b"abcde", 2, True, [0, 2, 2, 4, 4, 5]),
+    ("C5, break 0", b"abcde", 2, False, [0, 5]),
+    ("C6", b"ab c", 0, True, [0, 2, 3, 4]),
+    ("C7", b"\xE6\x9C\xA8a", 1, True, [0, 3, 3, 4]),
+]
+SPRUCE, DOTS = recording(b"spruce"), recording(b"..")
+DATA = [
+    ("C9", ("write_truncated_end", SPRUCE, DOTS, 4), b"sp..", 4),
+    ("C10", ("write_truncated_start", SPRUCE, DOTS, 4), b"..ce", 4),
+    ("C11", ("write_truncated_end", SPRUCE, DOTS, 1), b".", 1),
+    ("C12", ("write_padded_centered", recording(b"fir"), recording(b"."), 6), b".fir..", 0),
+    ("C13", ("write_indented", recording(b"a\n\nb"), recording(b"> ")), b"> a\n\n> b", 0),
+    ("C14", ("write_replaced", recording(b"abcdef"), (1, 3, 0, 1, 6, 6, 1, 2), b"XY"), b"aXdefY", 0),
+    ("C15", ("elide_end", b"spruce", b"..", 4), b"sp..", 4),
+    ("fill ab, an entry at 1, twice", ("write_padded_start", recording(b""), recording(b"ab", (1, 2, 0, 1), b"x"), 2), b"aabb", 0),
+]
+LABELLED = recording(b"ab cd", (0, 0, 0, 1, 2, 1, 0, 0), b"x")
+
+
+def document_cases():
+    """The names of the cases that do not come out as the document says."""
+    wrong = []
+    if wraplist(b"width break bytes\n5 0 6f616b2031322066742062\n") != b"row line start end\n0 0 0 3\n0 1 4 9\n0 2 10 11\n":
+        wrong.append("C1")
+    for name, data, width, breaks, lines in WRAPS:
+        if call("wrap_bytes", data, width, breaks, room=(0, 0, 0, len(lines))) != ((0, 0, 0, 0, len(lines) // 2), (b"", (), b"", tuple(lines))):
+            wrong.append(name)
+    if text_width(b"\xE6\x9C\x41") != 2:
+        wrong.append("C8")
+    for name, inputs, data, number in DATA:
+        numbers, buffers = call(*inputs, room=(len(data), 8, 4))
+        if (numbers[0], numbers[1], numbers[4], buffers[0]) != (0, len(data), number, data):
+            wrong.append(name)
+    numbers, (data, entries, text, _) = call("write_wrapped", LABELLED, 2, False, room=(5, 8, 1, 4))
+    if entries != (0, 0, 0, 1, 2, 1, 0, 0) or coloured(recording(data, entries, text))[2] != (0x0A, ()):
+        wrong.append("C16")
+    return wrong
+
+
+def samples():
+    """Every text of two bytes, and longer ones of lead, tail and other bytes at the edges of table 3-7."""
+    yield from (bytes([a, b]) for a in range(256) for b in range(256))
+    edges = bytes.fromhex("00417f808f909fa0bfc0c1c2dfe0e1ecedeeeff0f1f3f4f5ff")
+    pick = random.Random(1)
+    yield from (bytes(pick.choice(edges) for _ in range(pick.randrange(3, 9))) for _ in range(100_000))
+
+
+def unlike_python():
+    """The texts that Python's decoder, which replaces each maximal subpart by one U+FFFD, reads otherwise."""
+    return [s for s in samples() if [c.code for c in chars(s)] != [ord(c) for c in s.decode("utf-8", "replace")]]
