@@ -1,6 +1,8 @@
 """The model's own tests: document 01's cases C1 to C16, and its reading of UTF-8 against Python's decoder."""
 import random
 
+import lists
+
 from ruszvedok_model import call, chars, coloured, recording, text_width, wraplist
 
 WRAPS = [
@@ -57,3 +59,39 @@ def samples():
 def unlike_python():
     """The texts that Python's decoder, which replaces each maximal subpart by one U+FFFD, reads otherwise."""
     return [s for s in samples() if [c.code for c in chars(s)] != [ord(c) for c in s.decode("utf-8", "replace")]]
+
+
+def random_recording(pick, inside=True):
+    """A balanced recording, with entries inside its data or not."""
+    data = b"".join(pick.choice([b"a", b"b", b" ", b"\n", b"\xCC\x81", b"\xE6\x9C\xA8", b"\x9C"]) for _ in range(pick.randrange(8)))
+    numbers, text, open_labels = [], b"", 0
+    for position in sorted(pick.choice([pick.randrange(len(data) + 1) if inside else 0, 0, len(data)]) for _ in range(pick.randrange(5))):
+        kind = pick.randrange(3)
+        if kind == 1 and open_labels == 0:
+            continue
+        open_labels += {0: 1, 1: -1, 2: 0}[kind]
+        new = b"" if kind == 1 else pick.choice([b"x", b"yz"])
+        numbers += [position, kind, 0 if kind == 1 else len(text), len(new)]
+        text += new
+    return recording(data, numbers + [len(data), 1, 0, 0] * open_labels, text)
+
+
+def random_call(pick):
+    name = pick.choice("write_truncated_start write_truncated_end write_padded_start write_padded_end write_padded_centered write_indented write_wrapped write_replaced".split())
+    if name == "write_wrapped":
+        return name, pick.randrange(6), pick.random() < 0.5
+    if name == "write_replaced":
+        places = sorted(pick.randrange(7) for _ in range(4))
+        return name, (places[0], places[1], 0, pick.randrange(3), places[2], places[3], 1, 2), b"X\n"
+    second = random_recording(pick, inside="padded" not in name)
+    return (name, second) if name == "write_indented" else (name, second, pick.randrange(9))
+
+
+def lists_that_do_not_commute(count=4000):
+    """The random lists of calls for which demand 3 does not hold."""
+    pick, wrong = random.Random(2), []
+    for k in range(count):
+        first, calls = random_recording(pick), [random_call(pick) for _ in range(pick.randrange(5))]
+        if not lists.commutes(first, calls, room=(pick.choice([8, 24, 64]), 96, 64, 16)):
+            wrong.append(k)
+    return wrong
