@@ -1,7 +1,9 @@
 """The expected output of each program of the gate, made by the model: the program's cases and its way of printing, with the model's answers."""
 from pathlib import Path
 
+import call_tests
 import vectors
+from call_tests import spaced
 from lists import result_of
 from ruszvedok_model import call, recording, wraplist
 
@@ -11,10 +13,6 @@ CRATES = Path(__file__).resolve().parents[2] / "crates"
 def given(name):
     """What the program reads."""
     return (CRATES / name / "stdin").read_bytes()
-
-
-def spaced(numbers):
-    return b"".join(b" %d" % n for n in numbers)
 
 
 # ── wraplist and rows_test
@@ -112,7 +110,7 @@ def replace_records_test():
     ])
 
 
-PROGRAMS = {
+PROGRAMS = call_tests.PROGRAMS | {
     "limits_test": limits_test,
     "replace_records_test": replace_records_test,
     "rows_test": rows_test,
