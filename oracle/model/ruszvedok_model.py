@@ -639,8 +639,8 @@ def adding_call(own_check, parts):
         new = parts(added, *used)
         lengths = [n + len(p) for n, p in zip(used, new)]
         check_lengths(*lengths)
-        for p, length, buffer, number in zip(new, lengths, buffers, (21, 22, 23)):
-            refuse_if(p and length > len(buffer), number)
+        for length, buffer, number in zip(lengths, buffers, (21, 22, 23)):
+            refuse_if(length > len(buffer), number)
         after = tuple(b[:n] + type(b)(p) + b[n + len(p):] for p, n, b in zip(new, used, buffers))
         return (0, *lengths, 0), after + buffers[3:]
     return run
