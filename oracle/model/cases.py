@@ -25,6 +25,12 @@ DATA = [
     ("C15", ("elide_end", b"spruce", b"..", 4), b"sp..", 4),
     ("fill ab, an entry at 1, twice", ("write_padded_start", recording(b""), recording(b"ab", (1, 2, 0, 1), b"x"), 2), b"aabb", 0),
 ]
+REFUSALS = [
+    ("1 of the ellipsis before 7 of the text", ("elide_end", b"\xFF", b"a" * 1048577, 4), 1),
+    ("6 of the content before 2 of the fill", ("write_padded_end", recording(b"", (0, 0, 0, 1), b"\xFF"), recording(b"", (0,)), 4), 6),
+    ("8 before 9", ("write_replaced", recording(b"ab"), (0, 0, 0, 1048576, 2, 1, 0, 0), b"a" * 1048576), 8),
+    ("9 before 21", ("write_padded_end", recording(b"ab"), recording(b"."), 1048577), 9),
+]
 LABELLED = recording(b"ab cd", (0, 0, 0, 1, 2, 1, 0, 0), b"x")
 
 
@@ -42,6 +48,7 @@ def document_cases():
         numbers, buffers = call(*inputs, room=(len(data), 8, 4))
         if (numbers[0], numbers[1], numbers[4], buffers[0]) != (0, len(data), number, data):
             wrong.append(name)
+    wrong += [name for name, inputs, refusal in REFUSALS if call(*inputs) != ((refusal, 0, 0, 0, 0), (b"", (), b"", ()))]
     numbers, (data, entries, text, _) = call("write_wrapped", LABELLED, 2, False, room=(5, 8, 1, 4))
     if entries != (0, 0, 0, 1, 2, 1, 0, 0) or coloured(recording(data, entries, text))[2] != (0x0A, ()):
         wrong.append("C16")
