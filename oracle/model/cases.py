@@ -3,7 +3,7 @@ import random
 
 import lists
 
-from ruszvedok_model import call, chars, coloured, recording, text_width, wraplist
+from ruszvedok_model import balanced, call, chars, coloured, recording, text_width, wraplist
 
 WRAPS = [
     ("C2", b"", 5, False, [0, 0]),
@@ -99,6 +99,6 @@ def lists_that_do_not_commute(count=4000):
     pick, wrong = random.Random(2), []
     for k in range(count):
         first, calls = random_recording(pick), [random_call(pick) for _ in range(pick.randrange(5))]
-        if not lists.commutes(first, calls, room=(pick.choice([8, 24, 64]), 96, 64, 16)):
+        if not balanced(first) or not lists.commutes(first, calls, room=(pick.choice([8, 24, 64]), 96, 64, 16)):
             wrong.append(k)
     return wrong
