@@ -1,0 +1,104 @@
+"""The model's own tests: document 01's cases C1 to C16, and its reading of UTF-8 against Python's decoder."""
+import random
+
+import lists
+
+from ruszvedok_model import balanced, call, chars, coloured, recording, text_width, wraplist
+
+WRAPS = [
+    ("C2", b"", 5, False, [0, 0]),
+    ("C3", b"ab\n", 5, False, [0, 2, 3, 3]),
+    ("C4", b"   ab", 2, False, [0, 0, 3, 5]),
+    ("C5", b"abcde", 2, True, [0, 2, 2, 4, 4, 5]),
+    ("C5, break 0", b"abcde", 2, False, [0, 5]),
+    ("C6", b"ab c", 0, True, [0, 2, 3, 4]),
+    ("C7", b"\xE6\x9C\xA8a", 1, True, [0, 3, 3, 4]),
+]
+SPRUCE, DOTS = recording(b"spruce"), recording(b"..")
+DATA = [
+    ("C9", ("write_truncated_end", SPRUCE, DOTS, 4), b"sp..", 4),
+    ("C10", ("write_truncated_start", SPRUCE, DOTS, 4), b"..ce", 4),
+    ("C11", ("write_truncated_end", SPRUCE, DOTS, 1), b".", 1),
+    ("C12", ("write_padded_centered", recording(b"fir"), recording(b"."), 6), b".fir..", 0),
+    ("C13", ("write_indented", recording(b"a\n\nb"), recording(b"> ")), b"> a\n\n> b", 0),
+    ("C14", ("write_replaced", recording(b"abcdef"), (1, 3, 0, 1, 6, 6, 1, 2), b"XY"), b"aXdefY", 0),
+    ("C15", ("elide_end", b"spruce", b"..", 4), b"sp..", 4),
+    ("fill ab, an entry at 1, twice", ("write_padded_start", recording(b""), recording(b"ab", (1, 2, 0, 1), b"x"), 2), b"aabb", 0),
+]
+REFUSALS = [
+    ("1 of the ellipsis before 7 of the text", ("elide_end", b"\xFF", b"a" * 1048577, 4), 1),
+    ("6 of the content before 2 of the fill", ("write_padded_end", recording(b"", (0, 0, 0, 1), b"\xFF"), recording(b"", (0,)), 4), 6),
+    ("8 before 9", ("write_replaced", recording(b"ab"), (0, 0, 0, 1048576, 2, 1, 0, 0), b"a" * 1048576), 8),
+    ("9 before 21", ("write_padded_end", recording(b"ab"), recording(b"."), 1048577), 9),
+]
+LABELLED = recording(b"ab cd", (0, 0, 0, 1, 2, 1, 0, 0), b"x")
+
+
+def document_cases():
+    """The names of the cases that do not come out as the document says."""
+    wrong = []
+    if wraplist(b"width break bytes\n5 0 6f616b2031322066742062\n") != b"row line start end\n0 0 0 3\n0 1 4 9\n0 2 10 11\n":
+        wrong.append("C1")
+    for name, data, width, breaks, lines in WRAPS:
+        if call("wrap_bytes", data, width, breaks, room=(0, 0, 0, len(lines))) != ((0, 0, 0, 0, len(lines) // 2), (b"", (), b"", tuple(lines))):
+            wrong.append(name)
+    if text_width(b"\xE6\x9C\x41") != 2:
+        wrong.append("C8")
+    for name, inputs, data, number in DATA:
+        numbers, buffers = call(*inputs, room=(len(data), 8, 4))
+        if (numbers[0], numbers[1], numbers[4], buffers[0]) != (0, len(data), number, data):
+            wrong.append(name)
+    wrong += [name for name, inputs, refusal in REFUSALS if call(*inputs) != ((refusal, 0, 0, 0, 0), (b"", (), b"", ()))]
+    numbers, (data, entries, text, _) = call("write_wrapped", LABELLED, 2, False, room=(5, 8, 1, 4))
+    if entries != (0, 0, 0, 1, 2, 1, 0, 0) or coloured(recording(data, entries, text))[2] != (0x0A, ()):
+        wrong.append("C16")
+    return wrong
+
+
+def samples():
+    """Every text of two bytes, and longer ones of lead, tail and other bytes at the edges of table 3-7."""
+    yield from (bytes([a, b]) for a in range(256) for b in range(256))
+    edges = bytes.fromhex("00417f808f909fa0bfc0c1c2dfe0e1ecedeeeff0f1f3f4f5ff")
+    pick = random.Random(1)
+    yield from (bytes(pick.choice(edges) for _ in range(pick.randrange(3, 9))) for _ in range(100_000))
+
+
+def unlike_python():
+    """The texts that Python's decoder, which replaces each maximal subpart by one U+FFFD, reads otherwise."""
+    return [s for s in samples() if [c.code for c in chars(s)] != [ord(c) for c in s.decode("utf-8", "replace")]]
+
+
+def random_recording(pick, inside=True):
+    """A balanced recording, with entries inside its data or not."""
+    data = b"".join(pick.choice([b"a", b"b", b" ", b"\n", b"\xCC\x81", b"\xE6\x9C\xA8", b"\x9C"]) for _ in range(pick.randrange(8)))
+    numbers, text, open_labels = [], b"", 0
+    for position in sorted(pick.choice([pick.randrange(len(data) + 1) if inside else 0, 0, len(data)]) for _ in range(pick.randrange(5))):
+        kind = pick.randrange(3)
+        if kind == 1 and open_labels == 0:
+            continue
+        open_labels += {0: 1, 1: -1, 2: 0}[kind]
+        new = b"" if kind == 1 else pick.choice([b"x", b"yz"])
+        numbers += [position, kind, 0 if kind == 1 else len(text), len(new)]
+        text += new
+    return recording(data, numbers + [len(data), 1, 0, 0] * open_labels, text)
+
+
+def random_call(pick):
+    name = pick.choice("write_truncated_start write_truncated_end write_padded_start write_padded_end write_padded_centered write_indented write_wrapped write_replaced".split())
+    if name == "write_wrapped":
+        return name, pick.randrange(6), pick.random() < 0.5
+    if name == "write_replaced":
+        places = sorted(pick.randrange(7) for _ in range(4))
+        return name, (places[0], places[1], 0, pick.randrange(3), places[2], places[3], 1, 2), b"X\n"
+    second = random_recording(pick, inside="padded" not in name)
+    return (name, second) if name == "write_indented" else (name, second, pick.randrange(9))
+
+
+def lists_that_do_not_commute(count=4000):
+    """The random lists of calls for which demand 3 does not hold."""
+    pick, wrong = random.Random(2), []
+    for k in range(count):
+        first, calls = random_recording(pick), [random_call(pick) for _ in range(pick.randrange(5))]
+        if not balanced(first) or not lists.commutes(first, calls, room=(pick.choice([8, 24, 64]), 96, 64, 16)):
+            wrong.append(k)
+    return wrong

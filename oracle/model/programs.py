@@ -1,0 +1,120 @@
+"""The expected output of each program of the gate, made by the model: the program's cases and its way of printing, with the model's answers."""
+from pathlib import Path
+
+import call_tests
+import vectors
+from call_tests import spaced
+from lists import result_of
+from ruszvedok_model import call, recording, wraplist
+
+CRATES = Path(__file__).resolve().parents[2] / "crates"
+
+
+def given(name):
+    """What the program reads."""
+    return (CRATES / name / "stdin").read_bytes()
+
+
+# ── wraplist and rows_test
+
+def rows_test():
+    head = b"width break bytes\n"
+    short = [b"", b"\n", b"width break bytes", b"width break bytes\r\n", b"width break bytes \n", head, head + b"5 0 6f"]
+    longest = [head + b"\n" * (65536 - len(head)), head + b"\n" * (65537 - len(head))]
+    many_bytes = [head + b"1 1 " + b"66" * 4000 + b"\n", head + b"1 1 " + b"66" * 4001 + b"\n"]
+    shown = [given("rows_test")] + short
+    return b"".join(map(wraplist, shown)) + b"".join(b"%d\n" % len(wraplist(sheet)) for sheet in longest + many_bytes)
+
+
+# ── limits_test
+
+def limits_test():
+    most, over = b"a" * 1048576, b"a" * 1048577
+    small = (1, 4, 1)
+    cases = [
+        ("replay, one past the limit", ("replay", recording(over)), small),
+        ("wrap, one past the limit", ("wrap_bytes", over, 80, False), (0, 0, 0, 2)),
+        ("pad, a fill one past the limit", ("write_padded_start", recording(b""), recording(over), 4294967295), small),
+        ("write, up to the limit", ("write", (1048575, 0, 0), b"x"), (over,)),
+        ("write, one past the limit", ("write", (1048576, 0, 0), b"x"), (over,)),
+        ("write nothing at the limit", ("write", (1048576, 0, 0), b""), (over,)),
+        ("write, content past the limit", ("write", (1048577, 0, 0), b""), (over,)),
+        ("write, length above the buffer", ("write", (1048578, 0, 0), b""), (over,)),
+        ("replay, at the limit", ("replay", recording(most)), small),
+        ("wrap, at the limit", ("wrap_bytes", most, 80, False), (0, 0, 0, 2)),
+        ("pad, a fill at the limit and the largest count", ("write_padded_start", recording(b""), recording(most), 4294967295), small),
+        ("indent, content and prefix at the limit", ("write_indented", recording(most), recording(most)), small),
+        ("write, no room before the limit is passed", ("write", (1048576, 0, 0), b"x"), (most,)),
+    ]
+    return b"".join(name.encode() + spaced(call(*inputs, room=room)[0]) + b"\n" for name, inputs, room in cases)
+
+
+# ── runs_test
+
+RUN_CALLS = ["write_truncated_start", "write_truncated_end", "write_padded_start", "write_padded_end", "write_padded_centered", "write_indented", "write_wrapped", "write_wrapped",
+             "write_replaced"]
+
+
+def run_call(kind, width):
+    """A call of the list, all with the same second recording and records."""
+    second = recording(b"=>", (0, 0, 0, 1, 2, 1, 0, 0), b"a")
+    if kind < 5:
+        return RUN_CALLS[kind], second, width
+    if kind == 5:
+        return RUN_CALLS[kind], second
+    if kind < 8:
+        return RUN_CALLS[kind], width, kind == 7
+    return RUN_CALLS[kind], (0, 2, 0, 3, 20, 20, 0, 0), b"oak"
+
+
+def runs_test():
+    content, first, out = recording(b"oak 12 ft b", (0, 0, 0, 3, 3, 1, 0, 0, 4, 2, 3, 1), b"redR"), True, b""
+    for kind, width in [(0, 9), (8, 0), (1, 8), (2, 10), (3, 4294967295), (3, 14), (4, 60), (4, 17), (6, 8), (7, 1), (7, 7), (7, 7), (5, 0), (8, 0)]:
+        name, *inputs = run_call(kind, width)
+        numbers, buffers = call(name, content, *inputs, room=(64, 96, 24, 16))
+        if numbers[0] == 0:
+            content, first = result_of(numbers, buffers), not first
+        out += spaced((kind, width)) + (b" first" if first else b" other") + b" <" + content.data + b">" + spaced(content.numbers) + b" <" + content.text + b">\n"
+    return out
+
+
+# ── replace_records_test
+
+def replace_case(name, content, records, d, e, t):
+    numbers, (data, entries, text, _) = call("write_replaced", content, records, b"XY", room=(b"." * d, (7,) * e, b"." * t))
+    return name.encode() + b":" + spaced(numbers) + b" |" + data + b"|" + spaced(entries) + b" |" + text + b"|\n"
+
+
+def replace_records_test():
+    plain, labelled = recording(b"abcdef"), recording(b"abcdef", (1, 0, 1, 2, 3, 2, 3, 1, 4, 1, 0, 0), b"?hiR?")
+    falling = recording(b"ab", (2, 1, 0, 0, 1, 1, 0, 0))
+    a, b, bad = (1, 3, 0, 1), (4, 4, 1, 2), (2, 4, 0, 1)
+    return b"".join(replace_case(*case) for case in [
+        ("C14", plain, a + (6, 6, 1, 2), 12, 0, 0),
+        ("touching", plain, a + (3, 4, 1, 2), 12, 0, 0),
+        ("at both ends", plain, (0, 0, 0, 1, 6, 6, 1, 2), 12, 0, 0),
+        ("twice in at the pop", labelled, (4, 4, 0, 1, 4, 4, 1, 2), 8, 12, 4),
+        ("at both ends", labelled, (0, 0, 0, 1, 6, 6, 1, 2), 8, 12, 3),
+        ("start > end", plain, a + (5, 4, 0, 1), 12, 0, 0),
+        ("end beyond the data", plain, a + (4, 7, 0, 1), 12, 0, 0),
+        ("start below the previous end", plain, a + bad, 12, 0, 0),
+        ("from > to", plain, a + (4, 5, 1, 0), 12, 0, 0),
+        ("to beyond its text", plain, a + (4, 5, 0, 3), 12, 0, 0),
+        ("the first", plain, (3, 2, 0, 1, 4, 5, 0, 1), 12, 0, 0),
+        ("exactly full", labelled, a + b, 6, 12, 3),
+        ("data one short", labelled, a + b, 5, 12, 3),
+        ("entries one short", labelled, a + b, 6, 11, 3),
+        ("text one short", labelled, a + b, 6, 12, 2),
+        ("bad and short", labelled, a + bad, 5, 11, 2),
+        ("falling", falling, a + bad, 4, 8, 1),
+    ])
+
+
+PROGRAMS = call_tests.PROGRAMS | {
+    "limits_test": limits_test,
+    "replace_records_test": replace_records_test,
+    "rows_test": rows_test,
+    "runs_test": runs_test,
+    "vectors": lambda: vectors.check(given("vectors").decode())[0].encode(),
+    "wraplist": lambda: wraplist(given("wraplist")),
+}
