@@ -32,8 +32,7 @@ unfolding answerOf returned lentAfter
 returns-2 c =
     let a = c .before .before .before .before .before .before .args in
     let f = c .before .lines-fit in
-    let h = leb-false _ _ (sym (f .ensures) ∙ not-true (f .result) (c .if2 .taken)) in
-    (
+    let h = leb-false _ _ (sym (f .ensures) ∙ not-true (f .result) (c .if2 .taken)) in (
       rw (laws.outcome-short (a .width) (a .break-words) (a .«data» .now) (length (a .lines .now)) (c .before .before .before .if1 .left) h) (refl, refl),
       λ d. lines-few (a .width) (a .break-words) (a .«data» .now) d,
     )
@@ -53,10 +52,9 @@ returns-3 c =
     let a = c .before .before .before .before .before .before .before .before .before .before .before .args in
     let f = c .before .before .before .before .before .before .lines-fit in
     let w = c .before .before .write-lines .ensures in
-    let h = leb-true _ _ (sym (f .ensures) ∙ not-false (f .result) (c .before .before .before .before .before .if2 .left)) in
-    (
+    let h = leb-true _ _ (sym (f .ensures) ∙ not-false (f .result) (c .before .before .before .before .before .if2 .left)) in (
       rw (laws.outcome-done (a .width) (a .break-words) (a .«data» .now) (length (a .lines .now)) (c .before .before .before .before .before .before .before .before .if1 .left) h)
-      (λ i. record { refusal = 0; dataBytes = 0; entryNumbers = 0; text = 0; number = w .1 i }, λ i. lentLines (w .0 i)),
+          (λ i. record { refusal = 0; dataBytes = 0; entryNumbers = 0; text = 0; number = w .1 i }, λ i. lentLines (w .0 i)),
       λ d. lines-few (a .width) (a .break-words) (a .«data» .now) d,
     )
 
