@@ -117,7 +117,7 @@ returns-2 : tie.Need-returns-2
 returns-2 c =
     let r = c .before in
     let s = start (checked r) in
-    own-refused (call s) (ds s) (ns s) (ts s) (lent s) (size (checked r)) (fine (checked r)) ReplacementRange
+    own-refused (call s) (ds s) (ns s) (ts s) (lent s) (size (checked r)) (fine (checked r) .passed) (fine (checked r) .text-size) ReplacementRange
     (some-bad (ds s) (new s) (xs s) (r .check-records .result) (r .check-records .ensures) (c .if1 .taken))
 
 cast-capped-add : tie.Need-cast-capped-add
@@ -143,7 +143,7 @@ returns-3 c =
     let p = c .before .before .before in
     let r = scanned p in
     let s = start (checked r) in
-    sizes-refused (call s) (ds s) (ns s) (ts s) (lent s) (size (checked r)) (fine (checked r)) (good p) _ 0 refl refl (p .settle .result) (sized p)
+    sizes-refused (call s) (ds s) (ns s) (ts s) (lent s) (size (checked r)) (fine (checked r) .passed) (fine (checked r) .text-size) (good p) _ 0 refl refl (p .settle .result) (sized p)
     (c .before .verdict .given .0 .0) (c .before .verdict .given .1)
 
 enum-told : tie.Need-enum-told
@@ -154,7 +154,7 @@ write-records-requires c κs =
     let p = c .before .before .before .before .before in
     let r = scanned p in
     let s = start (checked r) in
-    let room = has-room (call s) (ds s) (ns s) (ts s) (lent s) (size (checked r)) (fine (checked r)) (good p) _ 0 refl refl (p .settle .result) (sized p) (c .before .before .before .enum-told .given .1) in
+    let room = has-room (call s) (ds s) (ns s) (ts s) (lent s) (size (checked r)) (fine (checked r) .passed) (fine (checked r) .text-size) (good p) _ 0 refl refl (p .settle .result) (sized p) (c .before .before .before .enum-told .given .1) in
     (fine (checked r) .whole, (good p, room))
 
 same-length : tie.Need-same-length
@@ -174,7 +174,7 @@ returns-4 c =
     let p = t .before .before in
     let r = scanned p in
     let s = start (checked r) in
-    written (call s) (ds s) (ns s) (ts s) (lent s) (size (checked r)) (fine (checked r)) (good p) _ 0 refl refl (p .settle .result) (sized p) (t .enum-told .given .1)
+    written (call s) (ds s) (ns s) (ts s) (lent s) (size (checked r)) (fine (checked r) .passed) (fine (checked r) .text-size) (good p) _ 0 refl refl (p .settle .result) (sized p) (t .enum-told .given .1)
     0 _ _ _ _ (w .result) refl (w .ensures) refl
 
 pub write-replaced-flat-spec : {M : Type 1} → statement M
