@@ -19,7 +19,7 @@ calls = [
          ensures="Ended content entries text (world w bytes4 numbers4 texts4) r bytes5 numbers5 texts5"),
 ]
 E_ = f"promised {C_} {B_} records s (from-first content new records z s E-z E-s) p E-p (world w bytes4 numbers4 texts4) E-w r bytes5 numbers5 texts5 E-r"
-ensures = [f"({E_}) .0", f"({E_}) .1 .0", f"({E_}) .1 .1 .0", f"({E_}) .1 .1 .1"]
+ensures = [E_]
 spec_uses = """use mathlib.Core.Bool.{false}
 use Rattle.writer.specs.Sizes.{settledFault, roomOf}
 use Rattle.replace.specs.Records.{scan, checkAll}

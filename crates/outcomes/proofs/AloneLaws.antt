@@ -17,12 +17,13 @@ use Rattle.recording.proofs.CheckLaws.{refused-number, fine-zero, fine-count, f
 use Rattle.recording.proofs.EditLaws.{edit-data}
 use Rattle.recording.proofs.ItemsLaws.{data-items}
 use Rattle.recording.proofs.OutcomeLaws.{number-pos, first-hit}
-use Rattle.recording.proofs.SizeLaws.{entryCount, edit-count, edit-text, putCount, putText}
+use Rattle.recording.proofs.SizeLaws.{entryCount, count-numbers, edit-count, edit-text, putCount, putText}
 use Rattle.writer.specs.declared.Cursor.{Cursor}
 use Rattle.writer.specs.declared.Settled.{Settled}
 use Rattle.writer.specs.declared.Settled.the-variants as S
 use Rattle.writer.specs.Write.{out, add, blank, Fits}
 use Rattle.writer.specs.Sizes.{sizesFault, settledFault}
+use Rattle.writer.proofs.Sizes.{numbers-items, quads-of}
 use Rattle.layout.specs.Wrap.{lineNumbers}
 use Rattle.layout.specs.Layout.{Single, Job, alone, singleOps, singleLines, singleFault, resultItems, linesLeft, number, secondFault, ownFault}
 use Rattle.recording.specs.Outcome.{Lent, roomIn}
@@ -62,16 +63,17 @@ module _ (s : Single) (ds ns ts : List ℕ) (b : Lent) where
   pub content-fine : (k : Checked) → faultOf k ≡ recordingFault content → Counted k (length (textOf (items content))) → Within k 268435456 → (n : ℕ) → k ≡ C.Fine n → Fine ds ns ts n
   content-fine k e c w n q = checked-fine ds ns ts n (sym e ∙ fine-zero k n q) (fine-count k n (length (textOf (items content))) q c) (fine-within k n 268435456 q w)
 
-  module _ (n : ℕ) (fine : Fine ds ns ts n) where
+  -- the check found nothing, and n is the length of the entries' texts
+  module _ (n : ℕ) (passed : recordingFault content ≡ 0) (counted : n ≡ length (textOf (items content))) where
     pub own-refused : (f : Refusal) → singleFault s ds ≡ numberOf f → Leaves (alone s) content b b (Refused f)
     unfolding secondFault ownFault
-    own-refused f e = outcomes.own-refused (alone s) content b (fine .passed) refl f e
+    own-refused f e = outcomes.own-refused (alone s) content b passed refl f e
 
     module _ (own : singleFault s ds ≡ 0) (d l : ℕ) (ed : d ≡ length (editData (singleOps s ds) ds)) (el : l ≡ length (lineNumbers (singleLines s ds)))
         (v : Settled) (g : settledFault v ≡ sizesFault d (length ns) n l (roomIn b)) where
       accepted : Accepted (alone s) content
       unfolding secondFault ownFault
-      accepted = record { content = fine .passed; second = refl; own = own }
+      accepted = record { content = passed; second = refl; own = own }
 
       sized : Sized (alone s) content result d (length ns) n l
       unfolding resultItems linesLeft
@@ -79,8 +81,9 @@ module _ (s : Single) (ds ns ts : List ℕ) (b : Lent) where
           record {
             leaves = refl;
             data-size = ed ∙ sym (ap length (edit-data (singleOps s ds) (items content)) ∙ ap (λ (x : Bytes). length (editData (singleOps s ds) x)) (data-items content));
-            entry-size = omega (arith, fine .entry-size, edit-count (singleOps s ds) (items content), no-puts (singleOps s ds) (bare-single s ds) .0);
-            text-size = omega (arith, fine .text-size, edit-text (singleOps s ds) (items content), no-puts (singleOps s ds) (bare-single s ds) .1);
+            entry-size =
+                omega (arith, count-numbers (items content) 0 0, numbers-items ds ns ts (quads-of ds ns ts passed), edit-count (singleOps s ds) (items content), no-puts (singleOps s ds) (bare-single s ds) .0);
+            text-size = omega (arith, counted, edit-text (singleOps s ds) (items content), no-puts (singleOps s ds) (bare-single s ds) .1);
             line-size = el;
           }
 

@@ -13,11 +13,11 @@ use Rattle.chars.specs.Chars.{wellFormed}
 use Rattle.recording.specs.declared.Entry.{Entry}
 use Rattle.recording.specs.Recording.{Bytes, Recording, recording, entry, entriesOf, numbersOf, partOf}
 use Rattle.recording.specs.Refusals.{refuseIf, badShape, entryFault, entriesFault, recordingFault}
-use Rattle.recording.specs.Outcome.{Result, done, overLimit, Lent}
+use Rattle.recording.specs.Outcome.{Result, done, overLimit, Lent, roomIn}
 use Rattle.recording.proofs.Lists.{not-false}
 use Rattle.recording.proofs.FaultLaws.{firstOf-zero, refuseIf-zero, NoFault, no-fault, fault-free, InLimits, in-limits, NoEntryFault, no-entry-fault, granted}
 use Rattle.recording.proofs.OutcomeLaws.{done-only}
-use Rattle.recorder.specs.Recorder.{roomIn, leaves, usedOf, addFaults, withData, withEntry, withLabel, withPop, withRaw, written, pushed, popped, rawAdded}
+use Rattle.recorder.specs.Recorder.{leaves, usedOf, addFaults, withData, withEntry, withLabel, withPop, withRaw, written, pushed, popped, rawAdded}
 
 -- ── one entry without faults, put together
 entry-clean : (at : ℕ) (d t : Bytes) (e : Entry) → NoEntryFault at d t e → entryFault at d t e ≡ 0

@@ -16,7 +16,7 @@ use Rattle.recording.specs.declared.Checked.{Checked}
 use Rattle.recording.specs.declared.Checked.the-variants as C
 use Rattle.recording.specs.Recording.{Bytes, Recording, recording, entry, numbersOf}
 use Rattle.recording.specs.Refusals.{numberOf, firstOf, refuseIf, recordingFault}
-use Rattle.recording.specs.Outcome.{Room, Result, Faults, overLimit, noRoom, refusalOf, settle, Lent, lentAfter, returned, answerOf}
+use Rattle.recording.specs.Outcome.{Room, Result, Faults, overLimit, noRoom, refusalOf, settle, Lent, lentAfter, returned, answerOf, roomIn}
 use Rattle.recording.specs.Check.{faultOf}
 use Rattle.recording.proofs.Lists.{or-left, or-right}
 use Rattle.recording.proofs.FaultLaws.{firstOf-zero, refuseIf-zero, no-fault}
@@ -26,7 +26,7 @@ use Rattle.writer.specs.declared.Settled.{Settled}
 use Rattle.writer.specs.declared.Settled.the-variants as S
 use Rattle.writer.specs.Sizes.{sizesFault, settledFault}
 use Rattle.writer.proofs.Sizes.{size-refused, size-granted, Fitting, fitting}
-use Rattle.recorder.specs.Recorder.{lent, roomIn, leaves, usedOf, lengthsFault, addFaults, withData, withEntry}
+use Rattle.recorder.specs.Recorder.{lentOf, leaves, usedOf, lengthsFault, addFaults, withData, withEntry}
 
 -- ── buffers of which the front is used
 pub over-take : (d : ℕ) (x buf : List ℕ) → d ≤ length buf → over (take d buf ++ x) buf ≡ overAt d x buf
@@ -158,7 +158,7 @@ module _ (f : Faults) (b : Lent) (q : Recording) where
 
   pub add-done : (d e t : ℕ) (od oe ot : List ℕ) → refusalOf f (roomIn b) (leaves q) ≡ 0 → d ≡ length (q .dataBytes) → e ≡ length (q .entryNumbers) → t ≡ length (q .text)
       → od ≡ over (q .dataBytes) (b .dataBytes) → oe ≡ over (q .entryNumbers) (b .entryNumbers) → ot ≡ over (q .text) (b .text) → [] ≡ b .lines
-      → (answerOf (Done d e t 0) ≡ returned (settle f (roomIn b) (leaves q))) × (lent od oe ot ≡ lentAfter (settle f (roomIn b) (leaves q)) b)
+      → (answerOf (Done d e t 0) ≡ returned (settle f (roomIn b) (leaves q))) × (lentOf od oe ot ≡ lentAfter (settle f (roomIn b) (leaves q)) b)
   unfolding lentAfter over
   add-done d e t od oe ot z ed ee et wd we wt wl = (
     done-answer f (roomIn b) (leaves q) d e t 0 z ed ee et refl,

@@ -11,7 +11,7 @@ use Rattle.recording.specs.declared.Checked.{Checked}
 use Rattle.recording.specs.declared.Checked.the-variants as C
 use Rattle.recording.specs.Recording.{Recording, recording, items, textOf, encode}
 use Rattle.recording.specs.Refusals.{numberOf, firstOf, recordingFault}
-use Rattle.recording.specs.Outcome.{Room, Result, done, overLimit, noRoom, refusalOf, Lent, lentAfter, returned, answerOf}
+use Rattle.recording.specs.Outcome.{Room, Result, done, overLimit, noRoom, refusalOf, Lent, lentAfter, returned, answerOf, roomIn}
 use Rattle.recording.specs.Check.{faultOf, Counted}
 use Rattle.recording.proofs.FaultLaws.{granted, ok-recording, encoded}
 use Rattle.recording.proofs.OutcomeLaws.{number-pos, stops-content, stops-sizes, is-done, refused-answer, refused-lent, done-answer, done-only}
@@ -23,14 +23,14 @@ use Rattle.writer.specs.Write.{out, add, blank, Fits, Sound}
 use Rattle.writer.specs.Sizes.{sizesFault, settledFault, roomOf}
 use Rattle.writer.proofs.Steps.{data-size, sound, from-start}
 use Rattle.writer.proofs.Sizes.{size-refused, size-granted, fits-blank, numbers-items, quads-of}
-use Rattle.recorder.specs.Recorder.{lent, roomIn, leaves, replayFaults, replayed}
+use Rattle.recorder.specs.Recorder.{lentOf, leaves, replayFaults, replayed}
 
 module _ (ds ns ts od oe ot : List ℕ) where
   abbrev q : Recording
   q = recording ds ns ts
 
   abbrev b : Lent
-  b = lent od oe ot
+  b = lentOf od oe ot
 
   abbrev refusal : ℕ
   refusal = refusalOf (replayFaults q) (roomIn b) (leaves (encode (items q)))
@@ -44,7 +44,7 @@ module _ (ds ns ts od oe ot : List ℕ) where
   )
 
   pub replay-done : (od′ oe′ ot′ : List ℕ) (c : Cursor) → refusal ≡ 0 → out od′ oe′ ot′ c ≡ add (items q) (blank od oe ot)
-      → (answerOf (Done (c .d) (c .e) (c .t) 0) ≡ returned (replayed q b)) × (lent od′ oe′ ot′ ≡ lentAfter (replayed q b) b)
+      → (answerOf (Done (c .d) (c .e) (c .t) 0) ≡ returned (replayed q b)) × (lentOf od′ oe′ ot′ ≡ lentAfter (replayed q b) b)
   unfolding replayed lentAfter encode over
   replay-done od′ oe′ ot′ c z w =
       let f = from-start (items q) od oe ot od′ oe′ ot′ c w in (

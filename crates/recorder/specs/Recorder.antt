@@ -7,14 +7,11 @@ use lib.ListN.{length, take}
 use Rattle.chars.specs.Chars.{wellFormed}
 use Rattle.recording.specs.Recording.{Bytes, Recording, recording, entry, numbersOf, items, encode}
 use Rattle.recording.specs.Refusals.{refuseIf, recordingFault}
-use Rattle.recording.specs.Outcome.{Room, Result, Faults, Outcome, settle, Lent}
+use Rattle.recording.specs.Outcome.{Result, Faults, Outcome, settle, Lent, roomIn}
 
 -- the three buffers that a call is lent, without a line list
-abbrev pub lent : Bytes → List ℕ → Bytes → Lent
-lent d e t = record { dataBytes = d; entryNumbers = e; text = t; lines = [] }
-
-abbrev pub roomIn : Lent → Room
-roomIn b = record { dataBytes = length (b .dataBytes); entryNumbers = length (b .entryNumbers); text = length (b .text); lines = length (b .lines) }
+abbrev pub lentOf : Bytes → List ℕ → Bytes → Lent
+lentOf d e t = record { dataBytes = d; entryNumbers = e; text = t; lines = [] }
 
 -- a call of this module leaves a recording, no lines, and returns no number of its own
 abbrev pub leaves : Recording → Result

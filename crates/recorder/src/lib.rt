@@ -1,5 +1,5 @@
 // Module 1 of document 01, the recorder: append data, push a label, pop it, append a raw sequence, replay. None of the calls requires anything.
-// Each answers as `returned` and leaves its buffers as `lentAfter` have it of the call's outcome in `specs/Recorder.antt`; refused calls write nothing.
+// Each keeps the promise (`Promised`) of its outcome in `specs/Recorder.antt`; refused calls write nothing.
 // A call makes the lead table once and lends it down: that is the parameter t of the functions behind it.
 use buffer::put;
 use chars::LEADS;
@@ -22,9 +22,9 @@ ghost use Rattle.buffer.specs.Place.{overAt};
 ghost use Rattle.chars.specs.Leads.{leadTable};
 ghost use Rattle.recording.specs.Recording.{recording, entry, numbersOf};
 ghost use Rattle.recording.specs.Refusals.{firstOf, recordingFault};
-ghost use Rattle.recording.specs.Outcome.{lentAfter, returned, answerOf};
+ghost use Rattle.recording.specs.Outcome.{Promised};
 ghost use Rattle.recording.specs.Check.{faultOf};
-ghost use Rattle.recorder.specs.Recorder.{lent, usedOf, lengthsFault, replayed, written, pushed, popped, rawAdded};
+ghost use Rattle.recorder.specs.Recorder.{lentOf, usedOf, lengthsFault, replayed, written, pushed, popped, rawAdded};
 
 fn replay_by(
     t: &[u16; 256],
@@ -36,8 +36,9 @@ fn replay_by(
     texts: &mut [u8],
 ) -> Answer
     requires { ⌜ now t ≡ leadTable ⌝ }
-    ensures { λ r. ⌜ answerOf r ≡ returned (replayed (recording (now (content .entry)) (now (entries .entry)) (now (text .entry))) (lent (now (bytes .entry)) (now (numbers .entry)) (now (texts .entry)))) ⌝ }
-    ensures { λ r. ⌜ lent (now (bytes .exit)) (now (numbers .exit)) (now (texts .exit)) ≡ lentAfter (replayed (recording (now (content .entry)) (now (entries .entry)) (now (text .entry))) (lent (now (bytes .entry)) (now (numbers .entry)) (now (texts .entry)))) (lent (now (bytes .entry)) (now (numbers .entry)) (now (texts .entry))) ⌝ }
+    ensures { λ r. ⌜ Promised
+        (replayed (recording (now (content .entry)) (now (entries .entry)) (now (text .entry))) (lentOf (now (bytes .entry)) (now (numbers .entry)) (now (texts .entry))))
+        (lentOf (now (bytes .entry)) (now (numbers .entry)) (now (texts .entry))) (lentOf (now (bytes .exit)) (now (numbers .exit)) (now (texts .exit))) r ⌝ }
 {
     let checked = check(t, content, entries, text);
     let size = match checked {
@@ -87,8 +88,9 @@ pub fn replay(
     out_entries: &mut [u32],
     out_text: &mut [u8],
 ) -> Answer
-    ensures { λ r. ⌜ answerOf r ≡ returned (replayed (recording (now (content .entry)) (now (entries .entry)) (now (text .entry))) (lent (now («out_data» .entry)) (now («out_entries» .entry)) (now («out_text» .entry)))) ⌝ }
-    ensures { λ r. ⌜ lent (now («out_data» .exit)) (now («out_entries» .exit)) (now («out_text» .exit)) ≡ lentAfter (replayed (recording (now (content .entry)) (now (entries .entry)) (now (text .entry))) (lent (now («out_data» .entry)) (now («out_entries» .entry)) (now («out_text» .entry)))) (lent (now («out_data» .entry)) (now («out_entries» .entry)) (now («out_text» .entry))) ⌝ }
+    ensures { λ r. ⌜ Promised
+        (replayed (recording (now (content .entry)) (now (entries .entry)) (now (text .entry))) (lentOf (now («out_data» .entry)) (now («out_entries» .entry)) (now («out_text» .entry))))
+        (lentOf (now («out_data» .entry)) (now («out_entries» .entry)) (now («out_text» .entry))) (lentOf (now («out_data» .exit)) (now («out_entries» .exit)) (now («out_text» .exit))) r ⌝ }
 {
     let t = LEADS;
     replay_by(&t, content, entries, text, out_data, out_entries, out_text)
@@ -105,7 +107,9 @@ fn check_used(
     n: usize,
 ) -> Checked
     requires { ⌜ now t ≡ leadTable ⌝ }
-    ensures { λ r. ⌜ faultOf r ≡ firstOf (lengthsFault (lent (now (content .entry)) (now (entries .entry)) (now (text .entry))) d e n ∷ recordingFault (usedOf (lent (now (content .entry)) (now (entries .entry)) (now (text .entry))) d e n) ∷ []) ⌝ }
+    ensures { λ r. ⌜ faultOf r
+        ≡ firstOf (lengthsFault (lentOf (now (content .entry)) (now (entries .entry)) (now (text .entry))) d e n
+        ∷ recordingFault (usedOf (lentOf (now (content .entry)) (now (entries .entry)) (now (text .entry))) d e n) ∷ []) ⌝ }
 {
     if content.len() < d {
         return Checked::Refused(Refusal::LengthOverBuffer);
@@ -120,7 +124,9 @@ fn check_used(
 }
 
 fn check_lent(content: &[u8], entries: &[u32], text: &[u8], d: usize, e: usize, n: usize) -> Checked
-    ensures { λ r. ⌜ faultOf r ≡ firstOf (lengthsFault (lent (now (content .entry)) (now (entries .entry)) (now (text .entry))) d e n ∷ recordingFault (usedOf (lent (now (content .entry)) (now (entries .entry)) (now (text .entry))) d e n) ∷ []) ⌝ }
+    ensures { λ r. ⌜ faultOf r
+        ≡ firstOf (lengthsFault (lentOf (now (content .entry)) (now (entries .entry)) (now (text .entry))) d e n
+        ∷ recordingFault (usedOf (lentOf (now (content .entry)) (now (entries .entry)) (now (text .entry))) d e n) ∷ []) ⌝ }
 {
     let t = LEADS;
     check_used(&t, content, entries, text, d, e, n)
@@ -136,8 +142,9 @@ pub fn write(
     text_len: usize,
     added: &[u8],
 ) -> Answer
-    ensures { λ r. ⌜ answerOf r ≡ returned (written (now (added .entry)) (lent (now (content .entry)) (now (entries .entry)) (now (text .entry))) «content_len» «entries_len» «text_len») ⌝ }
-    ensures { λ r. ⌜ lent (now (content .exit)) (now (entries .entry)) (now (text .entry)) ≡ lentAfter (written (now (added .entry)) (lent (now (content .entry)) (now (entries .entry)) (now (text .entry))) «content_len» «entries_len» «text_len») (lent (now (content .entry)) (now (entries .entry)) (now (text .entry))) ⌝ }
+    ensures { λ r. ⌜ Promised
+        (written (now (added .entry)) (lentOf (now (content .entry)) (now (entries .entry)) (now (text .entry))) «content_len» «entries_len» «text_len»)
+        (lentOf (now (content .entry)) (now (entries .entry)) (now (text .entry))) (lentOf (now (content .exit)) (now (entries .entry)) (now (text .entry))) r ⌝ }
 {
     let checked = check_lent(content, entries, text, content_len, entries_len, text_len);
     match checked {
@@ -181,8 +188,9 @@ pub fn pop_label(
     text: &[u8],
     text_len: usize,
 ) -> Answer
-    ensures { λ r. ⌜ answerOf r ≡ returned (popped (lent (now (content .entry)) (now (entries .entry)) (now (text .entry))) «content_len» «entries_len» «text_len») ⌝ }
-    ensures { λ r. ⌜ lent (now (content .entry)) (now (entries .exit)) (now (text .entry)) ≡ lentAfter (popped (lent (now (content .entry)) (now (entries .entry)) (now (text .entry))) «content_len» «entries_len» «text_len») (lent (now (content .entry)) (now (entries .entry)) (now (text .entry))) ⌝ }
+    ensures { λ r. ⌜ Promised
+        (popped (lentOf (now (content .entry)) (now (entries .entry)) (now (text .entry))) «content_len» «entries_len» «text_len»)
+        (lentOf (now (content .entry)) (now (entries .entry)) (now (text .entry))) (lentOf (now (content .entry)) (now (entries .exit)) (now (text .entry))) r ⌝ }
 {
     let checked = check_lent(content, entries, text, content_len, entries_len, text_len);
     match checked {
@@ -258,8 +266,9 @@ fn push_by(
     label: &[u8],
 ) -> Answer
     requires { ⌜ now t ≡ leadTable ⌝ }
-    ensures { λ r. ⌜ answerOf r ≡ returned (pushed (now (label .entry)) (lent (now (content .entry)) (now (entries .entry)) (now (text .entry))) «content_len» «entries_len» «text_len») ⌝ }
-    ensures { λ r. ⌜ lent (now (content .entry)) (now (entries .exit)) (now (text .exit)) ≡ lentAfter (pushed (now (label .entry)) (lent (now (content .entry)) (now (entries .entry)) (now (text .entry))) «content_len» «entries_len» «text_len») (lent (now (content .entry)) (now (entries .entry)) (now (text .entry))) ⌝ }
+    ensures { λ r. ⌜ Promised
+        (pushed (now (label .entry)) (lentOf (now (content .entry)) (now (entries .entry)) (now (text .entry))) «content_len» «entries_len» «text_len»)
+        (lentOf (now (content .entry)) (now (entries .entry)) (now (text .entry))) (lentOf (now (content .entry)) (now (entries .exit)) (now (text .exit))) r ⌝ }
 {
     let checked = check_used(
         t,
@@ -314,8 +323,9 @@ pub fn push_label(
     text_len: usize,
     label: &[u8],
 ) -> Answer
-    ensures { λ r. ⌜ answerOf r ≡ returned (pushed (now (label .entry)) (lent (now (content .entry)) (now (entries .entry)) (now (text .entry))) «content_len» «entries_len» «text_len») ⌝ }
-    ensures { λ r. ⌜ lent (now (content .entry)) (now (entries .exit)) (now (text .exit)) ≡ lentAfter (pushed (now (label .entry)) (lent (now (content .entry)) (now (entries .entry)) (now (text .entry))) «content_len» «entries_len» «text_len») (lent (now (content .entry)) (now (entries .entry)) (now (text .entry))) ⌝ }
+    ensures { λ r. ⌜ Promised
+        (pushed (now (label .entry)) (lentOf (now (content .entry)) (now (entries .entry)) (now (text .entry))) «content_len» «entries_len» «text_len»)
+        (lentOf (now (content .entry)) (now (entries .entry)) (now (text .entry))) (lentOf (now (content .entry)) (now (entries .exit)) (now (text .exit))) r ⌝ }
 {
     let t = LEADS;
     push_by(
@@ -340,8 +350,9 @@ pub fn raw(
     text_len: usize,
     sequence: &[u8],
 ) -> Answer
-    ensures { λ r. ⌜ answerOf r ≡ returned (rawAdded (now (sequence .entry)) (lent (now (content .entry)) (now (entries .entry)) (now (text .entry))) «content_len» «entries_len» «text_len») ⌝ }
-    ensures { λ r. ⌜ lent (now (content .entry)) (now (entries .exit)) (now (text .exit)) ≡ lentAfter (rawAdded (now (sequence .entry)) (lent (now (content .entry)) (now (entries .entry)) (now (text .entry))) «content_len» «entries_len» «text_len») (lent (now (content .entry)) (now (entries .entry)) (now (text .entry))) ⌝ }
+    ensures { λ r. ⌜ Promised
+        (rawAdded (now (sequence .entry)) (lentOf (now (content .entry)) (now (entries .entry)) (now (text .entry))) «content_len» «entries_len» «text_len»)
+        (lentOf (now (content .entry)) (now (entries .entry)) (now (text .entry))) (lentOf (now (content .entry)) (now (entries .exit)) (now (text .exit))) r ⌝ }
 {
     let checked = check_lent(content, entries, text, content_len, entries_len, text_len);
     match checked {

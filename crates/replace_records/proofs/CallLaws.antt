@@ -1,36 +1,37 @@
--- The public call from what its five calls say. The plan's refusal is the outcome's, by the laws of the flat call; with none, the turns and the end write the result; with one, nothing has moved.
+-- The public call from what its five calls say. The plan's refusal is the outcome's, by the laws of the scan and of a call on a content alone; with none, the turns and the end write the result; with one, nothing has moved.
 use mathlib.Core.Path.{_≡_, refl, sym, ap, subst, _∙_}
-use mathlib.Core.Bool.{Bool, false, cond}
+use mathlib.Core.Bool.{false, cond}
 use mathlib.Core.List.{List, [], _∷_}
 use Prim.Native.Nat.{ℕ, zero, suc, _+_, _-_, _≤_}
 use native.Mathlib.Omega.{arith}
 use lib.ListN.{length}
+use Rattle.buffer.specs.Place.{over}
 use Rattle.recording.specs.declared.Answer.{Answer}
-use Rattle.recording.specs.declared.Answer.the-variants.{Refused}
+use Rattle.recording.specs.declared.Answer.the-variants.{Refused, Done}
 use Rattle.recording.specs.declared.Checked.the-variants as CV
 use Rattle.recording.specs.declared.Refusal.{Refusal}
-use Rattle.recording.specs.Recording.{recording, items, textOf}
-use Rattle.recording.specs.Edit.{edit}
+use Rattle.recording.specs.Recording.{Recording, recording, items, textOf}
+use Rattle.recording.specs.Edit.{edit, editData}
 use Rattle.recording.specs.Refusals.{numberOf, firstOf, recordingFault}
-use Rattle.recording.specs.Check.{faultOf, Counted}
-use Rattle.recording.specs.Outcome.{answerOf}
+use Rattle.recording.specs.Check.{faultOf}
+use Rattle.recording.specs.Outcome.{Lent, roomIn, answerOf}
 use Rattle.recording.proofs.FaultLaws.{firstOf-zero}
 use Rattle.recording.proofs.OutcomeLaws.{first-hit, first-on, first-one}
 use Rattle.writer.specs.declared.Cursor.{Cursor}
 use Rattle.writer.specs.declared.Settled.{Settled}
 use Rattle.writer.specs.declared.Settled.the-variants as S
-use Rattle.writer.specs.Write.{out, blank, Fits}
-use Rattle.writer.specs.Sizes.{settledFault, sizesFault, roomOf}
+use Rattle.writer.specs.Write.{out, add, blank, Fits}
+use Rattle.writer.specs.Sizes.{settledFault, sizesFault}
+use Rattle.writer.proofs.Steps.{sound}
 use Rattle.layout.specs.declared.Replacement.{Replacement}
-use Rattle.layout.specs.Layout.{replaceOps, recordsFault, replace}
-use Rattle.layout.specs.Lent.{callOn}
-use Rattle.outcomes.proofs.OutcomeLaws.{own-stops}
+use Rattle.layout.specs.Layout.{Single, writeReplaced, replaceOps, singleOps, singleFault, replace, number}
+use Rattle.layout.specs.Lent.{lentOf, Leaves}
+use Rattle.outcomes.proofs.AloneLaws.{content-refused, own-refused, sizes-refused, has-room, written}
 use Rattle.replace.specs.declared.Scan.{Scan}
 use Rattle.replace.specs.Records.{capped, scan, checkAll}
 use Rattle.replace.proofs.RecordLaws.{no-eight}
-use Rattle.replace.proofs.ScanLaws.{eight, result-size}
 use Rattle.replace.proofs.PlanLaws.{State, state-first}
-use Rattle.replace.proofs.CallLaws as call
+use Rattle.replace.proofs.CallLaws.{records-fault, none-bad, within, settled}
 use Rattle.replace_records.specs.declared.Work.{Work}
 use Rattle.replace_records.specs.Work.{World, world, outOf, MayTurns, Turns, Last, MayEnd, Ended}
 use Rattle.replace_records.specs.Plan.{sizeFault, planFault, atStart}
@@ -46,35 +47,35 @@ pub from-first : (ds new : List ℕ) (xs : List Replacement) (z s : Scan) → z 
 from-first ds new xs z s e q = q ∙ ap (λ (v : Scan). checkAll (length ds) (length new) xs v) e
 
 module _ (ds ns ts new od oe ot : List ℕ) (xs : List Replacement) (s : Scan) (scanned : s ≡ checkAll (length ds) (length new) xs (scan false 0 0)) where
-  fault : cond (s .bad) 8 0 ≡ recordsFault 0 (length ds) (length new) xs
-  fault = ap (λ (w : Scan). cond (w .bad) 8 0) scanned ∙ eight (length ds) (length new) xs (scan false 0 0) refl
-
   -- what the plan asks
   pub scan-within : s .bad ≡ false → s .at ≤ length ds
-  scan-within ok =
-      subst (λ (u : Scan). u .at ≤ length ds) (sym scanned)
-      (result-size ds new xs (scan false 0 0) refl (omega arith) (sym fault ∙ ap (λ (b : Bool). cond b 8 0) ok) .0)
+  scan-within ok = within ds new xs s scanned ok
+
+  abbrev call : Single
+  call = writeReplaced xs new
+
+  abbrev content : Recording
+  content = recording ds ns ts
+
+  abbrev lent : Lent
+  lent = lentOf od oe ot
 
   abbrev size : ℕ
-  size = length (textOf (items (recording ds ns ts)))
+  size = length (textOf (items content))
 
-  fine : recordingFault (recording ds ns ts) ≡ 0 → faultOf (CV.Fine size) ≡ recordingFault (recording ds ns ts)
-  unfolding faultOf
-  fine a = sym a
-
-  counted : Counted (CV.Fine size) size
-  unfolding Counted
-  counted = refl
-
-  told-of : (f : Refusal) → numberOf f ≡ recordingFault (recording ds ns ts) → faultOf (CV.Refused f) ≡ recordingFault (recording ds ns ts)
+  told-of : (f : Refusal) → numberOf f ≡ recordingFault content → faultOf (CV.Refused f) ≡ recordingFault content
   unfolding faultOf
   told-of f e = e
 
-  abbrev sizes : ℕ
-  sizes = sizesFault (capped (s .size + (length ds - s .at))) (length ns) size 0 (roomOf (length od) (length oe) (length ot) 0)
+  -- the size of the data, as the plan takes it
+  abbrev capped-size : ℕ
+  capped-size = capped (s .size + (length ds - s .at))
 
-  module _ (p : Work) (planned : (settledFault (p .verdict) ≡ planFault ds ns ts s (roomOf (length od) (length oe) (length ot) 0)) × (p .cursor ≡ atStart)) where
-    by-three : settledFault (p .verdict) ≡ firstOf (recordingFault (recording ds ns ts) ∷ cond (s .bad) 8 0 ∷ sizes ∷ [])
+  abbrev sizes : ℕ
+  sizes = sizesFault capped-size (length ns) size 0 (roomIn lent)
+
+  module _ (p : Work) (planned : (settledFault (p .verdict) ≡ planFault ds ns ts s (roomIn lent)) × (p .cursor ≡ atStart)) where
+    by-three : settledFault (p .verdict) ≡ firstOf (recordingFault content ∷ cond (s .bad) 8 0 ∷ sizes ∷ [])
     unfolding planFault sizeFault
     by-three = planned .0
 
@@ -83,42 +84,58 @@ module _ (ds ns ts new od oe ot : List ℕ) (xs : List Replacement) (s : Scan) (
 
     -- ── refused: by the content, by a record, by the sizes
     module _ (f : Refusal) (q : p .verdict ≡ S.Refused f) where
-      kept : call.Kept ds ns ts new od oe ot xs (Refused f) od oe ot
+      kept : Leaves (replace xs new) content lent lent (Refused f)
       kept =
-          first-of-three (recordingFault (recording ds ns ts)) (cond (s .bad) 8 0) sizes (numberOf f) (sym (refused-is (p .verdict) f q) ∙ by-three)
-          (λ e. call.content-refused ds ns ts new od oe ot xs (CV.Refused f) (told-of f e) f refl)
-          (λ a e. call.stopped ds ns ts new od oe ot xs f (own-stops (replace xs new) (callOn (replace xs new) od oe ot .room) (recording ds ns ts) a (call.no-second ds ns ts new od oe ot xs) f (call.records-are ds ns ts new od oe ot xs ∙ sym fault ∙ sym e)))
-          (λ a b e. call.sizes-refused ds ns ts new od oe ot xs (CV.Fine size) (fine a) size refl counted s scanned (no-eight (s .bad) 0 b .0) (capped (s .size + (length ds - s .at))) refl (S.Refused f) (refused-is (S.Refused f) f refl ∙ e) f refl)
+          first-of-three (recordingFault content) (cond (s .bad) 8 0) sizes (numberOf f) (sym (refused-is (p .verdict) f q) ∙ by-three)
+          (λ e. content-refused call ds ns ts lent (CV.Refused f) (told-of f e) f refl)
+          (λ a e. own-refused call ds ns ts lent size a refl f (sym (records-fault ds new xs s scanned) ∙ sym e))
+          (λ a b e. by-sizes a (no-eight (s .bad) 0 b .0) (refused-is (S.Refused f) f refl ∙ e))
+        where
+          by-sizes : recordingFault content ≡ 0 → s .bad ≡ false → settledFault (S.Refused f) ≡ sizes → Leaves (replace xs new) content lent lent (Refused f)
+          by-sizes a ok g =
+              sizes-refused call ds ns ts lent size a refl (none-bad ds new xs s scanned ok) _ 0 refl refl (S.Refused f)
+              (settled ds new xs s scanned ok capped-size (length ns) size (roomIn lent) refl (S.Refused f) g) f refl
 
     -- ── with room
     module _ (q : p .verdict ≡ S.Room) where
-      zeros : firstOf (recordingFault (recording ds ns ts) ∷ cond (s .bad) 8 0 ∷ sizes ∷ []) ≡ 0
+      zeros : firstOf (recordingFault content ∷ cond (s .bad) 8 0 ∷ sizes ∷ []) ≡ 0
       zeros = sym by-three ∙ room-is (p .verdict) q
 
-      no-fault : recordingFault (recording ds ns ts) ≡ 0
-      no-fault = firstOf-zero (recordingFault (recording ds ns ts)) (cond (s .bad) 8 0 ∷ sizes ∷ []) zeros .0
+      no-fault : recordingFault content ≡ 0
+      no-fault = firstOf-zero (recordingFault content) (cond (s .bad) 8 0 ∷ sizes ∷ []) zeros .0
 
       two : firstOf (cond (s .bad) 8 0 ∷ sizes ∷ []) ≡ 0
-      two = firstOf-zero (recordingFault (recording ds ns ts)) (cond (s .bad) 8 0 ∷ sizes ∷ []) zeros .1
+      two = firstOf-zero (recordingFault content) (cond (s .bad) 8 0 ∷ sizes ∷ []) zeros .1
 
       ok : s .bad ≡ false
       ok = no-eight (s .bad) 0 (firstOf-zero (cond (s .bad) 8 0) (sizes ∷ []) two .0) .0
 
-      settled : settledFault (p .verdict) ≡ sizes
-      settled = room-is (p .verdict) q ∙ sym (sym (first-one sizes) ∙ firstOf-zero (cond (s .bad) 8 0) (sizes ∷ []) two .1)
+      good : singleFault call ds ≡ 0
+      good = none-bad ds new xs s scanned ok
 
-      room : Fits (edit (replaceOps new 0 xs) (items (recording ds ns ts))) (blank od oe ot)
-      room = call.room ds ns ts new od oe ot xs (CV.Fine size) (fine no-fault) size refl counted s scanned ok (capped (s .size + (length ds - s .at))) refl (p .verdict) settled q
+      sized : settledFault (p .verdict) ≡ sizesFault (length (editData (singleOps call ds) ds)) (length ns) size 0 (roomIn lent)
+      sized =
+          settled ds new xs s scanned ok capped-size (length ns) size (roomIn lent) refl (p .verdict)
+          (room-is (p .verdict) q ∙ sym (sym (first-one sizes) ∙ firstOf-zero (cond (s .bad) 8 0) (sizes ∷ []) two .1))
+
+      room : Fits (edit (replaceOps new 0 xs) (items content)) (blank od oe ot)
+      room = has-room call ds ns ts lent size no-fault refl good _ 0 refl refl (p .verdict) sized q
 
       start : State ds ns ts new xs xs (blank od oe ot) (outOf before) (p .cursor)
       unfolding out
       start =
           subst (λ (c : Cursor). State ds ns ts new xs xs (blank od oe ot) (out od oe ot c) c) (sym (planned .1))
-          (state-first ds ns ts new xs (blank od oe ot) atStart refl refl (call.is-sound ds ns ts new od oe ot xs (CV.Fine size) (fine no-fault) size refl counted) (sym fault ∙ ap (λ (b : Bool). cond b 8 0) ok))
+          (state-first ds ns ts new xs (blank od oe ot) atStart refl refl (sound ds ns ts no-fault) good)
 
-    -- what is kept of equal answers and buffers
-    moved : {a b : Answer} {od₁ oe₁ ot₁ od₂ oe₂ ot₂ : List ℕ} → a ≡ b → od₁ ≡ od₂ → oe₁ ≡ oe₂ → ot₁ ≡ ot₂ → call.Kept ds ns ts new od oe ot xs b od₂ oe₂ ot₂ → call.Kept ds ns ts new od oe ot xs a od₁ oe₁ ot₁
-    moved ea ed ee et k = (ap answerOf ea ∙ k .0, (ed ∙ k .1 .0, (ee ∙ k .1 .1 .0, et ∙ k .1 .1 .1)))
+      finished : (od′ oe′ ot′ : List ℕ) (c : Cursor) → out od′ oe′ ot′ c ≡ add (edit (replaceOps new 0 xs) (items content)) (blank od oe ot)
+          → Leaves (replace xs new) content lent (lentOf od′ oe′ ot′) (Done (c .d) (c .e) (c .t) 0)
+      unfolding number over
+      finished od′ oe′ ot′ c wrote = written call ds ns ts lent size no-fault refl good _ 0 refl refl (p .verdict) sized q 0 od′ oe′ ot′ [] c refl wrote refl
+
+    -- the promise of equal answers and buffers
+    moved : {a b : Answer} {od₁ oe₁ ot₁ od₂ oe₂ ot₂ : List ℕ} → a ≡ b → od₁ ≡ od₂ → oe₁ ≡ oe₂ → ot₁ ≡ ot₂
+        → Leaves (replace xs new) content lent (lentOf od₂ oe₂ ot₂) b → Leaves (replace xs new) content lent (lentOf od₁ oe₁ ot₁) a
+    moved ea ed ee et k = (ap answerOf ea ∙ k .0, (λ i. lentOf (ed i) (ee i) (et i)) ∙ k .1)
 
     -- what the writing asks
     pub may-write : MayTurns ds ns ts new xs before
@@ -139,10 +156,10 @@ module _ (ds ns ts new od oe ot : List ℕ) (xs : List Replacement) (s : Scan) (
           go S.Room q = last ds ns ts new xs (blank od oe ot) (room q) w (turns-end ds ns ts new xs (blank od oe ot) (room q) xs before w q (start q) turns .1)
 
       -- and what the call promises
-      pub promised : (a : Answer) (od′ oe′ ot′ : List ℕ) → Ended ds ns ts w a od′ oe′ ot′ → call.Kept ds ns ts new od oe ot xs a od′ oe′ ot′
+      pub promised : (a : Answer) (od′ oe′ ot′ : List ℕ) → Ended ds ns ts w a od′ oe′ ot′ → Leaves (replace xs new) content lent (lentOf od′ oe′ ot′) a
       promised a od′ oe′ ot′ end = go (p .verdict) refl
         where
-          go : (v : Settled) → p .verdict ≡ v → call.Kept ds ns ts new od oe ot xs a od′ oe′ ot′
+          go : (v : Settled) → p .verdict ≡ v → Leaves (replace xs new) content lent (lentOf od′ oe′ ot′) a
           go (S.Refused f) q =
               let same = turns-none ds ns ts new f xs before w q turns in
               let e = end .refused f (ap (λ (u : World). u .work .verdict) same ∙ q) in
@@ -150,6 +167,5 @@ module _ (ds ns ts new od oe ot : List ℕ) (xs : List Replacement) (s : Scan) (
           go S.Room q =
               let t = turns-end ds ns ts new xs (blank od oe ot) (room q) xs before w q (start q) turns in
               let e = end .done (t .0) in
-              subst (λ (b : Answer). call.Kept ds ns ts new od oe ot xs b od′ oe′ ot′) (sym (e .1))
-              (call.finished ds ns ts new od oe ot xs (CV.Fine size) (fine (no-fault q)) size refl counted s scanned (ok q) (capped (s .size + (length ds - s .at))) refl (p .verdict) (settled q) q od′ oe′ ot′ (e .0)
-              (all-wrote ds ns ts new xs (blank od oe ot) (room q) w (out od′ oe′ ot′ (e .0)) (t .1) (e .2)))
+              subst (λ (b : Answer). Leaves (replace xs new) content lent (lentOf od′ oe′ ot′) b) (sym (e .1))
+              (finished q od′ oe′ ot′ (e .0) (all-wrote ds ns ts new xs (blank od oe ot) (room q) w (out od′ oe′ ot′ (e .0)) (t .1) (e .2)))

@@ -20,10 +20,9 @@ ghost use mathlib.Core.Bool.{false};
 ghost use Prim.Native.Nat.{_≤_};
 ghost use lib.ListN.{length};
 ghost use Rattle.recording.specs.Recording.{recording};
-ghost use Rattle.recording.specs.Outcome.{answerOf, returned, lentAfter};
 ghost use Rattle.writer.specs.Sizes.{settledFault, roomOf};
-ghost use Rattle.layout.specs.Layout.{replace, outcome};
-ghost use Rattle.layout.specs.Lent.{lentOf, callOn};
+ghost use Rattle.layout.specs.Layout.{replace};
+ghost use Rattle.layout.specs.Lent.{lentOf, Leaves};
 ghost use Rattle.replace.specs.Records.{scan, checkAll};
 ghost use Rattle.replace_records.specs.Work.{world, MayTurn, TurnOf, MayTurns, Turns, MayEnd, Ended};
 ghost use Rattle.replace_records.specs.Plan.{planFault, atStart};
@@ -224,10 +223,8 @@ pub fn write_replaced(
     numbers: &mut [u32],
     texts: &mut [u8],
 ) -> Answer
-    ensures { λ r. ⌜ answerOf r ≡ returned (outcome (callOn (replace (now (records .entry)) (now (new .entry))) (now (bytes .entry)) (now (numbers .entry)) (now (texts .entry))) (recording (now (content .entry)) (now (entries .entry)) (now (text .entry)))) ⌝ }
-    ensures { λ r. ⌜ now (bytes .exit) ≡ lentAfter (outcome (callOn (replace (now (records .entry)) (now (new .entry))) (now (bytes .entry)) (now (numbers .entry)) (now (texts .entry))) (recording (now (content .entry)) (now (entries .entry)) (now (text .entry)))) (lentOf (now (bytes .entry)) (now (numbers .entry)) (now (texts .entry))) .dataBytes ⌝ }
-    ensures { λ r. ⌜ now (numbers .exit) ≡ lentAfter (outcome (callOn (replace (now (records .entry)) (now (new .entry))) (now (bytes .entry)) (now (numbers .entry)) (now (texts .entry))) (recording (now (content .entry)) (now (entries .entry)) (now (text .entry)))) (lentOf (now (bytes .entry)) (now (numbers .entry)) (now (texts .entry))) .entryNumbers ⌝ }
-    ensures { λ r. ⌜ now (texts .exit) ≡ lentAfter (outcome (callOn (replace (now (records .entry)) (now (new .entry))) (now (bytes .entry)) (now (numbers .entry)) (now (texts .entry))) (recording (now (content .entry)) (now (entries .entry)) (now (text .entry)))) (lentOf (now (bytes .entry)) (now (numbers .entry)) (now (texts .entry))) .text ⌝ }
+    ensures { λ r. ⌜ Leaves (replace (now (records .entry)) (now (new .entry))) (recording (now (content .entry)) (now (entries .entry)) (now (text .entry)))
+        (lentOf (now (bytes .entry)) (now (numbers .entry)) (now (texts .entry))) (lentOf (now (bytes .exit)) (now (numbers .exit)) (now (texts .exit))) r ⌝ }
 {
     let s = check_each(records, first(), content.len(), new.len());
     let p = plan(

@@ -3,13 +3,11 @@
 use layout::Replacement;
 use recording::Answer;
 use replace_records::write_replaced;
-ghost use mathlib.Core.Path.{_≡_};
 ghost use mathlib.Core.List.{[], _∷_};
 ghost use Prim.Native.Nat.{_≤_};
 ghost use Rattle.recording.specs.Recording.{recording};
-ghost use Rattle.recording.specs.Outcome.{answerOf, returned, lentAfter};
-ghost use Rattle.layout.specs.Layout.{replace, outcome};
-ghost use Rattle.layout.specs.Lent.{lentOf, callOn};
+ghost use Rattle.layout.specs.Layout.{replace};
+ghost use Rattle.layout.specs.Lent.{lentOf, Leaves};
 
 // Lends two records as a list. It is proved by hand, as a walk: a list of structs is lent nowhere else.
 fn with_two(
@@ -23,10 +21,8 @@ fn with_two(
     numbers: &mut [u32],
     texts: &mut [u8],
 ) -> Answer
-    ensures { λ r. ⌜ answerOf r ≡ returned (outcome (callOn (replace (a ∷ b ∷ []) (now (new .entry))) (now (bytes .entry)) (now (numbers .entry)) (now (texts .entry))) (recording (now (content .entry)) (now (entries .entry)) (now (text .entry)))) ⌝ }
-    ensures { λ r. ⌜ now (bytes .exit) ≡ lentAfter (outcome (callOn (replace (a ∷ b ∷ []) (now (new .entry))) (now (bytes .entry)) (now (numbers .entry)) (now (texts .entry))) (recording (now (content .entry)) (now (entries .entry)) (now (text .entry)))) (lentOf (now (bytes .entry)) (now (numbers .entry)) (now (texts .entry))) .dataBytes ⌝ }
-    ensures { λ r. ⌜ now (numbers .exit) ≡ lentAfter (outcome (callOn (replace (a ∷ b ∷ []) (now (new .entry))) (now (bytes .entry)) (now (numbers .entry)) (now (texts .entry))) (recording (now (content .entry)) (now (entries .entry)) (now (text .entry)))) (lentOf (now (bytes .entry)) (now (numbers .entry)) (now (texts .entry))) .entryNumbers ⌝ }
-    ensures { λ r. ⌜ now (texts .exit) ≡ lentAfter (outcome (callOn (replace (a ∷ b ∷ []) (now (new .entry))) (now (bytes .entry)) (now (numbers .entry)) (now (texts .entry))) (recording (now (content .entry)) (now (entries .entry)) (now (text .entry)))) (lentOf (now (bytes .entry)) (now (numbers .entry)) (now (texts .entry))) .text ⌝ }
+    ensures { λ r. ⌜ Leaves (replace (a ∷ b ∷ []) (now (new .entry))) (recording (now (content .entry)) (now (entries .entry)) (now (text .entry)))
+        (lentOf (now (bytes .entry)) (now (numbers .entry)) (now (texts .entry))) (lentOf (now (bytes .exit)) (now (numbers .exit)) (now (texts .exit))) r ⌝ }
 {
     let rs = [a, b];
     write_replaced(content, entries, text, &rs, new, bytes, numbers, texts)

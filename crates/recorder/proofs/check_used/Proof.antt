@@ -1,7 +1,7 @@
 -- `check_used`: a length above its buffer comes first (`at-once`), else the fault is that of the used parts.
 use borrow.Author.Needs.{needs}
 use Rattle.recorder.proofs.AddLaws.{long-data, long-entries, long-text, no-long, at-once}
-use Rattle.recorder.specs.Recorder.{lent, usedOf, lengthsFault}
+use Rattle.recorder.specs.Recorder.{lentOf, usedOf, lengthsFault}
 use Rattle.recording.proofs.OutcomeLaws.{first-on, first-one}
 use Rattle.recording.specs.Check.{faultOf}
 use Rattle.recording.specs.Refusals.{numberOf, recordingFault}
@@ -17,17 +17,17 @@ use Rattle.recording.proofs.check.Reads as check-reads
 returns : tie.Need-returns
 unfolding faultOf numberOf
 returns c =
-    sym (at-once (lent (c .before .before .before .before .args .content .now) (c .before .before .before .before .args .entries .now) (c .before .before .before .before .args .text .now)) (c .before .before .before .before .args .d) (c .before .before .before .before .args .e) (c .before .before .before .before .args .n) (long-data _ _ _ _ (c .if1 .taken)))
+    sym (at-once (lentOf (c .before .before .before .before .args .content .now) (c .before .before .before .before .args .entries .now) (c .before .before .before .before .args .text .now)) (c .before .before .before .before .args .d) (c .before .before .before .before .args .e) (c .before .before .before .before .args .n) (long-data _ _ _ _ (c .if1 .taken)))
 
 returns-2 : tie.Need-returns-2
 unfolding faultOf numberOf
 returns-2 c =
-    sym (at-once (lent (c .before .before .before .before .before .args .content .now) (c .before .before .before .before .before .args .entries .now) (c .before .before .before .before .before .args .text .now)) (c .before .before .before .before .before .args .d) (c .before .before .before .before .before .args .e) (c .before .before .before .before .before .args .n) (long-entries _ _ _ _ (c .before .if1 .left) (c .if2 .taken)))
+    sym (at-once (lentOf (c .before .before .before .before .before .args .content .now) (c .before .before .before .before .before .args .entries .now) (c .before .before .before .before .before .args .text .now)) (c .before .before .before .before .before .args .d) (c .before .before .before .before .before .args .e) (c .before .before .before .before .before .args .n) (long-entries _ _ _ _ (c .before .if1 .left) (c .if2 .taken)))
 
 returns-3 : tie.Need-returns-3
 unfolding faultOf numberOf
 returns-3 c =
-    sym (at-once (lent (c .before .before .before .before .before .before .args .content .now) (c .before .before .before .before .before .before .args .entries .now) (c .before .before .before .before .before .before .args .text .now)) (c .before .before .before .before .before .before .args .d) (c .before .before .before .before .before .before .args .e) (c .before .before .before .before .before .before .args .n) (long-text _ _ _ _ (c .before .before .if1 .left) (c .before .if2 .left) (c .if3 .taken)))
+    sym (at-once (lentOf (c .before .before .before .before .before .before .args .content .now) (c .before .before .before .before .before .before .args .entries .now) (c .before .before .before .before .before .before .args .text .now)) (c .before .before .before .before .before .before .args .d) (c .before .before .before .before .before .before .args .e) (c .before .before .before .before .before .before .args .n) (long-text _ _ _ _ (c .before .before .if1 .left) (c .before .if2 .left) (c .if3 .taken)))
 
 slice-aggregate-check : tie.Need-slice-aggregate-check
 slice-aggregate-check c =
@@ -46,9 +46,9 @@ check-requires c κs = search needs
 
 returns-4 : tie.Need-returns-4
 returns-4 c =
-    let z = no-long (lent (c .before .before .before .before .before .before .before .before .before .before .args .content .now) (c .before .before .before .before .before .before .before .before .before .before .args .entries .now) (c .before .before .before .before .before .before .before .before .before .before .args .text .now)) (c .before .before .before .before .before .before .before .before .before .before .args .d) (c .before .before .before .before .before .before .before .before .before .before .args .e) (c .before .before .before .before .before .before .before .before .before .before .args .n) (c .before .before .before .before .before .before .if1 .left) (c .before .before .before .before .before .if2 .left) (c .before .before .before .before .if3 .left) in
-    let r = recordingFault (usedOf (lent (c .before .before .before .before .before .before .before .before .before .before .args .content .now) (c .before .before .before .before .before .before .before .before .before .before .args .entries .now) (c .before .before .before .before .before .before .before .before .before .before .args .text .now)) (c .before .before .before .before .before .before .before .before .before .before .args .d) (c .before .before .before .before .before .before .before .before .before .before .args .e) (c .before .before .before .before .before .before .before .before .before .before .args .n)) in
-    c .check .ensures .0 ∙ sym (first-on (lengthsFault (lent (c .before .before .before .before .before .before .before .before .before .before .args .content .now) (c .before .before .before .before .before .before .before .before .before .before .args .entries .now) (c .before .before .before .before .before .before .before .before .before .before .args .text .now)) (c .before .before .before .before .before .before .before .before .before .before .args .d) (c .before .before .before .before .before .before .before .before .before .before .args .e) (c .before .before .before .before .before .before .before .before .before .before .args .n)) (r ∷ []) z ∙ first-one r)
+    let z = no-long (lentOf (c .before .before .before .before .before .before .before .before .before .before .args .content .now) (c .before .before .before .before .before .before .before .before .before .before .args .entries .now) (c .before .before .before .before .before .before .before .before .before .before .args .text .now)) (c .before .before .before .before .before .before .before .before .before .before .args .d) (c .before .before .before .before .before .before .before .before .before .before .args .e) (c .before .before .before .before .before .before .before .before .before .before .args .n) (c .before .before .before .before .before .before .if1 .left) (c .before .before .before .before .before .if2 .left) (c .before .before .before .before .if3 .left) in
+    let r = recordingFault (usedOf (lentOf (c .before .before .before .before .before .before .before .before .before .before .args .content .now) (c .before .before .before .before .before .before .before .before .before .before .args .entries .now) (c .before .before .before .before .before .before .before .before .before .before .args .text .now)) (c .before .before .before .before .before .before .before .before .before .before .args .d) (c .before .before .before .before .before .before .before .before .before .before .args .e) (c .before .before .before .before .before .before .before .before .before .before .args .n)) in
+    c .check .ensures .0 ∙ sym (first-on (lengthsFault (lentOf (c .before .before .before .before .before .before .before .before .before .before .args .content .now) (c .before .before .before .before .before .before .before .before .before .before .args .entries .now) (c .before .before .before .before .before .before .before .before .before .before .args .text .now)) (c .before .before .before .before .before .before .before .before .before .before .args .d) (c .before .before .before .before .before .before .before .before .before .before .args .e) (c .before .before .before .before .before .before .before .before .before .before .args .n)) (r ∷ []) z ∙ first-one r)
 
 pub check-used-spec : {M : Type 1} → statement M
 check-used-spec =

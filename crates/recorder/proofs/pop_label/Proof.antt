@@ -3,7 +3,8 @@ use native.Mathlib.Omega.{arith}
 use borrow.Author.Needs.{needs}
 use Rattle.writer.proofs.Carry.{over-none}
 use Rattle.recorder.proofs.AddLaws.{check-refused, is-inside, limits, too-large, accepted, fits, add-refused, add-done, entry-sizes, entry-left}
-use Rattle.recorder.specs.Recorder.{lent, roomIn, leaves, usedOf, addFaults, popped, withEntry, withPop}
+use Rattle.recording.specs.Outcome.{roomIn}
+use Rattle.recorder.specs.Recorder.{lentOf, leaves, usedOf, addFaults, popped, withEntry, withPop}
 use Prim.Native.Nat.{_+_}
 use mathlib.Core.List.{[]}
 use mathlib.Core.Path.{refl, sym}
@@ -28,14 +29,14 @@ returns : tie.Need-returns
 unfolding popped withPop
 returns c =
     let g = c .before .checked .given in
-    add-refused (addFaults 0 (lent (c .before .before .before .before .before .before .before .before .args .content .now) (c .before .before .before .before .before .before .before .before .args .entries .now) (c .before .before .before .before .before .before .before .before .args .text .now)) (c .before .before .before .before .before .before .before .before .args .content-len) (c .before .before .before .before .before .before .before .before .args .entries-len) (c .before .before .before .before .before .before .before .before .args .text-len)) (lent (c .before .before .before .before .before .before .before .before .args .content .now) (c .before .before .before .before .before .before .before .before .args .entries .now) (c .before .before .before .before .before .before .before .before .args .text .now)) (withEntry 1 0 [] (usedOf (lent (c .before .before .before .before .before .before .before .before .args .content .now) (c .before .before .before .before .before .before .before .before .args .entries .now) (c .before .before .before .before .before .before .before .before .args .text .now)) (c .before .before .before .before .before .before .before .before .args .content-len) (c .before .before .before .before .before .before .before .before .args .entries-len) (c .before .before .before .before .before .before .before .before .args .text-len))) (g .0 .0) (check-refused (lent (c .before .before .before .before .before .before .before .before .args .content .now) (c .before .before .before .before .before .before .before .before .args .entries .now) (c .before .before .before .before .before .before .before .before .args .text .now)) (c .before .before .before .before .before .before .before .before .args .content-len) (c .before .before .before .before .before .before .before .before .args .entries-len) (c .before .before .before .before .before .before .before .before .args .text-len) (c .before .before .before .check-lent .result) (c .before .before .before .check-lent .ensures) 0 (roomIn (lent (c .before .before .before .before .before .before .before .before .args .content .now) (c .before .before .before .before .before .before .before .before .args .entries .now) (c .before .before .before .before .before .before .before .before .args .text .now))) (leaves (withEntry 1 0 [] (usedOf (lent (c .before .before .before .before .before .before .before .before .args .content .now) (c .before .before .before .before .before .before .before .before .args .entries .now) (c .before .before .before .before .before .before .before .before .args .text .now)) (c .before .before .before .before .before .before .before .before .args .content-len) (c .before .before .before .before .before .before .before .before .args .entries-len) (c .before .before .before .before .before .before .before .before .args .text-len)))) (g .0 .0) (g .1))
+    add-refused (addFaults 0 (lentOf (c .before .before .before .before .before .before .before .before .args .content .now) (c .before .before .before .before .before .before .before .before .args .entries .now) (c .before .before .before .before .before .before .before .before .args .text .now)) (c .before .before .before .before .before .before .before .before .args .content-len) (c .before .before .before .before .before .before .before .before .args .entries-len) (c .before .before .before .before .before .before .before .before .args .text-len)) (lentOf (c .before .before .before .before .before .before .before .before .args .content .now) (c .before .before .before .before .before .before .before .before .args .entries .now) (c .before .before .before .before .before .before .before .before .args .text .now)) (withEntry 1 0 [] (usedOf (lentOf (c .before .before .before .before .before .before .before .before .args .content .now) (c .before .before .before .before .before .before .before .before .args .entries .now) (c .before .before .before .before .before .before .before .before .args .text .now)) (c .before .before .before .before .before .before .before .before .args .content-len) (c .before .before .before .before .before .before .before .before .args .entries-len) (c .before .before .before .before .before .before .before .before .args .text-len))) (g .0 .0) (check-refused (lentOf (c .before .before .before .before .before .before .before .before .args .content .now) (c .before .before .before .before .before .before .before .before .args .entries .now) (c .before .before .before .before .before .before .before .before .args .text .now)) (c .before .before .before .before .before .before .before .before .args .content-len) (c .before .before .before .before .before .before .before .before .args .entries-len) (c .before .before .before .before .before .before .before .before .args .text-len) (c .before .before .before .check-lent .result) (c .before .before .before .check-lent .ensures) 0 (roomIn (lentOf (c .before .before .before .before .before .before .before .before .args .content .now) (c .before .before .before .before .before .before .before .before .args .entries .now) (c .before .before .before .before .before .before .before .before .args .text .now))) (leaves (withEntry 1 0 [] (usedOf (lentOf (c .before .before .before .before .before .before .before .before .args .content .now) (c .before .before .before .before .before .before .before .before .args .entries .now) (c .before .before .before .before .before .before .before .before .args .text .now)) (c .before .before .before .before .before .before .before .before .args .content-len) (c .before .before .before .before .before .before .before .before .args .entries-len) (c .before .before .before .before .before .before .before .before .args .text-len)))) (g .0 .0) (g .1))
 
 enum-told : tie.Need-enum-told
 enum-told c = search needs
 
 add-settle : tie.Need-add-settle
 add-settle c =
-    omega (arith, limits (lent (c .before .before .before .before .before .before .before .args .content .now) (c .before .before .before .before .before .before .before .args .entries .now) (c .before .before .before .before .before .before .before .args .text .now)) (c .before .before .before .before .before .before .before .args .content-len) (c .before .before .before .before .before .before .before .args .entries-len) (c .before .before .before .before .before .before .before .args .text-len) (c .before .before .check-lent .result) (c .before .before .check-lent .ensures) (c .enum-told .given .0 .0) (c .enum-told .given .1), c .before .before .before .before .before .before .before .good)
+    omega (arith, limits (lentOf (c .before .before .before .before .before .before .before .args .content .now) (c .before .before .before .before .before .before .before .args .entries .now) (c .before .before .before .before .before .before .before .args .text .now)) (c .before .before .before .before .before .before .before .args .content-len) (c .before .before .before .before .before .before .before .args .entries-len) (c .before .before .before .before .before .before .before .args .text-len) (c .before .before .check-lent .result) (c .before .before .check-lent .ensures) (c .enum-told .given .0 .0) (c .enum-told .given .1), c .before .before .before .before .before .before .before .good)
 
 settle-requires : tie.Need-settle-requires
 settle-requires c κs = search needs
@@ -50,28 +51,28 @@ returns-2 : tie.Need-returns-2
 unfolding popped withPop
 returns-2 c =
     let h = c .before .verdict .given in
-    let i = is-inside (lent (c .before .before .before .before .before .before .before .before .before .before .before .args .content .now) (c .before .before .before .before .before .before .before .before .before .before .before .args .entries .now) (c .before .before .before .before .before .before .before .before .before .before .before .args .text .now)) (c .before .before .before .before .before .before .before .before .before .before .before .args .content-len) (c .before .before .before .before .before .before .before .before .before .before .before .args .entries-len) (c .before .before .before .before .before .before .before .before .before .before .before .args .text-len) (c .before .before .before .before .before .before .check-lent .result) (c .before .before .before .before .before .before .check-lent .ensures) (c .before .before .before .before .enum-told .given .0 .0) (c .before .before .before .before .enum-told .given .1) in
-    let s = entry-sizes (lent (c .before .before .before .before .before .before .before .before .before .before .before .args .content .now) (c .before .before .before .before .before .before .before .before .before .before .before .args .entries .now) (c .before .before .before .before .before .before .before .before .before .before .before .args .text .now)) (c .before .before .before .before .before .before .before .before .before .before .before .args .content-len) (c .before .before .before .before .before .before .before .before .before .before .before .args .entries-len) (c .before .before .before .before .before .before .before .before .before .before .before .args .text-len) [] i 1 0 in
-    add-refused (addFaults 0 (lent (c .before .before .before .before .before .before .before .before .before .before .before .args .content .now) (c .before .before .before .before .before .before .before .before .before .before .before .args .entries .now) (c .before .before .before .before .before .before .before .before .before .before .before .args .text .now)) (c .before .before .before .before .before .before .before .before .before .before .before .args .content-len) (c .before .before .before .before .before .before .before .before .before .before .before .args .entries-len) (c .before .before .before .before .before .before .before .before .before .before .before .args .text-len)) (lent (c .before .before .before .before .before .before .before .before .before .before .before .args .content .now) (c .before .before .before .before .before .before .before .before .before .before .before .args .entries .now) (c .before .before .before .before .before .before .before .before .before .before .before .args .text .now)) (withEntry 1 0 [] (usedOf (lent (c .before .before .before .before .before .before .before .before .before .before .before .args .content .now) (c .before .before .before .before .before .before .before .before .before .before .before .args .entries .now) (c .before .before .before .before .before .before .before .before .before .before .before .args .text .now)) (c .before .before .before .before .before .before .before .before .before .before .before .args .content-len) (c .before .before .before .before .before .before .before .before .before .before .before .args .entries-len) (c .before .before .before .before .before .before .before .before .before .before .before .args .text-len))) (h .0 .0) (too-large (lent (c .before .before .before .before .before .before .before .before .before .before .before .args .content .now) (c .before .before .before .before .before .before .before .before .before .before .before .args .entries .now) (c .before .before .before .before .before .before .before .before .before .before .before .args .text .now)) (c .before .before .before .before .before .before .before .before .before .before .before .args .content-len) (c .before .before .before .before .before .before .before .before .before .before .before .args .entries-len) (c .before .before .before .before .before .before .before .before .before .before .before .args .text-len) (c .before .before .before .before .before .before .check-lent .result) (c .before .before .before .before .before .before .check-lent .ensures) (c .before .before .before .before .enum-told .given .0 .0) (c .before .before .before .before .enum-told .given .1) 0 refl (roomIn (lent (c .before .before .before .before .before .before .before .before .before .before .before .args .content .now) (c .before .before .before .before .before .before .before .before .before .before .before .args .entries .now) (c .before .before .before .before .before .before .before .before .before .before .before .args .text .now))) (leaves (withEntry 1 0 [] (usedOf (lent (c .before .before .before .before .before .before .before .before .before .before .before .args .content .now) (c .before .before .before .before .before .before .before .before .before .before .before .args .entries .now) (c .before .before .before .before .before .before .before .before .before .before .before .args .text .now)) (c .before .before .before .before .before .before .before .before .before .before .before .args .content-len) (c .before .before .before .before .before .before .before .before .before .before .before .args .entries-len) (c .before .before .before .before .before .before .before .before .before .before .before .args .text-len)))) (c .before .before .before .settle .result) (c .before .before .before .before .before .before .before .before .before .before .before .args .content-len) (c .before .before .before .before .before .before .before .before .before .before .before .args .entries-len + 4) (c .before .before .before .before .before .before .before .before .before .before .before .args .text-len) (c .before .before .before .settle .ensures) (s .0) (s .1) (omega (arith, s .2)) refl (h .0 .0) (h .1))
+    let i = is-inside (lentOf (c .before .before .before .before .before .before .before .before .before .before .before .args .content .now) (c .before .before .before .before .before .before .before .before .before .before .before .args .entries .now) (c .before .before .before .before .before .before .before .before .before .before .before .args .text .now)) (c .before .before .before .before .before .before .before .before .before .before .before .args .content-len) (c .before .before .before .before .before .before .before .before .before .before .before .args .entries-len) (c .before .before .before .before .before .before .before .before .before .before .before .args .text-len) (c .before .before .before .before .before .before .check-lent .result) (c .before .before .before .before .before .before .check-lent .ensures) (c .before .before .before .before .enum-told .given .0 .0) (c .before .before .before .before .enum-told .given .1) in
+    let s = entry-sizes (lentOf (c .before .before .before .before .before .before .before .before .before .before .before .args .content .now) (c .before .before .before .before .before .before .before .before .before .before .before .args .entries .now) (c .before .before .before .before .before .before .before .before .before .before .before .args .text .now)) (c .before .before .before .before .before .before .before .before .before .before .before .args .content-len) (c .before .before .before .before .before .before .before .before .before .before .before .args .entries-len) (c .before .before .before .before .before .before .before .before .before .before .before .args .text-len) [] i 1 0 in
+    add-refused (addFaults 0 (lentOf (c .before .before .before .before .before .before .before .before .before .before .before .args .content .now) (c .before .before .before .before .before .before .before .before .before .before .before .args .entries .now) (c .before .before .before .before .before .before .before .before .before .before .before .args .text .now)) (c .before .before .before .before .before .before .before .before .before .before .before .args .content-len) (c .before .before .before .before .before .before .before .before .before .before .before .args .entries-len) (c .before .before .before .before .before .before .before .before .before .before .before .args .text-len)) (lentOf (c .before .before .before .before .before .before .before .before .before .before .before .args .content .now) (c .before .before .before .before .before .before .before .before .before .before .before .args .entries .now) (c .before .before .before .before .before .before .before .before .before .before .before .args .text .now)) (withEntry 1 0 [] (usedOf (lentOf (c .before .before .before .before .before .before .before .before .before .before .before .args .content .now) (c .before .before .before .before .before .before .before .before .before .before .before .args .entries .now) (c .before .before .before .before .before .before .before .before .before .before .before .args .text .now)) (c .before .before .before .before .before .before .before .before .before .before .before .args .content-len) (c .before .before .before .before .before .before .before .before .before .before .before .args .entries-len) (c .before .before .before .before .before .before .before .before .before .before .before .args .text-len))) (h .0 .0) (too-large (lentOf (c .before .before .before .before .before .before .before .before .before .before .before .args .content .now) (c .before .before .before .before .before .before .before .before .before .before .before .args .entries .now) (c .before .before .before .before .before .before .before .before .before .before .before .args .text .now)) (c .before .before .before .before .before .before .before .before .before .before .before .args .content-len) (c .before .before .before .before .before .before .before .before .before .before .before .args .entries-len) (c .before .before .before .before .before .before .before .before .before .before .before .args .text-len) (c .before .before .before .before .before .before .check-lent .result) (c .before .before .before .before .before .before .check-lent .ensures) (c .before .before .before .before .enum-told .given .0 .0) (c .before .before .before .before .enum-told .given .1) 0 refl (roomIn (lentOf (c .before .before .before .before .before .before .before .before .before .before .before .args .content .now) (c .before .before .before .before .before .before .before .before .before .before .before .args .entries .now) (c .before .before .before .before .before .before .before .before .before .before .before .args .text .now))) (leaves (withEntry 1 0 [] (usedOf (lentOf (c .before .before .before .before .before .before .before .before .before .before .before .args .content .now) (c .before .before .before .before .before .before .before .before .before .before .before .args .entries .now) (c .before .before .before .before .before .before .before .before .before .before .before .args .text .now)) (c .before .before .before .before .before .before .before .before .before .before .before .args .content-len) (c .before .before .before .before .before .before .before .before .before .before .before .args .entries-len) (c .before .before .before .before .before .before .before .before .before .before .before .args .text-len)))) (c .before .before .before .settle .result) (c .before .before .before .before .before .before .before .before .before .before .before .args .content-len) (c .before .before .before .before .before .before .before .before .before .before .before .args .entries-len + 4) (c .before .before .before .before .before .before .before .before .before .before .before .args .text-len) (c .before .before .before .settle .ensures) (s .0) (s .1) (omega (arith, s .2)) refl (h .0 .0) (h .1))
 
 enum-told-2 : tie.Need-enum-told-2
 enum-told-2 c = search needs
 
 cast-t18 : tie.Need-cast-t18
 cast-t18 c =
-    omega (arith, limits (lent (c .before .before .before .before .before .before .before .before .before .before .args .content .now) (c .before .before .before .before .before .before .before .before .before .before .args .entries .now) (c .before .before .before .before .before .before .before .before .before .before .args .text .now)) (c .before .before .before .before .before .before .before .before .before .before .args .content-len) (c .before .before .before .before .before .before .before .before .before .before .args .entries-len) (c .before .before .before .before .before .before .before .before .before .before .args .text-len) (c .before .before .before .before .before .check-lent .result) (c .before .before .before .before .before .check-lent .ensures) (c .before .before .before .enum-told .given .0 .0) (c .before .before .before .enum-told .given .1), c .before .before .before .before .before .before .before .before .before .before .good)
+    omega (arith, limits (lentOf (c .before .before .before .before .before .before .before .before .before .before .args .content .now) (c .before .before .before .before .before .before .before .before .before .before .args .entries .now) (c .before .before .before .before .before .before .before .before .before .before .args .text .now)) (c .before .before .before .before .before .before .before .before .before .before .args .content-len) (c .before .before .before .before .before .before .before .before .before .before .args .entries-len) (c .before .before .before .before .before .before .before .before .before .before .args .text-len) (c .before .before .before .before .before .check-lent .result) (c .before .before .before .before .before .check-lent .ensures) (c .before .before .before .enum-told .given .0 .0) (c .before .before .before .enum-told .given .1), c .before .before .before .before .before .before .before .before .before .before .good)
 
 set-entry-requires : tie.Need-set-entry-requires
 set-entry-requires c κs =
-    let i = is-inside (lent (c .before .before .before .before .before .before .before .before .before .before .before .args .content .now) (c .before .before .before .before .before .before .before .before .before .before .before .args .entries .now) (c .before .before .before .before .before .before .before .before .before .before .before .args .text .now)) (c .before .before .before .before .before .before .before .before .before .before .before .args .content-len) (c .before .before .before .before .before .before .before .before .before .before .before .args .entries-len) (c .before .before .before .before .before .before .before .before .before .before .before .args .text-len) (c .before .before .before .before .before .before .check-lent .result) (c .before .before .before .before .before .before .check-lent .ensures) (c .before .before .before .before .enum-told .given .0 .0) (c .before .before .before .before .enum-told .given .1) in
-    let s = entry-sizes (lent (c .before .before .before .before .before .before .before .before .before .before .before .args .content .now) (c .before .before .before .before .before .before .before .before .before .before .before .args .entries .now) (c .before .before .before .before .before .before .before .before .before .before .before .args .text .now)) (c .before .before .before .before .before .before .before .before .before .before .before .args .content-len) (c .before .before .before .before .before .before .before .before .before .before .before .args .entries-len) (c .before .before .before .before .before .before .before .before .before .before .before .args .text-len) [] i 1 0 in
-    let f = fits (lent (c .before .before .before .before .before .before .before .before .before .before .before .args .content .now) (c .before .before .before .before .before .before .before .before .before .before .before .args .entries .now) (c .before .before .before .before .before .before .before .before .before .before .before .args .text .now)) (c .before .before .before .before .before .before .before .before .before .before .before .args .content-len) (c .before .before .before .before .before .before .before .before .before .before .before .args .entries-len) (c .before .before .before .before .before .before .before .before .before .before .before .args .text-len) (c .before .before .before .before .before .before .check-lent .result) (c .before .before .before .before .before .before .check-lent .ensures) (c .before .before .before .before .enum-told .given .0 .0) (c .before .before .before .before .enum-told .given .1) 0 refl (roomIn (lent (c .before .before .before .before .before .before .before .before .before .before .before .args .content .now) (c .before .before .before .before .before .before .before .before .before .before .before .args .entries .now) (c .before .before .before .before .before .before .before .before .before .before .before .args .text .now))) (leaves (withEntry 1 0 [] (usedOf (lent (c .before .before .before .before .before .before .before .before .before .before .before .args .content .now) (c .before .before .before .before .before .before .before .before .before .before .before .args .entries .now) (c .before .before .before .before .before .before .before .before .before .before .before .args .text .now)) (c .before .before .before .before .before .before .before .before .before .before .before .args .content-len) (c .before .before .before .before .before .before .before .before .before .before .before .args .entries-len) (c .before .before .before .before .before .before .before .before .before .before .before .args .text-len)))) (c .before .before .before .settle .result) (c .before .before .before .before .before .before .before .before .before .before .before .args .content-len) (c .before .before .before .before .before .before .before .before .before .before .before .args .entries-len + 4) (c .before .before .before .before .before .before .before .before .before .before .before .args .text-len) (c .before .before .before .settle .ensures) (s .0) (s .1) (omega (arith, s .2)) refl (c .before .enum-told2 .given .1) in
-    let m = limits (lent (c .before .before .before .before .before .before .before .before .before .before .before .args .content .now) (c .before .before .before .before .before .before .before .before .before .before .before .args .entries .now) (c .before .before .before .before .before .before .before .before .before .before .before .args .text .now)) (c .before .before .before .before .before .before .before .before .before .before .before .args .content-len) (c .before .before .before .before .before .before .before .before .before .before .before .args .entries-len) (c .before .before .before .before .before .before .before .before .before .before .before .args .text-len) (c .before .before .before .before .before .before .check-lent .result) (c .before .before .before .before .before .before .check-lent .ensures) (c .before .before .before .before .enum-told .given .0 .0) (c .before .before .before .before .enum-told .given .1) in
+    let i = is-inside (lentOf (c .before .before .before .before .before .before .before .before .before .before .before .args .content .now) (c .before .before .before .before .before .before .before .before .before .before .before .args .entries .now) (c .before .before .before .before .before .before .before .before .before .before .before .args .text .now)) (c .before .before .before .before .before .before .before .before .before .before .before .args .content-len) (c .before .before .before .before .before .before .before .before .before .before .before .args .entries-len) (c .before .before .before .before .before .before .before .before .before .before .before .args .text-len) (c .before .before .before .before .before .before .check-lent .result) (c .before .before .before .before .before .before .check-lent .ensures) (c .before .before .before .before .enum-told .given .0 .0) (c .before .before .before .before .enum-told .given .1) in
+    let s = entry-sizes (lentOf (c .before .before .before .before .before .before .before .before .before .before .before .args .content .now) (c .before .before .before .before .before .before .before .before .before .before .before .args .entries .now) (c .before .before .before .before .before .before .before .before .before .before .before .args .text .now)) (c .before .before .before .before .before .before .before .before .before .before .before .args .content-len) (c .before .before .before .before .before .before .before .before .before .before .before .args .entries-len) (c .before .before .before .before .before .before .before .before .before .before .before .args .text-len) [] i 1 0 in
+    let f = fits (lentOf (c .before .before .before .before .before .before .before .before .before .before .before .args .content .now) (c .before .before .before .before .before .before .before .before .before .before .before .args .entries .now) (c .before .before .before .before .before .before .before .before .before .before .before .args .text .now)) (c .before .before .before .before .before .before .before .before .before .before .before .args .content-len) (c .before .before .before .before .before .before .before .before .before .before .before .args .entries-len) (c .before .before .before .before .before .before .before .before .before .before .before .args .text-len) (c .before .before .before .before .before .before .check-lent .result) (c .before .before .before .before .before .before .check-lent .ensures) (c .before .before .before .before .enum-told .given .0 .0) (c .before .before .before .before .enum-told .given .1) 0 refl (roomIn (lentOf (c .before .before .before .before .before .before .before .before .before .before .before .args .content .now) (c .before .before .before .before .before .before .before .before .before .before .before .args .entries .now) (c .before .before .before .before .before .before .before .before .before .before .before .args .text .now))) (leaves (withEntry 1 0 [] (usedOf (lentOf (c .before .before .before .before .before .before .before .before .before .before .before .args .content .now) (c .before .before .before .before .before .before .before .before .before .before .before .args .entries .now) (c .before .before .before .before .before .before .before .before .before .before .before .args .text .now)) (c .before .before .before .before .before .before .before .before .before .before .before .args .content-len) (c .before .before .before .before .before .before .before .before .before .before .before .args .entries-len) (c .before .before .before .before .before .before .before .before .before .before .before .args .text-len)))) (c .before .before .before .settle .result) (c .before .before .before .before .before .before .before .before .before .before .before .args .content-len) (c .before .before .before .before .before .before .before .before .before .before .before .args .entries-len + 4) (c .before .before .before .before .before .before .before .before .before .before .before .args .text-len) (c .before .before .before .settle .ensures) (s .0) (s .1) (omega (arith, s .2)) refl (c .before .enum-told2 .given .1) in
+    let m = limits (lentOf (c .before .before .before .before .before .before .before .before .before .before .before .args .content .now) (c .before .before .before .before .before .before .before .before .before .before .before .args .entries .now) (c .before .before .before .before .before .before .before .before .before .before .before .args .text .now)) (c .before .before .before .before .before .before .before .before .before .before .before .args .content-len) (c .before .before .before .before .before .before .before .before .before .before .before .args .entries-len) (c .before .before .before .before .before .before .before .before .before .before .before .args .text-len) (c .before .before .before .before .before .before .check-lent .result) (c .before .before .before .before .before .before .check-lent .ensures) (c .before .before .before .before .enum-told .given .0 .0) (c .before .before .before .before .enum-told .given .1) in
     omega (arith, f .entry-room, s .1)
 
 add-t14 : tie.Need-add-t14
 add-t14 c =
-    omega (arith, limits (lent (c .before .before .before .before .before .before .before .before .before .before .before .before .before .before .args .content .now) (c .before .before .before .before .before .before .before .before .before .before .before .before .before .before .args .entries .now) (c .before .before .before .before .before .before .before .before .before .before .before .before .before .before .args .text .now)) (c .before .before .before .before .before .before .before .before .before .before .before .before .before .before .args .content-len) (c .before .before .before .before .before .before .before .before .before .before .before .before .before .before .args .entries-len) (c .before .before .before .before .before .before .before .before .before .before .before .before .before .before .args .text-len) (c .before .before .before .before .before .before .before .before .before .check-lent .result) (c .before .before .before .before .before .before .before .before .before .check-lent .ensures) (c .before .before .before .before .before .before .before .enum-told .given .0 .0) (c .before .before .before .before .before .before .before .enum-told .given .1), c .before .before .before .before .before .before .before .before .before .before .before .before .before .before .good)
+    omega (arith, limits (lentOf (c .before .before .before .before .before .before .before .before .before .before .before .before .before .before .args .content .now) (c .before .before .before .before .before .before .before .before .before .before .before .before .before .before .args .entries .now) (c .before .before .before .before .before .before .before .before .before .before .before .before .before .before .args .text .now)) (c .before .before .before .before .before .before .before .before .before .before .before .before .before .before .args .content-len) (c .before .before .before .before .before .before .before .before .before .before .before .before .before .before .args .entries-len) (c .before .before .before .before .before .before .before .before .before .before .before .before .before .before .args .text-len) (c .before .before .before .before .before .before .before .before .before .check-lent .result) (c .before .before .before .before .before .before .before .before .before .check-lent .ensures) (c .before .before .before .before .before .before .before .enum-told .given .0 .0) (c .before .before .before .before .before .before .before .enum-told .given .1), c .before .before .before .before .before .before .before .before .before .before .before .before .before .before .good)
 
 same-length-3 : tie.Need-same-length-3
 same-length-3 c = search needs
@@ -79,11 +80,11 @@ same-length-3 c = search needs
 returns-3 : tie.Need-returns-3
 unfolding popped withPop
 returns-3 c =
-    let i = is-inside (lent (c .before .before .before .before .before .before .before .before .before .before .before .before .before .before .args .content .now) (c .before .before .before .before .before .before .before .before .before .before .before .before .before .before .args .entries .now) (c .before .before .before .before .before .before .before .before .before .before .before .before .before .before .args .text .now)) (c .before .before .before .before .before .before .before .before .before .before .before .before .before .before .args .content-len) (c .before .before .before .before .before .before .before .before .before .before .before .before .before .before .args .entries-len) (c .before .before .before .before .before .before .before .before .before .before .before .before .before .before .args .text-len) (c .before .before .before .before .before .before .before .before .before .check-lent .result) (c .before .before .before .before .before .before .before .before .before .check-lent .ensures) (c .before .before .before .before .before .before .before .enum-told .given .0 .0) (c .before .before .before .before .before .before .before .enum-told .given .1) in
-    let s = entry-sizes (lent (c .before .before .before .before .before .before .before .before .before .before .before .before .before .before .args .content .now) (c .before .before .before .before .before .before .before .before .before .before .before .before .before .before .args .entries .now) (c .before .before .before .before .before .before .before .before .before .before .before .before .before .before .args .text .now)) (c .before .before .before .before .before .before .before .before .before .before .before .before .before .before .args .content-len) (c .before .before .before .before .before .before .before .before .before .before .before .before .before .before .args .entries-len) (c .before .before .before .before .before .before .before .before .before .before .before .before .before .before .args .text-len) [] i 1 0 in
-    let z = accepted (lent (c .before .before .before .before .before .before .before .before .before .before .before .before .before .before .args .content .now) (c .before .before .before .before .before .before .before .before .before .before .before .before .before .before .args .entries .now) (c .before .before .before .before .before .before .before .before .before .before .before .before .before .before .args .text .now)) (c .before .before .before .before .before .before .before .before .before .before .before .before .before .before .args .content-len) (c .before .before .before .before .before .before .before .before .before .before .before .before .before .before .args .entries-len) (c .before .before .before .before .before .before .before .before .before .before .before .before .before .before .args .text-len) (c .before .before .before .before .before .before .before .before .before .check-lent .result) (c .before .before .before .before .before .before .before .before .before .check-lent .ensures) (c .before .before .before .before .before .before .before .enum-told .given .0 .0) (c .before .before .before .before .before .before .before .enum-told .given .1) 0 refl (roomIn (lent (c .before .before .before .before .before .before .before .before .before .before .before .before .before .before .args .content .now) (c .before .before .before .before .before .before .before .before .before .before .before .before .before .before .args .entries .now) (c .before .before .before .before .before .before .before .before .before .before .before .before .before .before .args .text .now))) (leaves (withEntry 1 0 [] (usedOf (lent (c .before .before .before .before .before .before .before .before .before .before .before .before .before .before .args .content .now) (c .before .before .before .before .before .before .before .before .before .before .before .before .before .before .args .entries .now) (c .before .before .before .before .before .before .before .before .before .before .before .before .before .before .args .text .now)) (c .before .before .before .before .before .before .before .before .before .before .before .before .before .before .args .content-len) (c .before .before .before .before .before .before .before .before .before .before .before .before .before .before .args .entries-len) (c .before .before .before .before .before .before .before .before .before .before .before .before .before .before .args .text-len)))) (c .before .before .before .before .before .before .settle .result) (c .before .before .before .before .before .before .before .before .before .before .before .before .before .before .args .content-len) (c .before .before .before .before .before .before .before .before .before .before .before .before .before .before .args .entries-len + 4) (c .before .before .before .before .before .before .before .before .before .before .before .before .before .before .args .text-len) (c .before .before .before .before .before .before .settle .ensures) (s .0) (s .1) (omega (arith, s .2)) refl (c .before .before .before .before .enum-told2 .given .1) in
-    let w = entry-left (lent (c .before .before .before .before .before .before .before .before .before .before .before .before .before .before .args .content .now) (c .before .before .before .before .before .before .before .before .before .before .before .before .before .before .args .entries .now) (c .before .before .before .before .before .before .before .before .before .before .before .before .before .before .args .text .now)) (c .before .before .before .before .before .before .before .before .before .before .before .before .before .before .args .content-len) (c .before .before .before .before .before .before .before .before .before .before .before .before .before .before .args .entries-len) (c .before .before .before .before .before .before .before .before .before .before .before .before .before .before .args .text-len) [] i 1 0 0 _ _ refl (c .before .before .set-entry .ensures) (sym (over-none _ _)) in
-    add-done (addFaults 0 (lent (c .before .before .before .before .before .before .before .before .before .before .before .before .before .before .args .content .now) (c .before .before .before .before .before .before .before .before .before .before .before .before .before .before .args .entries .now) (c .before .before .before .before .before .before .before .before .before .before .before .before .before .before .args .text .now)) (c .before .before .before .before .before .before .before .before .before .before .before .before .before .before .args .content-len) (c .before .before .before .before .before .before .before .before .before .before .before .before .before .before .args .entries-len) (c .before .before .before .before .before .before .before .before .before .before .before .before .before .before .args .text-len)) (lent (c .before .before .before .before .before .before .before .before .before .before .before .before .before .before .args .content .now) (c .before .before .before .before .before .before .before .before .before .before .before .before .before .before .args .entries .now) (c .before .before .before .before .before .before .before .before .before .before .before .before .before .before .args .text .now)) (withEntry 1 0 [] (usedOf (lent (c .before .before .before .before .before .before .before .before .before .before .before .before .before .before .args .content .now) (c .before .before .before .before .before .before .before .before .before .before .before .before .before .before .args .entries .now) (c .before .before .before .before .before .before .before .before .before .before .before .before .before .before .args .text .now)) (c .before .before .before .before .before .before .before .before .before .before .before .before .before .before .args .content-len) (c .before .before .before .before .before .before .before .before .before .before .before .before .before .before .args .entries-len) (c .before .before .before .before .before .before .before .before .before .before .before .before .before .before .args .text-len))) (c .before .before .before .before .before .before .before .before .before .before .before .before .before .before .args .content-len) (c .before .before .before .before .before .before .before .before .before .before .before .before .before .before .args .entries-len + 4) (c .before .before .before .before .before .before .before .before .before .before .before .before .before .before .args .text-len) _ _ _ z (s .0) (s .1) (omega (arith, s .2)) (w .0) (w .1) (w .2) refl
+    let i = is-inside (lentOf (c .before .before .before .before .before .before .before .before .before .before .before .before .before .before .args .content .now) (c .before .before .before .before .before .before .before .before .before .before .before .before .before .before .args .entries .now) (c .before .before .before .before .before .before .before .before .before .before .before .before .before .before .args .text .now)) (c .before .before .before .before .before .before .before .before .before .before .before .before .before .before .args .content-len) (c .before .before .before .before .before .before .before .before .before .before .before .before .before .before .args .entries-len) (c .before .before .before .before .before .before .before .before .before .before .before .before .before .before .args .text-len) (c .before .before .before .before .before .before .before .before .before .check-lent .result) (c .before .before .before .before .before .before .before .before .before .check-lent .ensures) (c .before .before .before .before .before .before .before .enum-told .given .0 .0) (c .before .before .before .before .before .before .before .enum-told .given .1) in
+    let s = entry-sizes (lentOf (c .before .before .before .before .before .before .before .before .before .before .before .before .before .before .args .content .now) (c .before .before .before .before .before .before .before .before .before .before .before .before .before .before .args .entries .now) (c .before .before .before .before .before .before .before .before .before .before .before .before .before .before .args .text .now)) (c .before .before .before .before .before .before .before .before .before .before .before .before .before .before .args .content-len) (c .before .before .before .before .before .before .before .before .before .before .before .before .before .before .args .entries-len) (c .before .before .before .before .before .before .before .before .before .before .before .before .before .before .args .text-len) [] i 1 0 in
+    let z = accepted (lentOf (c .before .before .before .before .before .before .before .before .before .before .before .before .before .before .args .content .now) (c .before .before .before .before .before .before .before .before .before .before .before .before .before .before .args .entries .now) (c .before .before .before .before .before .before .before .before .before .before .before .before .before .before .args .text .now)) (c .before .before .before .before .before .before .before .before .before .before .before .before .before .before .args .content-len) (c .before .before .before .before .before .before .before .before .before .before .before .before .before .before .args .entries-len) (c .before .before .before .before .before .before .before .before .before .before .before .before .before .before .args .text-len) (c .before .before .before .before .before .before .before .before .before .check-lent .result) (c .before .before .before .before .before .before .before .before .before .check-lent .ensures) (c .before .before .before .before .before .before .before .enum-told .given .0 .0) (c .before .before .before .before .before .before .before .enum-told .given .1) 0 refl (roomIn (lentOf (c .before .before .before .before .before .before .before .before .before .before .before .before .before .before .args .content .now) (c .before .before .before .before .before .before .before .before .before .before .before .before .before .before .args .entries .now) (c .before .before .before .before .before .before .before .before .before .before .before .before .before .before .args .text .now))) (leaves (withEntry 1 0 [] (usedOf (lentOf (c .before .before .before .before .before .before .before .before .before .before .before .before .before .before .args .content .now) (c .before .before .before .before .before .before .before .before .before .before .before .before .before .before .args .entries .now) (c .before .before .before .before .before .before .before .before .before .before .before .before .before .before .args .text .now)) (c .before .before .before .before .before .before .before .before .before .before .before .before .before .before .args .content-len) (c .before .before .before .before .before .before .before .before .before .before .before .before .before .before .args .entries-len) (c .before .before .before .before .before .before .before .before .before .before .before .before .before .before .args .text-len)))) (c .before .before .before .before .before .before .settle .result) (c .before .before .before .before .before .before .before .before .before .before .before .before .before .before .args .content-len) (c .before .before .before .before .before .before .before .before .before .before .before .before .before .before .args .entries-len + 4) (c .before .before .before .before .before .before .before .before .before .before .before .before .before .before .args .text-len) (c .before .before .before .before .before .before .settle .ensures) (s .0) (s .1) (omega (arith, s .2)) refl (c .before .before .before .before .enum-told2 .given .1) in
+    let w = entry-left (lentOf (c .before .before .before .before .before .before .before .before .before .before .before .before .before .before .args .content .now) (c .before .before .before .before .before .before .before .before .before .before .before .before .before .before .args .entries .now) (c .before .before .before .before .before .before .before .before .before .before .before .before .before .before .args .text .now)) (c .before .before .before .before .before .before .before .before .before .before .before .before .before .before .args .content-len) (c .before .before .before .before .before .before .before .before .before .before .before .before .before .before .args .entries-len) (c .before .before .before .before .before .before .before .before .before .before .before .before .before .before .args .text-len) [] i 1 0 0 _ _ refl (c .before .before .set-entry .ensures) (sym (over-none _ _)) in
+    add-done (addFaults 0 (lentOf (c .before .before .before .before .before .before .before .before .before .before .before .before .before .before .args .content .now) (c .before .before .before .before .before .before .before .before .before .before .before .before .before .before .args .entries .now) (c .before .before .before .before .before .before .before .before .before .before .before .before .before .before .args .text .now)) (c .before .before .before .before .before .before .before .before .before .before .before .before .before .before .args .content-len) (c .before .before .before .before .before .before .before .before .before .before .before .before .before .before .args .entries-len) (c .before .before .before .before .before .before .before .before .before .before .before .before .before .before .args .text-len)) (lentOf (c .before .before .before .before .before .before .before .before .before .before .before .before .before .before .args .content .now) (c .before .before .before .before .before .before .before .before .before .before .before .before .before .before .args .entries .now) (c .before .before .before .before .before .before .before .before .before .before .before .before .before .before .args .text .now)) (withEntry 1 0 [] (usedOf (lentOf (c .before .before .before .before .before .before .before .before .before .before .before .before .before .before .args .content .now) (c .before .before .before .before .before .before .before .before .before .before .before .before .before .before .args .entries .now) (c .before .before .before .before .before .before .before .before .before .before .before .before .before .before .args .text .now)) (c .before .before .before .before .before .before .before .before .before .before .before .before .before .before .args .content-len) (c .before .before .before .before .before .before .before .before .before .before .before .before .before .before .args .entries-len) (c .before .before .before .before .before .before .before .before .before .before .before .before .before .before .args .text-len))) (c .before .before .before .before .before .before .before .before .before .before .before .before .before .before .args .content-len) (c .before .before .before .before .before .before .before .before .before .before .before .before .before .before .args .entries-len + 4) (c .before .before .before .before .before .before .before .before .before .before .before .before .before .before .args .text-len) _ _ _ z (s .0) (s .1) (omega (arith, s .2)) (w .0) (w .1) (w .2) refl
 
 pub pop-label-spec : {M : Type 1} → statement M
 pop-label-spec =

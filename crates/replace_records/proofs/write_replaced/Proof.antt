@@ -50,7 +50,7 @@ use Rattle.replace.specs.Records.{scan, checkAll}
 use Rattle.replace_records.specs.Work.{world, Turns, Ended}
 use Rattle.replace_records.specs.Plan.{planFault, atStart}
 use Rattle.replace_records.proofs.CallLaws.{from-first, scan-within, may-write, may-end, promised}
-use Rattle.replace_records.proofs.Again.{LentAgain, lends-at, back-at, says-of, told, both}
+use Rattle.replace_records.proofs.Again.{LentAgain, lends-at, back-at}
 use Rattle.recording.proofs.Answer as Answer-m
 use Rattle.recording.proofs.Answer.Laws as Answer-l
 use Rattle.layout.proofs.Replacement as Replacement-m
@@ -257,7 +257,7 @@ module _ {M : Type 1} (𝓤 : URA M) (H : Heap 𝓤) (A : Atoms 𝓤) (W : Given
   exits : (u : Val) (z : Scan) (g-z : Is row-Scan z (mach-Scan z ∷ [])) (E-z : z ≡ scan false 0 0) (s : Scan) (g-s : Is row-Scan s (mach-Scan s ∷ [])) (E-s : s ≡ checkAll (length content) (length new) records z) (p : Work) (g-p : Is row-Work p (mach-Work p ∷ [])) (E-p : (settledFault (p .verdict) ≡ planFault content entries text s (roomOf (length bytes0) (length numbers0) (length texts0) 0)) × (p .cursor ≡ atStart)) (w : Work) (bytes4 : List ℕ) (numbers4 : List ℕ) (texts4 : List ℕ) (g-w : Is row-Work w (mach-Work w ∷ [])) (len-bytes4 : length bytes4 ≡ length bytes0) (len-numbers4 : length numbers4 ≡ length numbers0) (len-texts4 : length texts4 ≡ length texts0) (E-w : Turns content entries text new records (world p bytes0 numbers0 texts0) (world w bytes4 numbers4 texts4)) (r : Answer) (bytes5 : List ℕ) (numbers5 : List ℕ) (texts5 : List ℕ) (len-bytes5 : length bytes5 ≡ length bytes0) (len-numbers5 : length numbers5 ≡ length numbers0) (len-texts5 : length texts5 ≡ length texts0) (E-r : Ended content entries text (world w bytes4 numbers4 texts4) r bytes5 numbers5 texts5) → ent 𝓤 (⋆ 𝓤 H A (‵ (row-Answer .own r (u ∷ [])) ∷ Tail bytes5 numbers5 texts5)) (Post u)
   exits u z g-z E-z s g-s E-s p g-p E-p w bytes4 numbers4 texts4 g-w len-bytes4 len-numbers4 len-texts4 E-w r bytes5 numbers5 texts5 len-bytes5 len-numbers5 len-texts5 E-r =
       qed W (‵ (row-Answer .own r (u ∷ [])) ∷ Tail bytes5 numbers5 texts5) ∵
-      suffices ! _ (ends-at 𝓤 H A fn.ended stayed (fn.clauses 𝓤 H A mem run) W bound u r (tt, (tt, (tt, (tt, (tt, (bytes5, (numbers5, (texts5, tt)))))))) (tt, (tt, (tt, (tt, (tt, (len-bytes5, (len-numbers5, (len-texts5, tt))))))))) $ says-of ! (both 𝓤 (told 𝓤 ((promised content entries text new bytes0 numbers0 texts0 records s (from-first content new records z s E-z E-s) p E-p (world w bytes4 numbers4 texts4) E-w r bytes5 numbers5 texts5 E-r) .0)) (both 𝓤 (told 𝓤 ((promised content entries text new bytes0 numbers0 texts0 records s (from-first content new records z s E-z E-s) p E-p (world w bytes4 numbers4 texts4) E-w r bytes5 numbers5 texts5 E-r) .1 .0)) (both 𝓤 (told 𝓤 ((promised content entries text new bytes0 numbers0 texts0 records s (from-first content new records z s E-z E-s) p E-p (world w bytes4 numbers4 texts4) E-w r bytes5 numbers5 texts5 E-r) .1 .1 .0)) (told 𝓤 ((promised content entries text new bytes0 numbers0 texts0 records s (from-first content new records z s E-z E-s) p E-p (world w bytes4 numbers4 texts4) E-w r bytes5 numbers5 texts5 E-r) .1 .1 .1))))) $
+      suffices ! _ (ends-at 𝓤 H A fn.ended stayed (fn.clauses 𝓤 H A mem run) W bound u r (tt, (tt, (tt, (tt, (tt, (bytes5, (numbers5, (texts5, tt)))))))) (tt, (tt, (tt, (tt, (tt, (len-bytes5, (len-numbers5, (len-texts5, tt))))))))) $ says ! (promised content entries text new bytes0 numbers0 texts0 records s (from-first content new records z s E-z E-s) p E-p (world w bytes4 numbers4 texts4) E-w r bytes5 numbers5 texts5 E-r) $
       nothing ! $ move ! (16 ∷ 0 ∷ []) $ join ! $ move ! (14 ∷ 0 ∷ []) $ join ! $ move ! (12 ∷ 0 ∷ []) $ join ! $ move ! (10 ∷ 0 ∷ []) $ join ! $ move ! (8 ∷ 0 ∷ []) $ join ! $ move ! (6 ∷ 0 ∷ []) $ join ! $ move ! (4 ∷ 0 ∷ []) $
       join ! $ move ! (2 ∷ 0 ∷ []) $ join ! $ frame ! $ nothing ! $ move ! (9 ∷ 0 ∷ []) $ fjoin ! $ move ! (8 ∷ 0 ∷ []) $ fjoin ! $ move ! (7 ∷ 0 ∷ []) $ fjoin ! $ move ! (6 ∷ 0 ∷ []) $ fjoin ! $ move ! (5 ∷ 0 ∷ []) $ fjoin ! $
       move ! (4 ∷ 0 ∷ []) $ fjoin ! $ move ! (3 ∷ 0 ∷ []) $ fjoin ! $ move ! (2 ∷ 0 ∷ []) $ fjoin ! $ frame ! $ done !

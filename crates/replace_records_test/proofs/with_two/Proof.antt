@@ -37,7 +37,7 @@ use denote.Triple.Statement.{Contract, Triple}
 use denote.Triple.Call.{calls-at}
 use denote.Triple.Clauses.{ensured, lasts}
 use denote.Triple.Table.{entered, cited}
-use denote.Triple.Walked.{Stays, stay-none, stay-none-slice, stay-slice, walkOf, goes-none, goes-none-slice, goes-slice, Walks, ends-at, walked, walk-meets}
+use denote.Triple.Walked.{says, Stays, stay-none, stay-none-slice, stay-slice, walkOf, goes-none, goes-none-slice, goes-slice, Walks, ends-at, walked, walk-meets}
 use denote.Exit.{yes}
 use lib.Dec.{lit<}
 use mir.Raw.{raw as rawTy}
@@ -55,10 +55,9 @@ use borrow.Rule.Array.Init.{part-room}
 use Rattle.recording.specs.declared.Answer.{Answer}
 use Rattle.layout.specs.declared.Replacement.{Replacement}
 use Rattle.recording.specs.Recording.{recording}
-use Rattle.recording.specs.Outcome.{answerOf, returned, lentAfter}
-use Rattle.layout.specs.Layout.{replace, outcome}
-use Rattle.layout.specs.Lent.{lentOf, callOn}
-use Rattle.replace_records.proofs.Again.{LentAgain, lends-at, back-at, says-of, told, both}
+use Rattle.layout.specs.Layout.{replace}
+use Rattle.layout.specs.Lent.{lentOf, Leaves}
+use Rattle.replace_records.proofs.Again.{LentAgain, lends-at, back-at}
 use Rattle.recording.proofs.Answer as Answer-m
 use Rattle.recording.proofs.Answer.Laws as Answer-l
 use Rattle.layout.proofs.Replacement as Replacement-m
@@ -251,10 +250,10 @@ module _ {M : Type 1} (𝓤 : URA M) (H : Heap 𝓤) (A : Atoms 𝓤) (W : Given
   abbrev Tail : List ℕ → List ℕ → List ℕ → List (Item 𝓤)
   Tail bytes numbers texts = ‵ (flft κ-content q-content) ∷ ‵ O-content ∷ ‵ (flft κ-entries q-entries) ∷ ‵ O-entries ∷ ‵ (flft κ-text q-text) ∷ ‵ O-text ∷ ‵ (flft κ-new q-new) ∷ ‵ O-new ∷ ‵ (flft κ-bytes q-bytes) ∷ ‵ (O-bytes bytes) ∷ ‵ (flft κ-numbers q-numbers) ∷ ‵ (O-numbers numbers) ∷ ‵ (flft κ-texts q-texts) ∷ ‵ (O-texts texts) ∷ []
 
-  exits : (u : Val) (g-a : Is row-Replacement a (mach-Replacement a ∷ [])) (g-b : Is row-Replacement b (mach-Replacement b ∷ [])) (r : Answer) (bytes1 : List ℕ) (numbers1 : List ℕ) (texts1 : List ℕ) (len-bytes1 : length bytes1 ≡ length bytes0) (len-numbers1 : length numbers1 ≡ length numbers0) (len-texts1 : length texts1 ≡ length texts0) (E-r-1 : answerOf r ≡ returned (outcome (callOn (replace rs new) bytes0 numbers0 texts0) (recording content entries text))) (E-r-2 : bytes1 ≡ lentAfter (outcome (callOn (replace rs new) bytes0 numbers0 texts0) (recording content entries text)) (lentOf bytes0 numbers0 texts0) .dataBytes) (E-r-3 : numbers1 ≡ lentAfter (outcome (callOn (replace rs new) bytes0 numbers0 texts0) (recording content entries text)) (lentOf bytes0 numbers0 texts0) .entryNumbers) (E-r-4 : texts1 ≡ lentAfter (outcome (callOn (replace rs new) bytes0 numbers0 texts0) (recording content entries text)) (lentOf bytes0 numbers0 texts0) .text) → ent 𝓤 (⋆ 𝓤 H A (‵ (row-Answer .own r (u ∷ [])) ∷ Tail bytes1 numbers1 texts1)) (Post u)
-  exits u g-a g-b r bytes1 numbers1 texts1 len-bytes1 len-numbers1 len-texts1 E-r-1 E-r-2 E-r-3 E-r-4 =
+  exits : (u : Val) (g-a : Is row-Replacement a (mach-Replacement a ∷ [])) (g-b : Is row-Replacement b (mach-Replacement b ∷ [])) (r : Answer) (bytes1 : List ℕ) (numbers1 : List ℕ) (texts1 : List ℕ) (len-bytes1 : length bytes1 ≡ length bytes0) (len-numbers1 : length numbers1 ≡ length numbers0) (len-texts1 : length texts1 ≡ length texts0) (E-r : Leaves (replace rs new) (recording content entries text) (lentOf bytes0 numbers0 texts0) (lentOf bytes1 numbers1 texts1) r) → ent 𝓤 (⋆ 𝓤 H A (‵ (row-Answer .own r (u ∷ [])) ∷ Tail bytes1 numbers1 texts1)) (Post u)
+  exits u g-a g-b r bytes1 numbers1 texts1 len-bytes1 len-numbers1 len-texts1 E-r =
       qed W (‵ (row-Answer .own r (u ∷ [])) ∷ Tail bytes1 numbers1 texts1) ∵
-      suffices ! _ (ends-at 𝓤 H A fn.ended stayed (fn.clauses 𝓤 H A mem run) W bound u r (tt, (tt, (tt, (tt, (tt, (tt, (bytes1, (numbers1, (texts1, tt))))))))) (tt, (tt, (tt, (tt, (tt, (tt, (len-bytes1, (len-numbers1, (len-texts1, tt)))))))))) $ says-of ! (both 𝓤 (told 𝓤 (E-r-1)) (both 𝓤 (told 𝓤 (E-r-2)) (both 𝓤 (told 𝓤 (E-r-3)) (told 𝓤 (E-r-4))))) $
+      suffices ! _ (ends-at 𝓤 H A fn.ended stayed (fn.clauses 𝓤 H A mem run) W bound u r (tt, (tt, (tt, (tt, (tt, (tt, (bytes1, (numbers1, (texts1, tt))))))))) (tt, (tt, (tt, (tt, (tt, (tt, (len-bytes1, (len-numbers1, (len-texts1, tt)))))))))) $ says ! (E-r) $
       nothing ! $ move ! (14 ∷ 0 ∷ []) $ join ! $ move ! (12 ∷ 0 ∷ []) $ join ! $ move ! (10 ∷ 0 ∷ []) $ join ! $ move ! (8 ∷ 0 ∷ []) $ join ! $ move ! (6 ∷ 0 ∷ []) $ join ! $ move ! (4 ∷ 0 ∷ []) $ join ! $ move ! (2 ∷ 0 ∷ []) $
       join ! $ frame ! $ nothing ! $ move ! (8 ∷ 0 ∷ []) $ fjoin ! $ move ! (7 ∷ 0 ∷ []) $ fjoin ! $ move ! (6 ∷ 0 ∷ []) $ fjoin ! $ move ! (5 ∷ 0 ∷ []) $ fjoin ! $ move ! (4 ∷ 0 ∷ []) $ fjoin ! $ move ! (3 ∷ 0 ∷ []) $ fjoin ! $
       move ! (2 ∷ 0 ∷ []) $ fjoin ! $ owned ! row-Replacement (Is row-Replacement) (LL.makes Replacement-m.the-type Replacement-l.the-plain 𝓤 H A) b (mach-Replacement b ∷ []) g-b $ fjoin ! $
@@ -323,12 +322,10 @@ module _ {M : Type 1} (𝓤 : URA M) (H : Heap 𝓤) (A : Atoms 𝓤) (W : Given
         calls-at ! fm (C-write-replaced 𝓤 H A mem run) known-write-replaced (to-1 g-a g-b room-content room-entries room-text room-new room-bytes room-numbers room-texts ν-bytes δ-bytes ν-numbers δ-numbers ν-texts δ-texts ν-rs δ-rs l10) (and-then ! (load ! (from ! (stop !)) (look ! 38 refl)) (and-then ! (load ! (from ! (stop !)) (look ! 36 refl)) (and-then ! (load ! (from ! (stop !)) (look ! 34 refl)) (and-then ! (load ! (from ! (stop !)) (look ! 21 refl)) (and-then ! (load ! (from ! (stop !)) (look ! 32 refl)) (and-then ! (load ! (from ! (stop !)) (look ! 17 refl)) (and-then ! (load ! (from ! (stop !)) (look ! 13 refl)) (and-then ! (load ! (from ! (stop !)) (look ! 9 refl)) (no-more !))))))))) (λ u.
         use1 W (later (some (λ (r : Answer). ((‵ (flft κ-content q-content) ⊛ (‵ (flft κ-entries q-entries) ⊛ (‵ (flft κ-text q-text) ⊛ (‵ (flft (ν-rs ∷ []) fullShare) ⊛ (‵ (flft κ-new q-new) ⊛ (‵ (flft (ν-bytes ∷ []) fullShare) ⊛ (‵ (flft (ν-numbers ∷ []) fullShare) ⊛ (‵ (flft (ν-texts ∷ []) fullShare) ⊛ (‵ ftrue))))))))) ⊛ ‵ (row-Answer .own r (u ∷ []))) ⊛ raw (ensured 𝓤 H A write-replaced.ended (write-replaced.clauses 𝓤 H A mem run) (κ-content, (κ-entries, (κ-text, (ν-rs ∷ [], (κ-new, (ν-bytes ∷ [], (ν-numbers ∷ [], (ν-texts ∷ [], tt)))))))) (x-content, (x-entries, (x-text, (x-rs l10 δ-rs, (x-new, (x-bytes δ-bytes bytes0, (x-numbers δ-numbers numbers0, (x-texts δ-texts texts0, tt)))))))) tt r)))) (id⊢ 𝓤 _) $ await ! tt $ pick ! (λ r.
         split ! $ move ! (1 ∷ []) $
-        use1 W (some (λ (zs : Unit {0} × (Unit {0} × (Unit {0} × (Unit {0} × (Unit {0} × (List ℕ × (List ℕ × (List ℕ × (Unit {0}))))))))). ‵ (lasts write-replaced.ended (κ-content, (κ-entries, (κ-text, (ν-rs ∷ [], (κ-new, (ν-bytes ∷ [], (ν-numbers ∷ [], (ν-texts ∷ [], tt)))))))) (x-content, (x-entries, (x-text, (x-rs l10 δ-rs, (x-new, (x-bytes δ-bytes bytes0, (x-numbers δ-numbers numbers0, (x-texts δ-texts texts0, tt)))))))) zs) ⊛ (raw (fact 𝓤 (answerOf r ≡ returned (outcome (callOn (replace rs new) bytes0 numbers0 texts0) (recording content entries text)))) ⊛ (raw (fact 𝓤 ((zs .1 .1 .1 .1 .1 .0) ≡ lentAfter (outcome (callOn (replace rs new) bytes0 numbers0 texts0) (recording content entries text)) (lentOf bytes0 numbers0 texts0) .dataBytes)) ⊛ (raw (fact 𝓤 ((zs .1 .1 .1 .1 .1 .1 .0) ≡ lentAfter (outcome (callOn (replace rs new) bytes0 numbers0 texts0) (recording content entries text)) (lentOf bytes0 numbers0 texts0) .entryNumbers)) ⊛ (raw (fact 𝓤 ((zs .1 .1 .1 .1 .1 .1 .1 .0) ≡ lentAfter (outcome (callOn (replace rs new) bytes0 numbers0 texts0) (recording content entries text)) (lentOf bytes0 numbers0 texts0) .text)))))))) (id⊢ 𝓤 _) $ pick ! (λ zs.
-        split ! $ move ! (1 ∷ []) $ split ! $ heard ! (answerOf r ≡ returned (outcome (callOn (replace rs new) bytes0 numbers0 texts0) (recording content entries text))) (λ E-r-1. split ! $
-        heard ! ((zs .1 .1 .1 .1 .1 .0) ≡ lentAfter (outcome (callOn (replace rs new) bytes0 numbers0 texts0) (recording content entries text)) (lentOf bytes0 numbers0 texts0) .dataBytes) (λ E-r-2. split ! $
-        heard ! ((zs .1 .1 .1 .1 .1 .1 .0) ≡ lentAfter (outcome (callOn (replace rs new) bytes0 numbers0 texts0) (recording content entries text)) (lentOf bytes0 numbers0 texts0) .entryNumbers) (λ E-r-3.
-        heard ! ((zs .1 .1 .1 .1 .1 .1 .1 .0) ≡ lentAfter (outcome (callOn (replace rs new) bytes0 numbers0 texts0) (recording content entries text)) (lentOf bytes0 numbers0 texts0) .text) (λ E-r-4. fsplit ! $ drop ! $ fsplit ! $
-        drop ! $ fsplit ! $ drop ! $ fsplit ! $ drop ! $ fsplit ! $ drop ! $ fsplit ! $ fsplit ! $ move ! (1 ∷ []) $ feqL ! (λ d-bytes. move ! (1 ∷ []) $ fsplit ! $ fsplit ! $ move ! (1 ∷ []) $ feqL ! (λ d-numbers.
+        use1 W (some (λ (zs : Unit {0} × (Unit {0} × (Unit {0} × (Unit {0} × (Unit {0} × (List ℕ × (List ℕ × (List ℕ × (Unit {0}))))))))). ‵ (lasts write-replaced.ended (κ-content, (κ-entries, (κ-text, (ν-rs ∷ [], (κ-new, (ν-bytes ∷ [], (ν-numbers ∷ [], (ν-texts ∷ [], tt)))))))) (x-content, (x-entries, (x-text, (x-rs l10 δ-rs, (x-new, (x-bytes δ-bytes bytes0, (x-numbers δ-numbers numbers0, (x-texts δ-texts texts0, tt)))))))) zs) ⊛ (raw (fact 𝓤 (Leaves (replace rs new) (recording content entries text) (lentOf bytes0 numbers0 texts0) (lentOf (zs .1 .1 .1 .1 .1 .0) (zs .1 .1 .1 .1 .1 .1 .0) (zs .1 .1 .1 .1 .1 .1 .1 .0)) r))))) (id⊢ 𝓤 _) $ pick ! (λ zs.
+        split ! $ move ! (1 ∷ []) $
+        heard ! (Leaves (replace rs new) (recording content entries text) (lentOf bytes0 numbers0 texts0) (lentOf (zs .1 .1 .1 .1 .1 .0) (zs .1 .1 .1 .1 .1 .1 .0) (zs .1 .1 .1 .1 .1 .1 .1 .0)) r) (λ E-r. fsplit ! $ drop ! $
+        fsplit ! $ drop ! $ fsplit ! $ drop ! $ fsplit ! $ drop ! $ fsplit ! $ drop ! $ fsplit ! $ fsplit ! $ move ! (1 ∷ []) $ feqL ! (λ d-bytes. move ! (1 ∷ []) $ fsplit ! $ fsplit ! $ move ! (1 ∷ []) $ feqL ! (λ d-numbers.
         move ! (1 ∷ []) $ fsplit ! $ fsplit ! $ move ! (1 ∷ []) $ feqL ! (λ d-texts. move ! (1 ∷ []) $ drop ! $ move ! (3 ∷ []) $ split ! $ split ! $ move ! (1 ∷ []) $ split ! $ move ! (1 ∷ []) $ split ! $ move ! (1 ∷ []) $
         split ! $ move ! (1 ∷ []) $ split ! $ move ! (1 ∷ []) $ split ! $ move ! (1 ∷ []) $ split ! $ move ! (1 ∷ []) $ split ! $ move ! (1 ∷ []) $ drop ! $ move ! (8 ∷ []) $
         peeks ! row-Answer (Is row-Answer) (shows 𝓤 H A row-Answer) r (u ∷ []) (λ is. land ! (from ! (stop !)) (init ! 55 refl (EL.lawful Answer-m.the-type Answer-l.the-laws 𝓤 H A W tt .typed r _ is .0)) $
@@ -353,7 +350,7 @@ module _ {M : Type 1} (𝓤 : URA M) (H : Heap 𝓤) (A : Atoms 𝓤) (W : Given
         move ! (39 ∷ 40 ∷ []) $ free1 ! $ move ! (37 ∷ 38 ∷ []) $ free1 ! $ move ! (35 ∷ 36 ∷ []) $ free1 ! $ move ! (33 ∷ 34 ∷ []) $ free1 ! $ move ! (0 ∷ 32 ∷ []) $ free1 ! $ move ! (29 ∷ 30 ∷ []) $ free1 ! $
         move ! (27 ∷ 28 ∷ []) $ free1 ! $ move ! (25 ∷ 26 ∷ []) $ free1 ! $ move ! (23 ∷ 24 ∷ []) $ free1 ! $ move ! (21 ∷ 22 ∷ []) $ free1 ! $ move ! (19 ∷ 20 ∷ []) $ free1 ! $ move ! (17 ∷ 18 ∷ []) $ free1 ! $
         move ! (15 ∷ 16 ∷ []) $ free1 ! $ free0 ! $ keep ! (6 ∷ 10 ∷ 14 ∷ 9 ∷ 13 ∷ 8 ∷ 12 ∷ 7 ∷ 11 ∷ 5 ∷ 4 ∷ 3 ∷ 2 ∷ 1 ∷ 0 ∷ []) $
-        by ! (exits u g-a g-b r (zs .1 .1 .1 .1 .1 .0) (zs .1 .1 .1 .1 .1 .1 .0) (zs .1 .1 .1 .1 .1 .1 .1 .0) d-bytes d-numbers d-texts E-r-1 E-r-2 E-r-3 E-r-4))))))))))))))))))))
+        by ! (exits u g-a g-b r (zs .1 .1 .1 .1 .1 .0) (zs .1 .1 .1 .1 .1 .1 .0) (zs .1 .1 .1 .1 .1 .1 .1 .0) d-bytes d-numbers d-texts E-r)))))))))))))))))
 
   walk : (𝓣 : Tables 𝓤 H) (fm : FmC 𝓤 H (W .laws) (𝓣 .C)) (known-write-replaced : Triple 𝓤 (𝓣 .C #replace-records·write-replaced) (C-write-replaced 𝓤 H A mem run)) (room-content : Room u8 (length content)) (room-entries : Room u32 (length entries)) (room-text : Room u8 (length text)) (room-new : Room u8 (length new)) (room-bytes : Room u8 (length bytes0)) (room-numbers : Room u32 (length numbers0)) (room-texts : Room u8 (length texts0)) (g-a : Is row-Replacement a (mach-Replacement a ∷ [])) (g-b : Is row-Replacement b (mach-Replacement b ∷ []))
       → ent 𝓤 (onEntry 𝓤 H A fn.signature (κ-content, (κ-entries, (κ-text, (κ-new, (κ-bytes, (κ-numbers, (κ-texts, tt))))))) (q-content, (q-entries, (q-text, (q-new, (q-bytes, (q-numbers, (q-texts, tt))))))) args at) (WpFn 𝓤 H (𝓣 .C) (𝓣 .Λ) fnX (mach-Replacement a ∷ mach-Replacement b ∷ v-content ∷ v-entries ∷ v-text ∷ v-new ∷ v-bytes ∷ v-numbers ∷ v-texts ∷ []) Post)
