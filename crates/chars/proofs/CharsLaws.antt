@@ -87,7 +87,7 @@ pub valid-chars : (bs : List ℕ) → Valid (chars bs)
 unfolding chars
 valid-chars bs = valid-from 0 bs
 
-from-skip : (m r : List ℕ) → charsFrom (length m) (m ++ r) ≡ charsFrom 0 r
+pub from-skip : (m r : List ℕ) → charsFrom (length m) (m ++ r) ≡ charsFrom 0 r
 from-skip [] r = refl
 from-skip (b ∷ m) r = from-skip m r
 

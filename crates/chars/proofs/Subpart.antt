@@ -1,18 +1,20 @@
 -- D93b and the Standard's conversion practice: a well-formed sequence at the front is read whole; anything else loses its maximal subpart, which is the character's bytes.
+-- D86: a text is well-formed exactly if it is a concatenation of well-formed sequences.
 -- The idea: the first columns of table 3-7 are apart, so only the row of the lead byte counts; in that row, `matched` is how far the bytes go along.
-use Prim.Native.Nat.{ℕ, zero, suc, _-_, _≤_, _<_}
+use Prim.Native.Nat.{ℕ, zero, suc, _≤_}
 use native.Mathlib.Omega.{arith}
 use mathlib.Core.Bool.{Bool, true, false, cond, _&&_, _||_, false≢true}
 use mathlib.Core.Logic.{_⊎_, inl, inr, ⊎-elim}
 use mathlib.Core.Path.{_≡_, refl, sym, ap, _∙_}
-use mathlib.Core.List.{List, [], _∷_, tail}
+use mathlib.Core.List.{List, [], _∷_, _++_, tail}
 use lib.Dec.{leb, ltb, eqb, T, leb→le, ltb→lt, leb·zero, leb·suc-zero, leb·suc-suc, eqb·zero-suc, eqb·suc-zero, eqb·suc-suc}
-use lib.ListN.{length, take}
-use lib.Seq.{length-take-le}
+use lib.ListN.{length, take, length-append}
+use lib.Seq.{length-take-le, take-append-seam}
 use borrow.Author.Tests.{leb-true, le-leb, lt-leb, eq-eqb}
-use Rattle.chars.specs.Utf8.{Row, within, table37, leads, rowIn, rowOf, matched, tailLen, complete, begins, fills, anyRow, initialPart, wellFormedSequence, MaximalSubpart}
-use Rattle.chars.specs.Chars.{charAt}
-use Rattle.chars.proofs.CharsLaws.{matched-le, tail-le}
+use Rattle.chars.specs.Utf8.{Row, within, table37, leads, rowIn, rowOf, matched, tailLen, complete, begins, fills, anyRow}
+use Rattle.chars.specs.Utf8.{initialPart, wellFormedSequence, allSequences, concatenation, WellFormedText, Subpart, MaximalSubpart}
+use Rattle.chars.specs.Chars.{Character, charAt, charsFrom, chars, bytesOf, allOk, wellFormed}
+use Rattle.chars.proofs.CharsLaws.{matched-le, tail-le, bytes-chars, from-skip, length-text}
 use Rattle.chars.proofs.Table.{and-left, and-right}
 
 -- ── only the row of the lead byte counts
@@ -142,19 +144,26 @@ module _ (b : ℕ) (bs : List ℕ) where
   pub subpart-maximal : MaximalSubpart (b ∷ bs) (suc (tailLen b bs))
   subpart-maximal =
       record {
-        initial =
-            ⊎-elim (λ e. inr (ap suc (no-row e)))
-            (λ e. inl (initial-part (tailLen b bs) (tail-le b bs) ∙ rw (e, le-leb (tailLen b bs) (tailLen b bs) (omega arith)))) (found b);
-        longest = longer;
+        subpart =
+            record {
+              some = omega arith;
+              inside = omega (arith, tail-le b bs);
+              initial =
+                  ⊎-elim (λ e. inr (ap suc (no-row e)))
+                  (λ e. inl (initial-part (tailLen b bs) (tail-le b bs) ∙ rw (e, le-leb (tailLen b bs) (tailLen b bs) (omega arith)))) (found b);
+            };
+        longest = not-longer;
       }
     where
-      longer : (k : ℕ) → suc (tailLen b bs) < k → k ≤ length (b ∷ bs) → initialPart (take k (b ∷ bs)) ≡ false
-      longer zero h l = absurd (omega arith)
-      longer (suc k) h l = initial-part k (omega arith) ∙ rw (lt-leb k (tailLen b bs) (omega arith)) (no (leads (rowOf b) b))
-        where
-          no : (t : Bool) → (t && false) ≡ false
-          no true = refl
-          no false = refl
+      within-tail : (t : Bool) (k : ℕ) → (t && leb k (tailLen b bs)) ≡ true → k ≤ tailLen b bs
+      within-tail true k e = leb-true k (tailLen b bs) e
+      within-tail false k e = absurd (false≢true e)
+
+      not-longer : (k : ℕ) → Subpart (b ∷ bs) k → k ≤ suc (tailLen b bs)
+      not-longer zero p = omega arith
+      not-longer (suc k) p =
+          ⊎-elim (λ e. omega (arith, within-tail (leads (rowOf b) b) k (sym (initial-part k (omega (arith, p .inside))) ∙ e)))
+          (λ e. omega (arith, e)) (p .initial)
 
   -- a character is well-formed exactly if its bytes are a well-formed sequence
   pub ok-sequence : charAt b bs .ok ≡ wellFormedSequence (charAt b bs .text)
@@ -180,3 +189,50 @@ module _ (b : ℕ) (bs : List ℕ) where
       go (c ∷ cs) p =
           let q = fills-length cs bs k (omega arith) (and-true (within (c .low) (c .high) b) (fills cs (take k bs)) p .1) in
           (ap (λ (n : ℕ). b ∷ take n bs) (q .0), rw (q .0, q .1, length-take-le k bs (omega arith)) (eq-eqb (suc k) (suc k) refl))
+
+-- ── a text has one maximal subpart, and no bytes have none
+pub maximal-once : (s : List ℕ) (n k : ℕ) → MaximalSubpart s n → MaximalSubpart s k → n ≡ k
+maximal-once s n k p q = omega (arith, p .longest k (q .subpart), q .longest n (p .subpart))
+
+pub maximal-some : (n : ℕ) → MaximalSubpart [] n → ⊥
+maximal-some n p = omega (arith, p .subpart .some, p .subpart .inside)
+
+-- ── D86: a text is well-formed exactly if it is a concatenation of sequences of table 3-7
+abbrev texts : List Character → List (List ℕ)
+texts [] = []
+texts (c ∷ cs) = c .text ∷ texts cs
+
+concatenation-texts : (cs : List Character) → concatenation (texts cs) ≡ bytesOf cs
+concatenation-texts [] = refl
+concatenation-texts (c ∷ cs) = ap (λ (l : List ℕ). c .text ++ l) (concatenation-texts cs)
+
+-- the characters that are read are sequences exactly if they are well-formed
+texts-from : (k : ℕ) (bs : List ℕ) → allSequences (texts (charsFrom k bs)) ≡ allOk (charsFrom k bs)
+texts-from zero [] = refl
+texts-from (suc k) [] = refl
+texts-from zero (b ∷ bs) = rw (ok-sequence b bs, texts-from (tailLen b bs) bs)
+texts-from (suc k) (b ∷ bs) = texts-from k bs
+
+pub well-formed-text : (s : List ℕ) → wellFormed s ≡ true → WellFormedText s
+unfolding wellFormed chars
+well-formed-text s h = record { parts = texts (chars s); each = texts-from 0 s ∙ h; whole = concatenation-texts (chars s) ∙ bytes-chars s }
+
+-- a sequence at the front is one character, which is well-formed, and the rest decides
+front : (p s : List ℕ) → wellFormedSequence p ≡ true → wellFormed (p ++ s) ≡ wellFormed s
+unfolding wellFormed chars wellFormedSequence table37
+front [] s h = absurd (false≢true h)
+front (b ∷ q) s h =
+    let k = suc (length q) in
+    let r = sequence-read b (q ++ s) k (omega (arith, length-append q s)) (ap wellFormedSequence (take-append-seam (b ∷ q) s) ∙ h) in
+    let e : tailLen b (q ++ s) ≡ length q = omega (arith, length-text b (q ++ s), ap length (r .0), length-take-le (length q) (q ++ s) (omega (arith, length-append q s))) in
+    rw (r .1, e, from-skip q s)
+
+parts-well-formed : (ps : List (List ℕ)) → allSequences ps ≡ true → wellFormed (concatenation ps) ≡ true
+unfolding wellFormed chars
+parts-well-formed [] h = refl
+parts-well-formed (p ∷ ps) h =
+    let q = and-true (wellFormedSequence p) (allSequences ps) h in
+    front p (concatenation ps) (q .0) ∙ parts-well-formed ps (q .1)
+
+pub text-well-formed : (s : List ℕ) → WellFormedText s → wellFormed s ≡ true
+text-well-formed s t = rw (← t .whole) (parts-well-formed (t .parts) (t .each))

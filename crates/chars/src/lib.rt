@@ -1,7 +1,9 @@
 // Characters of any bytes and their widths.
 // The bytes of a text are read as chapter 3 of the Unicode Standard has it: a well-formed sequence is one character, and so is each maximal ill-formed subpart (U+FFFD).
 // What a function answers is said by one definition of `specs/`: `charIn`, `charWidth`, `textWidth`, `wellFormed`, `truncateEndPos`, `truncateStartPos`, `zeroWidthLen`.
-// A const array is built anew at each mention of it. So a public call makes the lead table once, `let t = LEADS;`, and lends it down: that is the parameter t.
+// Calls that ask nothing of their caller: `display_width`, `is_well_formed`, `cut_end`, `cut_start`, `leading_zero_width`, `trim_start_zero_width_chars`.
+// A const array is built anew at each mention of it. So such a call makes the lead table once, `let t = LEADS;`, and lends it down: that is the parameter t.
+// Functions with a parameter t are public for the crates above, whose calls make the table once for all the texts that they read; t must be that table.
 ghost use mathlib.Core.Path.{_≡_};
 ghost use mathlib.Core.Bool.{true, false, cond};
 ghost use mathlib.Core.List.{_∷_, [], tail};
@@ -16,7 +18,7 @@ ghost use Rattle.chars.specs.Blocks.{Ended, Fits, EndsAt, Fitting, Plain
 ghost use Rattle.chars.specs.Cut.{truncateEndPos, truncateEndWidth, truncateStartPos, truncateStartWidth, zeroWidthLen};
 
 // What a byte says that leads a sequence: the sequence's length (0: it leads none) and the second byte's bounds.
-pub struct Lead {
+struct Lead {
     len: u8,
     low: u8,
     high: u8,
@@ -211,7 +213,7 @@ pub fn char_width(code: u32) -> u32
 
 // The character at `at`, by the tables, as one number: eight times its bytes, four times whether it is well-formed, and its width.
 // One number, since a struct would come back through memory.
-pub fn seen_any(t: &[u16; 256], s: &[u8], at: usize) -> usize
+fn seen_any(t: &[u16; 256], s: &[u8], at: usize) -> usize
     requires { ⌜ now t ≡ leadTable ⌝ }
     requires { ⌜ at < length (now s) ⌝ }
     ensures { λ r. ⌜ (r / 8 ≡ length (charIn at (now (s .entry)) .text)) × (r / 4 % 2 ≡ cond (charIn at (now (s .entry)) .ok) 1 0) × (r % 4 ≡ wide (charIn at (now (s .entry)))) ⌝ }
@@ -568,6 +570,53 @@ pub fn zero_width_len(t: &[u16; 256], s: &[u8]) -> usize
         at += c.len;
     }
     at
+}
+
+// The calls that make the lead table themselves.
+
+// The width of a text.
+pub fn display_width(s: &[u8]) -> u64
+    ensures { λ r. ⌜ r ≡ textWidth (now (s .entry)) ⌝ }
+    ensures { λ r. ⌜ r ≤ 2 * length (now (s .entry)) ⌝ }
+{
+    let t = LEADS;
+    text_width(&t, s)
+}
+
+// Whether a text is well-formed UTF-8.
+pub fn is_well_formed(s: &[u8]) -> bool
+    ensures { λ r. ⌜ r ≡ wellFormed (now (s .entry)) ⌝ }
+{
+    let t = LEADS;
+    well_formed(&t, s)
+}
+
+// Where the longest beginning ends that is at most max wide, and its width.
+pub fn cut_end(s: &[u8], max: u64) -> Cut
+    ensures { λ r. ⌜ (r .pos ≡ truncateEndPos max (now (s .entry))) × (r .width ≡ truncateEndWidth max (now (s .entry))) ⌝ }
+    ensures { λ r. ⌜ (r .pos ≤ length (now (s .entry))) × (r .width ≤ max) ⌝ }
+{
+    let t = LEADS;
+    truncate_end_pos(&t, s, max)
+}
+
+// Where the longest ending starts that is at most max wide, and its width.
+pub fn cut_start(s: &[u8], max: u64) -> Cut
+    ensures { λ r. ⌜ (r .pos ≡ truncateStartPos max (now (s .entry))) × (r .width ≡ truncateStartWidth max (now (s .entry))) ⌝ }
+    ensures { λ r. ⌜ (r .pos ≤ length (now (s .entry))) × (r .width ≤ max) ⌝ }
+{
+    let t = LEADS;
+    let total = text_width(&t, s);
+    truncate_start_pos(&t, s, total, max)
+}
+
+// How many bytes the leading zero-width characters of a text take.
+pub fn leading_zero_width(s: &[u8]) -> usize
+    ensures { λ r. ⌜ r ≡ zeroWidthLen (now (s .entry)) ⌝ }
+    ensures { λ r. ⌜ r ≤ length (now (s .entry)) ⌝ }
+{
+    let t = LEADS;
+    zero_width_len(&t, s)
 }
 
 // A text without its leading zero-width characters: a part of the caller's own bytes.

@@ -4,14 +4,14 @@ use native.Mathlib.Omega.{arith}
 use mathlib.Core.Bool.{Bool, true, false, cond}
 use mathlib.Core.Path.{_≡_, refl, sym, ap, subst, _∙_}
 use mathlib.Core.List.{List, [], _∷_, _++_}
-use lib.Dec.{ltb, eqb}
+use lib.Dec.{leb, ltb, eqb}
 use lib.ListN.{length, take, drop, length-append}
-use lib.Seq.{length-take-le}
-use borrow.Author.Tests.{lt-ltb, le-ltb, le-leb, lt-leb, eq-eqb, eqb-true}
+use lib.Seq.{length-take-le, take-all}
+use borrow.Author.Tests.{lt-ltb, le-ltb, le-leb, lt-leb, leb-true, leb-false, eq-eqb, eqb-true}
 use Rattle.buffer.specs.Place.{over, overAt}
 use Rattle.recording.specs.Recording.{Bytes}
 use Rattle.sheet.specs.Sheet.{upTo, SheetLine, sheetLine, sheetLines}
-use Rattle.rows.specs.Rows.{badRow, rowsFrom, sheetHeading, rowsHeading, same, body, output}
+use Rattle.rows.specs.Rows.{badRow, rowsFrom, sheetHeading, rowsHeading, same, readLimit, body, output}
 use Rattle.rows.proofs.RowLaws.{then-put, sheet-next, both}
 
 -- ── texts compared
@@ -59,6 +59,16 @@ pub no-line : (s : Bytes) (e : ℕ) → length s ≤ 65536 → e ≡ 0 + length 
 no-line [] e h k n = within [] h
 no-line (b ∷ s) e h k n =
     within (b ∷ s) h ∙ ap (λ (ls : List SheetLine). rowsHeading ++ body ls) (first-line (b ∷ s) e (omega arith) k) ∙ simp (le-ltb e (length (b ∷ s)) (omega (arith, n)))
+
+-- the first bytes of an input, as many as are read, have the output of all of it
+pub read-enough : (s : Bytes) → output (take readLimit s) ≡ output s
+read-enough s = go (leb (length s) readLimit) refl
+  where
+    go : (t : Bool) → leb (length s) readLimit ≡ t → output (take readLimit s) ≡ output s
+    go true e = ap output (take-all readLimit s (leb-true (length s) readLimit e))
+    go false e =
+        let h : readLimit < length s = leb-false (length s) readLimit e in
+        too-long (take readLimit s) (omega (arith, length-take-le readLimit s (omega arith))) ∙ sym (too-long s (omega arith))
 
 -- ── the heading, and what comes after it, in the buffer
 over-long : (x o : Bytes) → length x ≤ length (over x o)

@@ -69,6 +69,10 @@ same (a ∷ x) (b ∷ y) = eqb a b && same x y
 abbrev pub sheetLimit : ℕ
 sheetLimit = 65536
 
+-- how many bytes are read at most: the one over the limit tells that a sheet is too long (law `read-enough`)
+abbrev pub readLimit : ℕ
+readLimit = suc sheetLimit
+
 -- the first line must be exactly the heading
 abbrev pub body : List SheetLine → Bytes
 body [] = badRow 0

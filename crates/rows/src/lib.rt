@@ -1,6 +1,8 @@
 // What `wraplist` prints for a sheet (document 01, module 7), in one lent buffer: `write_output` leaves `output` of `specs/Rows.antt`, whatever the sheet's bytes are.
-// Each byte of a sheet gives at most 22 bytes, so a buffer of OUTPUT bytes always does.
+// Each byte of a sheet gives at most 22 bytes, so a buffer of 1,441,833 bytes always does. Its type says that length, so that nothing is asked of the caller.
+// `run` is the program: it reads a sheet, prints that, and tells what went wrong. No contract can say what is read or written; the buffer for the sheet and the number of bytes used of it are proved.
 use recording::Answer;
+use sheet::NONE;
 use sheet::after_space;
 use sheet::break_of;
 use sheet::decimal_in;
@@ -15,10 +17,11 @@ ghost use mathlib.Core.Path.{_≡_};
 ghost use Prim.Native.Nat.{_+_, _-_, _*_, _≤_, _<_};
 ghost use lib.ListN.{length, take, drop};
 ghost use Rattle.buffer.specs.Place.{over, overAt};
+ghost use Rattle.io.specs.Counts.{Counts};
 ghost use Rattle.recording.specs.Outcome.{answerOf};
 ghost use Rattle.layout.specs.Wrap.{wrapLines};
 ghost use Rattle.sheet.specs.Sheet.{sheetLine, sheetLines};
-ghost use Rattle.rows.specs.Rows.{field, rowText, badRow, numberRows, lineRows, rowsOf, rowsFrom, output};
+ghost use Rattle.rows.specs.Rows.{field, rowText, badRow, numberRows, lineRows, rowsOf, rowsFrom, readLimit, output};
 
 // Puts the decimal digits of n, and c after them.
 fn put_field(out: &mut [u8], at: usize, n: u32, c: u8) -> usize
@@ -98,7 +101,8 @@ fn good_rows(
     at: usize,
 ) -> usize
     requires { ⌜ (length (now d) ≤ 4000) × (8002 ≤ length (now lines)) × (at + 44 * (length (now d) + 1) ≤ length (now out)) ⌝ }
-    ensures { λ r. ⌜ (r ≡ at + length (lineRows row 0 (wrapLines width breaks (now (d .entry))))) × (now (out .exit) ≡ overAt at (lineRows row 0 (wrapLines width breaks (now (d .entry)))) (now (out .entry))) ⌝ }
+    ensures { λ r. ⌜ (r ≡ at + length (lineRows row 0 (wrapLines width breaks (now (d .entry)))))
+        × (now (out .exit) ≡ overAt at (lineRows row 0 (wrapLines width breaks (now (d .entry)))) (now (out .entry))) ⌝ }
     ensures { λ r. ⌜ r ≤ at + 44 * (length (now (d .entry)) + 1) ⌝ }
 {
     let a = wrap_bytes(d, width, breaks, lines);
@@ -125,7 +129,7 @@ fn one_row(
     }
     let first = first_field(text);
     let width = decimal_in(first);
-    if width == 4294967296 {
+    if width == NONE {
         return put_bad(out, at, row);
     }
     let rest = after_space(text);
@@ -158,8 +162,10 @@ fn put_rows(
     out: &mut [u8],
     start: usize,
 ) -> usize
-    requires { ⌜ (from ≤ length (now sheet)) × (length (now sheet) ≤ 65536) × (4000 ≤ length (now «data»)) × (8002 ≤ length (now lines)) × (start + 22 * (length (now sheet) + 1) ≤ length (now out)) ⌝ }
-    ensures { λ r. ⌜ (r ≡ start + length (rowsFrom 0 (sheetLines (drop from (now (sheet .entry)))))) × (now (out .exit) ≡ overAt start (rowsFrom 0 (sheetLines (drop from (now (sheet .entry))))) (now (out .entry))) ⌝ }
+    requires { ⌜ (from ≤ length (now sheet)) × (length (now sheet) ≤ 65536) × (4000 ≤ length (now «data»))
+        × (8002 ≤ length (now lines)) × (start + 22 * (length (now sheet) + 1) ≤ length (now out)) ⌝ }
+    ensures { λ r. ⌜ (r ≡ start + length (rowsFrom 0 (sheetLines (drop from (now (sheet .entry))))))
+        × (now (out .exit) ≡ overAt start (rowsFrom 0 (sheetLines (drop from (now (sheet .entry))))) (now (out .entry))) ⌝ }
 {
     let mut p = from;
     let mut row: u32 = 0;
@@ -187,8 +193,7 @@ fn line_list() -> [u32; 8002]
 }
 
 // What is printed for a sheet, in out; returns its length.
-pub fn write_output(sheet: &[u8], out: &mut [u8]) -> usize
-    requires { ⌜ 1441833 ≤ length (now out) ⌝ }
+pub fn write_output(sheet: &[u8], out: &mut [u8; 1441833]) -> usize
     ensures { λ r. ⌜ (r ≡ length (output (now (sheet .entry)))) × (now (out .exit) ≡ over (output (now (sheet .entry))) (now (out .entry))) ⌝ }
     ensures { λ r. ⌜ (r ≤ length (now (out .exit))) × (r ≡ length (take r (now (out .exit)))) ⌝ }
 {
@@ -206,4 +211,90 @@ pub fn write_output(sheet: &[u8], out: &mut [u8]) -> usize
     let mut data = data_buffer();
     let mut lines = line_list();
     put_rows(sheet, e + 1, &mut data, &mut lines, out, n)
+}
+
+// As long as the longest output that there can be.
+fn output_buffer() -> [u8; 1441833] {
+    [0; 1441833]
+}
+
+// Prints the output of a sheet. False if it could not all be written.
+fn print_output(output: i32, sheet: &[u8]) -> bool {
+    let mut out = output_buffer();
+    let k = write_output(sheet, &mut out);
+    io::write_all(output, &out[..k])
+}
+
+// As long as what is read at most: one byte over a sheet's limit, so that a sheet that is too long is seen without reading all of it.
+fn sheet_buffer() -> [u8; 65537]
+    ensures { λ r. ⌜ readLimit ≡ length r ⌝ }
+{
+    [0; 65537]
+}
+
+// How many bytes were read to the start of a buffer, and whether a read failed.
+struct Reading {
+    len: usize,
+    failed: bool,
+}
+
+// Reads until the buffer is full, the input ends or a read fails. A read may give fewer bytes than there is room for.
+fn read_sheet(input: i32, sheet: &mut [u8]) -> Reading
+    ensures { λ r. ⌜ Counts (r .len) (now (sheet .exit)) ⌝ }
+{
+    let mut n = 0;
+    while n < sheet.len() {
+        let got = libc::read(input, &mut sheet[n..]);
+        if got < 0 {
+            return Reading {
+                len: n,
+                failed: true,
+            };
+        }
+        let more = io::count(got, &sheet[n..]);
+        if more == 0 {
+            return Reading {
+                len: n,
+                failed: false,
+            };
+        }
+        n += more;
+    }
+    Reading {
+        len: n,
+        failed: false,
+    }
+}
+
+// Prints the output of the sheet that is read. A sheet that cannot be read has none.
+fn answer(input: i32, output: i32, errors: i32) {
+    let mut sheet = sheet_buffer();
+    let r = read_sheet(input, &mut sheet);
+    if r.failed {
+        io::write_all(errors, b"wraplist: cannot read the sheet\n");
+        return;
+    }
+    if !print_output(output, &sheet[..r.len]) {
+        io::write_all(errors, b"wraplist: cannot write the rows\n");
+    }
+}
+
+fn help(output: i32) {
+    io::write_all(
+        output,
+        b"wraplist reads a sheet of wrapping tasks from standard input and prints where their lines start and end.\n",
+    );
+    io::write_all(
+        output,
+        b"A sheet: the line 'width break bytes', then on each line a width, 1 to break long words or else 0, and hexadecimal bytes or -.\n",
+    );
+}
+
+// The program, with the files that it reads and writes: `--help` tells what it does.
+pub fn run(argument: &[u8], input: i32, output: i32, errors: i32) {
+    if check::same(argument, b"--help") {
+        help(output);
+        return;
+    }
+    answer(input, output, errors);
 }

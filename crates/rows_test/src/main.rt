@@ -1,4 +1,5 @@
 // Runs `rows` on a sheet with every kind of bad line (the file `stdin`), on short sheets, and on sheets at the limits, of which only the length of the output is printed.
+// Then the program on files of 65,536, of 65,537 and of more bytes, where it cannot read or write, and with `--help`; what it says on standard error goes to standard output here.
 // What is proved of a program is that it is safe; what it should print stands in the file `stdout`.
 
 fn output_buffer() -> [u8; 1441833] {
@@ -18,14 +19,19 @@ fn measure(sheet: &[u8]) {
     io::write_all(1, b"\n");
 }
 
-fn sheet_buffer() -> [u8; 65537] {
-    [0; 65537]
+// The program on a file.
+fn run_on(path: &[u8]) {
+    let fd = os::open_read(path);
+    rows::run(b"", fd, 1, 1);
+    libc::close(fd);
 }
 
-fn read() {
-    let mut sheet = sheet_buffer();
-    let n = io::read_full(0, &mut sheet);
-    show(&sheet[..n]);
+// A directory cannot be read, and what is open for reading cannot be written.
+fn failures() {
+    let folder = os::open_read(b".");
+    rows::run(b"", folder, 1, 1);
+    let file = os::open_read(b"full");
+    rows::run(b"", file, file, 1);
 }
 
 // Empty lines up to the limit, which give the longest output, and one over it.
@@ -67,7 +73,7 @@ fn many_bytes() {
 }
 
 fn main() {
-    read();
+    rows::run(b"", 0, 1, 1);
     show(b"");
     show(b"\n");
     show(b"width break bytes");
@@ -77,4 +83,9 @@ fn main() {
     show(b"width break bytes\n5 0 6f");
     longest();
     many_bytes();
+    run_on(b"full");
+    run_on(b"over");
+    run_on(b"more");
+    failures();
+    rows::run(b"--help", 0, 1, 1);
 }

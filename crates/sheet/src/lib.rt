@@ -1,5 +1,6 @@
 // Reading the sheet of `wraplist`: lines, fields, decimals and hexadecimal bytes.
 // What a function answers is said by a definition of `specs/Sheet.antt`.
+// `find` and `unhex` ask something of their caller; they are public for the crates that read sheets of lines and show it.
 ghost use mathlib.Core.Path.{_≡_};
 ghost use mathlib.Core.Bool.{cond};
 ghost use Prim.Native.Nat.{_+_, _-_, _*_, _/_, _≤_, _<_};

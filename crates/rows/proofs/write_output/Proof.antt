@@ -1,9 +1,9 @@
 -- Each way puts the heading and what the laws of the output say comes after it.
 use native.Mathlib.Omega.{arith}
 use borrow.Author.Needs.{needs}
-use mathlib.Core.Path.{sym, _∙_}
+use mathlib.Core.Path.{_≡_, sym, _∙_}
 use Prim.Native.Nat.{_+_, _-_, _<_}
-use lib.ListN.{length, drop}
+use lib.ListN.{length, take, drop}
 use borrow.Author.Tests.{not-true, not-false}
 use Rattle.sheet.specs.Sheet.{sheetLines}
 use Rattle.rows.specs.Rows.{badRow, rowsFrom, sheetHeading, rowsHeading}
@@ -30,17 +30,15 @@ put-requires c κs = search needs
 put-bad-requires : tie.Need-put-bad-requires
 put-bad-requires c κs = search needs
 
-same-length : tie.Need-same-length
-same-length c = search needs
-
 returns : tie.Need-returns
 unfolding rowsHeading
 returns c =
-    let x = c .before .before .before .before .before .before .before .before .before .before .before .before .args in
+    let x = c .before .before .before .before .before .before .before .args in
     let s = x .sheet .now in
-    let h = c .before .before .before .before .before .before .before .put in
-    let p = c .before .before .put-bad in
-    finished s (x .out .now) _ _ (badRow 0) (h .result) (p .result) (too-long s (c .before .before .before .before .if1 .taken)) (h .ensures .0) (h .ensures .1) (p .ensures .0 .0) (p .ensures .0 .1)
+    let h = c .before .before .before .put in
+    let p = c .put-bad in
+    let e = too-long s (c .before .before .if1 .taken) in
+    finished s (x .out .now) _ _ (badRow 0) (h .result) (p .result) e (h .ensures .0) (h .ensures .1) (p .ensures .0 .0) (p .ensures .0 .1)
 
 find-requires : tie.Need-find-requires
 find-requires c κs = search needs
@@ -48,17 +46,16 @@ find-requires c κs = search needs
 put-bad-requires-2 : tie.Need-put-bad-requires-2
 put-bad-requires-2 c κs = search needs
 
-same-length-2 : tie.Need-same-length-2
-same-length-2 c = search needs
-
 returns-2 : tie.Need-returns-2
 unfolding rowsHeading
 returns-2 c =
-    let x = c .before .before .before .before .before .before .before .before .before .before .before .before .before .before .args in
+    let x = c .before .before .before .before .before .before .before .before .before .args in
     let s = x .sheet .now in
-    let h = c .before .before .before .before .before .before .before .before .before .put in
-    let p = c .before .before .put-bad2 in
-    finished s (x .out .now) _ _ (badRow 0) (h .result) (p .result) (no-line s (c .before .before .before .before .before .find .result) (c .before .before .before .before .before .before .if1 .left) (c .before .before .before .before .before .find .ensures .0) (c .before .before .before .before .if2 .taken)) (h .ensures .0) (h .ensures .1) (p .ensures .0 .0) (p .ensures .0 .1)
+    let h = c .before .before .before .before .before .put in
+    let p = c .put-bad2 in
+    let f = c .before .before .before .find in
+    let e = no-line s (f .result) (c .before .before .before .before .if1 .left) (f .ensures .0) (c .before .before .if2 .taken) in
+    finished s (x .out .now) _ _ (badRow 0) (h .result) (p .result) e (h .ensures .0) (h .ensures .1) (p .ensures .0 .0) (p .ensures .0 .1)
 
 sub-same : tie.Need-sub-same
 sub-same c = search needs
@@ -78,19 +75,19 @@ same-requires c κs = search needs
 put-bad-requires-3 : tie.Need-put-bad-requires-3
 put-bad-requires-3 c κs = search needs
 
-same-length-3 : tie.Need-same-length-3
-same-length-3 c = search needs
-
 returns-3 : tie.Need-returns-3
 unfolding rowsHeading sheetHeading
 returns-3 c =
-    let x = c .before .before .before .before .before .before .before .before .before .before .before .before .before .before .before .before .before .before .args in
+    let x = c .before .before .before .before .before .before .before .before .before .before .before .before .before .args in
     let s = x .sheet .now in
-    let h = c .before .before .before .before .before .before .before .before .before .before .before .before .before .put in
-    let p = c .before .before .put-bad3 in
-    let f = c .before .before .before .before .before .before .before .before .before .find in
-    let more : f .result < length s = omega (arith, f .ensures .1 .1, c .before .before .before .before .before .before .before .before .if2 .left) in
-    finished s (x .out .now) _ _ (badRow 0) (h .result) (p .result) (no-heading s (f .result) (c .before .before .before .before .before .before .before .before .before .before .if1 .left) (f .ensures .0) more (λ q. false-true (sym (not-true (c .before .before .before .before .before .same .result) (c .before .before .before .before .if3 .taken)) ∙ c .before .before .before .before .before .same .ensures .1 q))) (h .ensures .0) (h .ensures .1) (p .ensures .0 .0) (p .ensures .0 .1)
+    let h = c .before .before .before .before .before .before .before .before .before .put in
+    let p = c .put-bad3 in
+    let f = c .before .before .before .before .before .before .before .find in
+    let t = c .before .before .before .same in
+    let more : f .result < length s = omega (arith, f .ensures .1 .1, c .before .before .before .before .before .before .if2 .left) in
+    let other : take (f .result - 0) s ≡ sheetHeading → ⊥ = λ q. false-true (sym (not-true (t .result) (c .before .before .if3 .taken)) ∙ t .ensures .1 q) in
+    let e = no-heading s (f .result) (c .before .before .before .before .before .before .before .before .if1 .left) (f .ensures .0) more other in
+    finished s (x .out .now) _ _ (badRow 0) (h .result) (p .result) e (h .ensures .0) (h .ensures .1) (p .ensures .0 .0) (p .ensures .0 .1)
 
 data-buffer-requires : tie.Need-data-buffer-requires
 data-buffer-requires c κs = search needs
@@ -110,19 +107,19 @@ slice-aggregate-put-rows-2 c = search needs
 put-rows-requires : tie.Need-put-rows-requires
 put-rows-requires c κs = search needs
 
-same-length-4 : tie.Need-same-length-4
-same-length-4 c = search needs
-
 returns-4 : tie.Need-returns-4
 unfolding rowsHeading sheetHeading
 returns-4 c =
-    let x = c .before .before .before .before .before .before .before .before .before .before .before .before .before .before .before .before .before .before .before .before .before .before .before .before .args in
+    let x = c .before .before .before .before .before .before .before .before .before .before .before .before .before .before .before .before .before .before .before .args in
     let s = x .sheet .now in
-    let h = c .before .before .before .before .before .before .before .before .before .before .before .before .before .before .before .before .before .before .before .put in
-    let p = c .before .before .before .before .put-rows in
-    let f = c .before .before .before .before .before .before .before .before .before .before .before .before .before .before .before .find in
-    let more : f .result < length s = omega (arith, f .ensures .1 .1, c .before .before .before .before .before .before .before .before .before .before .before .before .before .before .if2 .left) in
-    finished s (x .out .now) _ _ (rowsFrom 0 (sheetLines (drop (f .result + 1) s))) (h .result) (p .result) (with-heading s (f .result) (c .before .before .before .before .before .before .before .before .before .before .before .before .before .before .before .before .if1 .left) (f .ensures .0) more (c .before .before .before .before .before .before .before .before .before .before .before .same .ensures .0 (not-false (c .before .before .before .before .before .before .before .before .before .before .before .same .result) (c .before .before .before .before .before .before .before .before .before .before .if3 .left)))) (h .ensures .0) (h .ensures .1) (p .ensures .0) (p .ensures .1)
+    let h = c .before .before .before .before .before .before .before .before .before .before .before .before .before .before .before .put in
+    let p = c .before .before .put-rows in
+    let f = c .before .before .before .before .before .before .before .before .before .before .before .before .before .find in
+    let t = c .before .before .before .before .before .before .before .before .before .same in
+    let more : f .result < length s = omega (arith, f .ensures .1 .1, c .before .before .before .before .before .before .before .before .before .before .before .before .if2 .left) in
+    let equal = t .ensures .0 (not-false (t .result) (c .before .before .before .before .before .before .before .before .if3 .left)) in
+    let e = with-heading s (f .result) (c .before .before .before .before .before .before .before .before .before .before .before .before .before .before .if1 .left) (f .ensures .0) more equal in
+    finished s (x .out .now) _ _ (rowsFrom 0 (sheetLines (drop (f .result + 1) s))) (h .result) (p .result) e (h .ensures .0) (h .ensures .1) (p .ensures .0) (p .ensures .1)
 
 pub write-output-spec : {M : Type 1} → statement M
 write-output-spec =
@@ -131,11 +128,9 @@ write-output-spec =
     slice-aggregate-put
     put-requires
     put-bad-requires
-    same-length
     returns
     find-requires
     put-bad-requires-2
-    same-length-2
     returns-2
     sub-same
     part-same-start
@@ -143,7 +138,6 @@ write-output-spec =
     slice-aggregate-same
     same-requires
     put-bad-requires-3
-    same-length-3
     returns-3
     data-buffer-requires
     line-list-requires
@@ -151,5 +145,4 @@ write-output-spec =
     slice-aggregate-put-rows
     slice-aggregate-put-rows-2
     put-rows-requires
-    same-length-4
     returns-4)
