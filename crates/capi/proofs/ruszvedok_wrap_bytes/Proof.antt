@@ -18,7 +18,7 @@ same-length c = search needs
 returns : tie.Need-returns
 returns c =
     let k = c .before .before .before .before .wrap-bytes in
-    (c .store .ensures ∙ ap five (k .ensures .0), k .ensures .1 .0)
+    (c .store .ensures ∙ ap five (k .ensures .0 .0), k .ensures .0 .1)
 
 pub ruszvedok-wrap-bytes-spec : {M : Type 1} → statement M
 ruszvedok-wrap-bytes-spec =
