@@ -1,6 +1,7 @@
-crate, fn, step = "replace_records", "check_each", "check_step"
+crate, fn, step = "replace_records", "check_each", "check_numbers"
 record_in, state_in, step_in = "layout", "replace", "replace"
 record, state, size = "Replacement", "Scan", 16
+fields = [("start", "u32"), ("end", "u32"), ("from", "u32"), ("to", "u32")]
 vals, shared, muts, requires = [("old", "usize"), ("new", "usize")], [], [], False
 state_field, world_type = None, "Scan"
 world = lambda s, ls: s

@@ -2,6 +2,7 @@
 # walkgen.py CONFIG.py > Proof.antt: writes the walk of a writing fold over a slice of records,
 #   pub fn FN(records: &[REC], state: ST, SHARED.., MUTS..) -> ST
 #   { let mut s = state; let mut i = 0; while i < records.len() { s = STEP(s, records[i], SHARED.., MUTS..); i += 1; } s }
+# or, with `fields`, a turn that hands the record's numbers on: { let r = records[i]; s = STEP(s, r.A, r.B, .., SHARED.., MUTS..); i += 1; }
 # with each place in the context counted by a simulation of the context (a list of labels). Any number of shared slices (none too) and of `&mut` slices (none too).
 import sys
 cfg = {}
@@ -11,6 +12,8 @@ REC, ST, SIZE = cfg["record"], cfg["state"], cfg["size"]     # the two structs, 
 SH, MU = cfg["shared"], cfg["muts"]                          # [(name, 'u8')..]; a mut's name is its field of World
 VA = cfg.get("vals", [])                                     # numbers that each turn passes on: after the state, before the slices, [(name, 'usize')..]
 nv = len(VA)
+FI = cfg.get("fields", [])                                   # the record's fields, all and in order, if the step takes these numbers and not the record: [('start', 'u32')..]
+nr = len(FI) if FI else 1                                    # how many arguments a record is
 k, m = len(SH), len(MU)
 P = f"Rattle.{CR}.proofs"; SP = f"Rattle.{CR}.specs"
 dash = lambda s: s.replace("_", "-")
@@ -25,7 +28,9 @@ shs = [(1 + j, n, e) for j, (n, e) in enumerate(SH)]
 mus = [(1 + k + j, n, e) for j, (n, e) in enumerate(MU)]
 NL = 1 + k + m                                               # lifetimes of FN
 # locals
-L_s, L_i, L_t, L_b, L_p, L_r = [3 + nv + k + m + j for j in range(6)]
+L_s, L_i = [3 + nv + k + m + j for j in range(2)]
+L_x = L_i + 1                                                # `let r`, with `fields`
+L_t, L_b, L_p, L_r = [L_i + 1 + bool(FI) + j for j in range(4)]
 loc_of = {j: 2 + nv + j for j, _, _ in shs + mus}                 # slice j's parameter
 ref_of = {j: L_r + 1 + 2 * x for x, (j, _, _) in enumerate(mus)}
 sli_of = {j: L_r + 2 + 2 * x for x, (j, _, _) in enumerate(mus)}
@@ -35,6 +40,7 @@ def nest(xs, end="tt"):
 def lst(xs):
     return " ∷ ".join(list(xs) + ["[]"])
 ty = {0: "S′.mir", 1: "slice0", 2: "S′.mir", L_s: "S′.mir", L_i: "word", L_t: "word", L_b: "tyBool", L_p: "tyPtr", L_r: "T′.mir"}
+if FI: ty[L_x] = "T′.mir"
 for x, (n, t) in enumerate(VA): ty[3 + x] = f"tyInt {W[t]}"
 for j, n, e in shs: ty[loc_of[j]] = f"sliceTy (tyRef (named {j}) imm (tyInt {W[e]}))"
 for j, n, e in mus:
@@ -275,8 +281,8 @@ o(f"""  abbrev w₀ : {WORLD}
 νs = [f"ν{j}" for j, _, _ in mus]; δs = [f"δ{j}" for j, _, _ in mus]
 νδ = "".join(f" ({a} : ℕ) ({b} : GName)" for a, b in zip(νs, δs)); νδa = "".join(f" {a} {b}" for a, b in zip(νs, δs))
 κc = nest([f"κ{j}" for j, _, _ in shs] + [f"ν{j} ∷ []" for j, _, _ in mus]); qc = nest([f"q{j}" for j, _, _ in shs] + ["fullShare" for _ in mus])
-argc = nest([wscan, "e"] + [n for n, _ in VA] + [f"x{j}" for j, _, _ in shs] + [f"x{j} δ{j} (w .{n})" for j, n, _ in mus])
-valc = nest([f"machS {wscan} ∷ []", "machR e ∷ []"] + [f"vint {W[t]} {n} ∷ []" for n, t in VA] + [f"v{j} ∷ []" for j, _, _ in shs + mus])
+argc = nest([wscan] + ([f"e .{f}" for f, _ in FI] or ["e"]) + [n for n, _ in VA] + [f"x{j}" for j, _, _ in shs] + [f"x{j} δ{j} (w .{n})" for j, n, _ in mus])
+valc = nest([f"machS {wscan} ∷ []"] + ([f"vint {W[t]} (e .{f}) ∷ []" for f, t in FI] or ["machR e ∷ []"]) + [f"vint {W[t]} {n} ∷ []" for n, t in VA] + [f"v{j} ∷ []" for j, _, _ in shs + mus])
 o(f"""  -- what `{STEP}` is passed, and what its triple binds outside
   abbrev argsC : {WORLD} → {REC} →{''.join(' (' + a + ' : ℕ) (' + b + ' : GName) →' for a, b in zip(νs, δs))} Args step.signature {κc}
   argsC w e{νδa} = {argc}
@@ -297,6 +303,7 @@ def alive_then_owns(c, toks, owns_, between):
         if kind.startswith("@"): c.e(kind[1:] + " $"); c.e("fjoin ! $")
         else: c.move([kind, "acc"]); c.e("fjoin ! $"); c.head(2, ["acc"])
 ownR = lambda x, g: f"@owned ! R (Is R) (LL.makes T.the-type T′.the-plain 𝓤 H A) {x} (machR {x} ∷ []) {g}"
+ownF = lambda x, f, t: f"@owned ! {t} (Is {t}) (uint-makes 𝓤 H A W {W[t]}) (e .{f}) (vint {W[t]} (e .{f}) ∷ []) (refl, LL.owed T.the-type T′.the-laws e _ ge{' .1' * x} .0 .1)"
 ownV = lambda n, t: f"@owned ! {t} (Is {t}) (uint-makes 𝓤 H A W {W[t]}) {n} (vint {W[t]} {n} ∷ []) (refl, f-{n})"
 ownS = lambda x, g: f"@owned ! RS (Is RS) (LL.makes S.the-type S′.the-plain 𝓤 H A) {x} (machS {x} ∷ []) {g}"
 def owns_alive(c, toks, owns_):
@@ -309,7 +316,7 @@ def owns_alive(c, toks, owns_):
     c.move(["al", "ow"]); c.e("join ! $"); c.e("frame ! $")
 c = Ctx(pre_labels)
 if REQ: c.e("says ! fit $")
-(alive_then_owns if REQ else (lambda c, t, w, _: owns_alive(c, t, w)))(c, [tok_lab(j) for j, _, _ in shs + mus], [ownS(wscan, "gs"), ownR("e", "ge")] + [ownV(n, t) for n, t in VA] + [own_lab(j) for j, _, _ in shs + mus], None)
+(alive_then_owns if REQ else (lambda c, t, w, _: owns_alive(c, t, w)))(c, [tok_lab(j) for j, _, _ in shs + mus], [ownS(wscan, "gs")] + ([ownF(x, f, t) for x, (f, t) in enumerate(FI)] or [ownR("e", "ge")]) + [ownV(n, t) for n, t in VA] + [own_lab(j) for j, _, _ in shs + mus], None)
 o(f"""  abbrev Handed : {WORLD} →{''.join(' ℕ → GName →' for _ in mus)} List (Item 𝓤)
   Handed w{νδa} = {lst(pre_items)}
 
@@ -319,8 +326,8 @@ o(f"""  abbrev Handed : {WORLD} →{''.join(' ℕ → GName →' for _ in mus)} 
 {c.text('      ')} done !
 """)
 # lasts
-LASTS = "Unit {0} × (" * (2 + nv + k) + "List ℕ × (" * m + "Unit {0}" + ")" * (2 + nv + k + m)
-zpath = lambda x: "zs" + " .1" * (2 + nv + k + x) + " .0"
+LASTS = "Unit {0} × (" * (1 + nr + nv + k) + "List ℕ × (" * m + "Unit {0}" + ")" * (1 + nr + nv + k + m)
+zpath = lambda x: "zs" + " .1" * (1 + nr + nv + k + x) + " .0"
 w_after = cfg["world"]("r", [f"({zpath(x)})" for x in range(m)])
 o(f"""  -- what `{STEP}` says of its result r and the last lists zs
   abbrev LastsC : Type 0
@@ -413,6 +420,7 @@ opens = 2
 c.head(2, ["cell", "eown", "others", "obor", "bor"])
 c.note("[records[i]; what it owns; the others; what shuts; the fractured borrow; ..]")
 c.set(f"(of-opd ! (load ! (from ! (hop ! (look ! {c.p(f'L{L_p}')} refl) (stop !))) (look-raw ! 0 refl)))", f"L{L_r}", "init", f"(LL.lawful T.the-type T′.the-laws 𝓤 H A W .typed {e_} (machR {e_} ∷ []) ge .0)")
+if FI: c.set(f"(of-opd ! {c.val(f'L{L_r}')})", f"L{L_x}", "init", f"(LL.lawful T.the-type T′.the-laws 𝓤 H A W .typed {e_} (machR {e_} ∷ []) ge .0)")
 c.e(f"elem-back ! R q′ ys i none (machR {e_} ∷ []) b0 o0 l $ shuts-slice ! tt R q′ ys b0 o0 $"); c.head(4, ["t0"]); c.drop("bor")
 if m: c.note("each `&mut` slice's pointer and count, for the call")
 for j, n, e in mus:
@@ -436,9 +444,10 @@ if pre_labels:
     c.e(f"use1 W (raw (StepC 𝓤 H A mem run .pre (to w {e_}{νδa}))) (goes w {e_}{νδa} gs ge{fit}) $")
 else:
     c.e(f"use0 W (raw (StepC 𝓤 H A mem run .pre (to w {e_}{νδa}))) (goes w {e_}{νδa} gs ge{fit}) $"); c.l = ["pre"] + c.l
-ops = [f"L{L_s}", f"L{L_r}"] + [f"L{3 + x}" for x in range(nv)] + [f"L{loc_of[j]}" for j, _, _ in shs] + [f"L{sli_of[j]}" for j, _, _ in mus]
+ops = [c.val(f"L{L_s}")] + ([c.fld(f"L{L_x}", x) for x in range(len(FI))] or [c.val(f"L{L_r}")])
+ops += [c.val(f"L{x}") for x in [3 + x for x in range(nv)] + [loc_of[j] for j, _, _ in shs] + [sli_of[j] for j, _, _ in mus]]
 opt = "(no-more !)"
-for x in reversed(ops): opt = f"(and-then ! {c.val(x)} {opt})"
+for x in reversed(ops): opt = f"(and-then ! {x} {opt})"
 c.e(f"calls-at ! fm (StepC 𝓤 H A mem run) known (to w {e_}{νδa}) {opt} (λ u."); opens += 1
 alive = "".join(f"‵ (flft {'κ%d' % j if j <= k else '(ν%d ∷ [])' % j} {'q%d' % j if j <= k else 'fullShare'}) ⊛ (" for j, _, _ in shs + mus) + "‵ ftrue" + ")" * (k + m)
 c.e(f"use1 W (later (some (λ (r : {ST}). (({alive}) ⊛ ‵ (RS .own r (u ∷ []))) ⊛ raw (ensured 𝓤 H A step.ended (step.clauses 𝓤 H A mem run) {κc} (argsC w {e_}{νδa}) tt r)))) (id⊢ 𝓤 _) $ await ! tt $ pick ! (λ r."); opens += 1
@@ -448,7 +457,7 @@ fct = SAID(e_, 'w', '(after r zs)')
 c.e(f"use1 W (some (λ (zs : LastsC). ‵ (lasts step.ended {κc} (argsC w {e_}{νδa}) zs) ⊛ raw (fact 𝓤 ({fct})))) (id⊢ 𝓤 _) $ pick ! (λ zs."); opens += 1
 c.head(1, ["x"]); c.split(["la", "fact"]); c.move(["fact"]); c.e(f"heard ! ({fct}) (λ e."); opens += 1; c.head(1, [])
 c.note("what is said of the last lists: each is as long as it was")
-for x in range(2 + nv + k): c.fsplit(["z", "la"]); c.drop("z")
+for x in range(1 + nr + nv + k): c.fsplit(["z", "la"]); c.drop("z")
 for j, n, e in mus:
     c.fsplit(["z", "la"]); c.fsplit([f"F{j}", "q"]); c.move(["q"]); c.e(f"feqL ! (λ d{j}."); opens += 1; c.head(1, []); c.move(["la"])
 c.drop("la")
@@ -467,7 +476,7 @@ for x, (j, n, e) in enumerate(mus):
 c.note("the next i, and the loop's head again")
 c.set(f"(bin ! {c.val(f'L{L_i}')} (lit ! tt) (record {{ fits = next-fits }}))", f"L{L_i}", "store", "(tt, record { fits = next-fits })", last=True)
 c.e(f"rewrite ! {c.p(f'L{L_i}')} (λ (j : ℕ). ‵ (fat fullShare word l{L_i} 0 (vint w64 j))) (add-one i) refl $")
-for j in [L_t, L_b, L_p, L_r] + [z for j, _, _ in mus for z in (ref_of[j], sli_of[j])]: c.e(f"forget ! {c.p(f'L{j}')} refl $")
+for j in [L_x] * bool(FI) + [L_t, L_b, L_p, L_r] + [z for j, _, _ in mus for z in (ref_of[j], sli_of[j])]: c.e(f"forget ! {c.p(f'L{j}')} refl $")
 c.e(f"keep ! ({lst(str(c.p(x)) for x in base)}) $")
 lenk = "".join(f" → length (w′ .{n}) ≡ length (w .{n})" for j, n, _ in mus)
 kd = "".join(f" d{j}" for j, _, _ in mus)

@@ -9,7 +9,7 @@ use recording::Refusal;
 use recording::check;
 use replace::Scan;
 use replace::capped_add;
-use replace::check_step;
+use replace::check_numbers;
 use replace::write_step;
 use writer::Cursor;
 use writer::Settled;
@@ -51,7 +51,8 @@ pub fn check_each(records: &[Replacement], state: Scan, old: usize, new: usize) 
     let mut s = state;
     let mut i = 0;
     while i < records.len() {
-        s = check_step(s, records[i], old, new);
+        let r = records[i];
+        s = check_numbers(s, r.start, r.end, r.from, r.to, old, new);
         i += 1;
     }
     s
