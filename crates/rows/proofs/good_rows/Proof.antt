@@ -4,6 +4,7 @@ use borrow.Author.Needs.{needs}
 use mathlib.Core.Path.{_≡_, sym, ap, _∙_}
 use Prim.Native.Nat.{_+_, _≤_}
 use lib.ListN.{length}
+use Rattle.recording.specs.Outcome.{Lent}
 use Rattle.layout.specs.Wrap.{lineNumbers, wrapLines}
 use Rattle.rows.specs.Rows.{numberRows}
 use Rattle.rows.proofs.RowLaws.{numbers-two, rows-lines, line-count, line-list, same-row}
@@ -18,14 +19,14 @@ use Rattle.wrap_lines.proofs.wrap_bytes.Reads as wrap-bytes-reads
 
 -- the count is that of the definition, and small
 few : (c : tie.After-wrap-bytes) → length (wrapLines (c .before .before .before .before .before .args .width) (c .before .before .before .before .before .args .breaks) (c .before .before .before .before .before .args .d .now)) ≤ length (c .before .before .before .before .before .args .d .now) + 1
-few c = c .wrap-bytes .ensures .1 .1 (omega (arith, c .before .before .before .before .before .pre .0))
+few c = c .wrap-bytes .ensures .1 (omega (arith, c .before .before .before .before .before .pre .0))
 
 count : (c : tie.After-lines-in) → c .lines-in .result ≡ length (wrapLines (c .before .before .before .before .before .before .before .before .args .width) (c .before .before .before .before .before .before .before .before .args .breaks) (c .before .before .before .before .before .before .before .before .args .d .now))
 count c =
     let x = c .before .before .before .before .before .before .before .before .args in
     let pre = c .before .before .before .before .before .before .before .before .pre in
     let w = c .before .before .before .wrap-bytes in
-    c .lines-in .ensures ∙ line-count (x .width) (x .breaks) (x .d .now) (x .lines .now) (w .ensures .1 .1) (pre .0) (pre .1) (w .result) (w .ensures .0)
+    c .lines-in .ensures ∙ line-count (x .width) (x .breaks) (x .d .now) (x .lines .now) (w .ensures .1) (pre .0) (pre .1) (w .result) (w .ensures .0 .0)
 
 -- so are the numbers
 numbers : (c : tie.After-numbers-of) → c .numbers-of .result ≡ length (lineNumbers (wrapLines (c .before .before .before .before .before .before .before .before .before .args .width) (c .before .before .before .before .before .before .before .before .before .args .breaks) (c .before .before .before .before .before .before .before .before .before .args .d .now)))
@@ -52,7 +53,7 @@ slice-aggregate-put-lines c =
     let w = c .before .before .before .before .before .before .wrap-bytes in
     let ls = wrapLines (x .width) (x .breaks) (x .d .now) in
     let e = numbers (c .before .before) in
-    let h = line-list (x .width) (x .breaks) (x .d .now) (x .lines .now) (w .ensures .1 .1) (pre .0) (pre .1) _ _ e (w .ensures .1 .0) in
+    let h = line-list (x .width) (x .breaks) (x .d .now) (x .lines .now) (w .ensures .1) (pre .0) (pre .1) _ _ e (ap (λ (b : Lent). b .lines) (w .ensures .0 .1)) in
     e ∙ ap length (sym h)
 
 put-lines-requires : tie.Need-put-lines-requires
@@ -62,7 +63,7 @@ put-lines-requires c κs =
     let w = c .before .before .before .before .before .before .wrap-bytes in
     let ls = wrapLines (x .width) (x .breaks) (x .d .now) in
     let e = numbers (c .before .before) in
-    let h = line-list (x .width) (x .breaks) (x .d .now) (x .lines .now) (w .ensures .1 .1) (pre .0) (pre .1) _ _ e (w .ensures .1 .0) in
+    let h = line-list (x .width) (x .breaks) (x .d .now) (x .lines .now) (w .ensures .1) (pre .0) (pre .1) _ _ e (ap (λ (b : Lent). b .lines) (w .ensures .0 .1)) in
     let f = few (c .before .before .before .before .before .before) in
     (omega (arith, ap length h, numbers-two ls, f, pre), omega (arith, ap length h, numbers-two ls, f, pre))
 
@@ -79,7 +80,7 @@ returns c =
     let w = c .before .before .before .before .before .before .before .before .before .wrap-bytes in
     let ls = wrapLines (x .width) (x .breaks) (x .d .now) in
     let e = numbers (c .before .before .before .before .before) in
-    let h = line-list (x .width) (x .breaks) (x .d .now) (x .lines .now) (w .ensures .1 .1) (pre .0) (pre .1) _ _ e (w .ensures .1 .0) in
+    let h = line-list (x .width) (x .breaks) (x .d .now) (x .lines .now) (w .ensures .1) (pre .0) (pre .1) _ _ e (ap (λ (b : Lent). b .lines) (w .ensures .0 .1)) in
     let p = c .before .before .put-lines in
     let r = ap (numberRows (x .row) 0) h ∙ rows-lines (x .row) 0 ls in
     (same-row (x .at) (x .out .now) _ _ (p .result) _ r (p .ensures .0 .0) (p .ensures .0 .1), omega (arith, p .ensures .1, ap length h, numbers-two ls, few (c .before .before .before .before .before .before .before .before .before)))
