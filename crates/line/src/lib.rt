@@ -167,7 +167,7 @@ fn after_line(s: &[u8], end: usize, here: usize) -> Next
     }
 }
 
-// The line that starts at `at`, and where the next one starts.
+// The line that starts at `at`, and where the next one starts. After the last line, where `more` is false, no line starts and `next` means nothing: the contract leaves it open.
 pub fn next_line(t: &[u16; 256], data: &[u8], at: usize, width: u32, break_words: bool) -> Next
     requires { ⌜ now t ≡ leadTable ⌝ }
     requires { ⌜ at ≤ length (now «data») ⌝ }

@@ -112,7 +112,7 @@ pub fn entry_at(entries: &[u32], k: usize) -> Entry
 }
 
 // Refusal 3: whether an entry's kind, start and length do not go together.
-pub fn bad_shape(kind: u32, start: u32, len: u32) -> bool
+fn bad_shape(kind: u32, start: u32, len: u32) -> bool
     ensures { λ r. ⌜ r ≡ badShape kind start len ⌝ }
 {
     if kind == 0 {
@@ -132,7 +132,7 @@ pub fn bad_shape(kind: u32, start: u32, len: u32) -> bool
 
 // Checks one entry, refusals 3, 4, 5, 6 in this order; `at` is the position of the entry before.
 // The part's end is the exact sum of start and length: two 32-bit numbers in 64 bits.
-pub fn check_entry(t: &[u16; 256], content: &[u8], text: &[u8], e: Entry, at: u32) -> Checked
+fn check_entry(t: &[u16; 256], content: &[u8], text: &[u8], e: Entry, at: u32) -> Checked
     requires { ⌜ now t ≡ leadTable ⌝ }
     ensures { λ r. ⌜ faultOf r ≡ entryFault at (now (content .entry)) (now (text .entry)) e ⌝ }
     ensures { λ r. ⌜ Counted r (e .len) ⌝ }
@@ -161,7 +161,7 @@ pub fn check_entry(t: &[u16; 256], content: &[u8], text: &[u8], e: Entry, at: u3
 }
 
 // Checks the entries, one after another.
-pub fn check_entries(t: &[u16; 256], content: &[u8], entries: &[u32], text: &[u8]) -> Checked
+fn check_entries(t: &[u16; 256], content: &[u8], entries: &[u32], text: &[u8]) -> Checked
     requires { ⌜ now t ≡ leadTable ⌝ }
     requires { ⌜ (length (now entries) % 4 ≡ 0) × (length (now entries) ≤ 16384) × (length (now text) ≤ 65536) ⌝ }
     ensures { λ r. ⌜ faultOf r ≡ entriesFault 0 (now (content .entry)) (now (text .entry)) (entriesOf (now (entries .entry))) ⌝ }

@@ -56,7 +56,7 @@ pub fn set_entry(numbers: &mut [u32], k: usize, e: Entry)
 }
 
 // Where an entry's text goes in a result: a pop has none, any other goes after the texts before it.
-pub fn start_of(kind: u32, used: u32) -> u32
+fn start_of(kind: u32, used: u32) -> u32
     ensures { λ r. ⌜ r ≡ startOf kind used ⌝ }
 {
     if kind == 1 {
@@ -114,6 +114,7 @@ pub fn put_entry(numbers: &mut [u32], texts: &mut [u8], text: &[u8], e: Entry, c
 }
 
 // Carries the items before the byte n on, the entries at that place included.
+// The contract says what is left of the content (`left`), not the entry's index in the cursor: later steps see the index only through that, and as a value it would be this loop over again.
 pub fn keep(
     bytes: &mut [u8],
     numbers: &mut [u32],
@@ -150,7 +151,7 @@ pub fn keep(
 }
 
 // Carries on the entries before the byte n, those at that place included, and leaves the bytes.
-// `bytes` is lent for the shape of the contract alone: all steps have the same.
+// `bytes` is lent for the shape of the contract alone: all steps have the same. As in `keep`, the index is told by what is left.
 pub fn skip(
     bytes: &mut [u8],
     numbers: &mut [u32],
