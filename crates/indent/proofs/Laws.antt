@@ -68,7 +68,8 @@ plan-next p start (b ∷ bs) is h = go (start && not (eqb b 0x0A)) (λ g. plan-n
     rest x = edit (indentOps p false (drop m bs)) x
 
     go : (t : Bool) → (m < length bs → edit (indentOps p (eqb b 0x0A) bs) (back 1 is) ≡ front m (back 1 is) ++ (p ++ rest (back m (back 1 is)))) → cond t 0 (suc m) < suc (length bs)
-        → edit (cond t (put p ∷ []) [] ++ (keep 1 ∷ indentOps p (eqb b 0x0A) bs)) is ≡ front (cond t 0 (suc m)) is ++ (p ++ edit (indentOps p false (drop (cond t 0 (suc m)) (b ∷ bs))) (back (cond t 0 (suc m)) is))
+        → edit (cond t (put p ∷ []) [] ++ (keep 1 ∷ indentOps p (eqb b 0x0A) bs)) is
+        ≡ front (cond t 0 (suc m)) is ++ (p ++ edit (indentOps p false (drop (cond t 0 (suc m)) (b ∷ bs))) (back (cond t 0 (suc m)) is))
     go true f g = refl
     go false f g =
         ap (λ (l : List Item). front 1 is ++ l) (f (omega arith))
@@ -80,7 +81,8 @@ unfolding toNext
 plan-last p start [] is h = refl
 plan-last p start (b ∷ bs) is h = go (start && not (eqb b 0x0A)) (λ g. plan-last p (eqb b 0x0A) bs (back 1 is) g) h
   where
-    go : (t : Bool) → (length bs ≤ toNext (eqb b 0x0A) bs → edit (indentOps p (eqb b 0x0A) bs) (back 1 is) ≡ back 1 is) → suc (length bs) ≤ cond t 0 (suc (toNext (eqb b 0x0A) bs)) → edit (cond t (put p ∷ []) [] ++ (keep 1 ∷ indentOps p (eqb b 0x0A) bs)) is ≡ is
+    go : (t : Bool) → (length bs ≤ toNext (eqb b 0x0A) bs → edit (indentOps p (eqb b 0x0A) bs) (back 1 is) ≡ back 1 is) → suc (length bs) ≤ cond t 0 (suc (toNext (eqb b 0x0A) bs))
+        → edit (cond t (put p ∷ []) [] ++ (keep 1 ∷ indentOps p (eqb b 0x0A) bs)) is ≡ is
     go true f g = absurd (omega arith)
     go false f g = ap (λ (l : List Item). front 1 is ++ l) (f (omega arith)) ∙ whole 1 is
 
@@ -183,7 +185,8 @@ unfolding toNext toBreak
 next-drop [] = refl
 next-drop (b ∷ bs) = go (eqb b 0x0A) refl (next-drop bs)
   where
-    go : (t : Bool) → eqb b 0x0A ≡ t → toNext false bs ≡ toBreak bs + toNext true (drop (toBreak bs) bs) → suc (toNext t bs) ≡ cond t 0 (suc (toBreak bs)) + toNext true (drop (cond t 0 (suc (toBreak bs))) (b ∷ bs))
+    go : (t : Bool) → eqb b 0x0A ≡ t → toNext false bs ≡ toBreak bs + toNext true (drop (toBreak bs) bs)
+        → suc (toNext t bs) ≡ cond t 0 (suc (toBreak bs)) + toNext true (drop (cond t 0 (suc (toBreak bs))) (b ∷ bs))
     go true e f =
         let h : toNext true (b ∷ bs) ≡ suc (toNext true bs) = rw e in
         omega (arith, h)

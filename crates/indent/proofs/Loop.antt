@@ -31,7 +31,8 @@ pub record State (x : List Item) (ds ns ts : List ℕ) (o₀ o : Out) (c : Curso
   pub next : p ≡ c .at + toNext start (drop (c .at) ds)
   pub within : p ≤ length ds
 
-pub state-first : (x : List Item) (ds ns ts : List ℕ) (o : Out) (c : Cursor) (p : ℕ) → c .at ≡ 0 → c .k ≡ 0 → Sound ds ns ts → p ≡ 0 + toNext true (drop 0 ds) → p ≤ length ds → State x ds ns ts o o c p
+pub state-first : (x : List Item) (ds ns ts : List ℕ) (o : Out) (c : Cursor) (p : ℕ)
+    → c .at ≡ 0 → c .k ≡ 0 → Sound ds ns ts → p ≡ 0 + toNext true (drop 0 ds) → p ≤ length ds → State x ds ns ts o o c p
 state-first x ds ns ts o c p a k s e l =
     record {
       start = true;

@@ -123,7 +123,9 @@ module _ (n : ℕ) (ds ns ts : List ℕ) (o₀ o : Out) (c : Cursor) (p : ℕ) (
           record {
             done = s .done ++ turn;
             wrote = eo ∙ ap (λ (x : Out). add turn x) (s .wrote) ∙ add-append (s .done) turn o₀ fits-done;
-            rest = append-assoc (s .done) turn (repeatPieces n [] (left ds ns ts c′)) ∙ ap (λ (l : List Item). s .done ++ (turn ++ repeatPieces n [] l)) same ∙ ap (λ (x : List Item). s .done ++ x) (sym parted) ∙ s .rest;
+            rest =
+                append-assoc (s .done) turn (repeatPieces n [] (left ds ns ts c′)) ∙ ap (λ (l : List Item). s .done ++ (turn ++ repeatPieces n [] l)) same
+                ∙ ap (λ (x : List Item). s .done ++ x) (sym parted) ∙ s .rest;
             ready = record { within = omega (arith, ek, whole); valid = rw (ea, ek) (ok .3); short = s .ready .short };
             next = ep;
           }
@@ -188,12 +190,14 @@ module _ (n : ℕ) (ds ns ts : List ℕ) (od₀ oe₀ ot₀ od oe ot : List ℕ)
       pub times-asked : (c .at ≤ p) × (p ≤ length ds) × (c .d + length (repeated n (part (c .at) p ds)) ≤ length od)
       times-asked = (omega (arith, fine .0, place), more, roomy .dataBytes)
 
-      pub entry-asked : (c₁ : Cursor) → (c₁ .at ≡ c .at) × (c₁ .k ≡ c .k) × (c₁ .d ≡ c .d + length (repeated n (part (c .at) p ds))) × (c₁ .e ≡ c .e) × (c₁ .t ≡ c .t) → length ns ≤ 18446744073709551615
+      pub entry-asked : (c₁ : Cursor) → (c₁ .at ≡ c .at) × (c₁ .k ≡ c .k) × (c₁ .d ≡ c .d + length (repeated n (part (c .at) p ds))) × (c₁ .e ≡ c .e) × (c₁ .t ≡ c .t)
+          → length ns ≤ 18446744073709551615
           → (badShape (e .kind) (e .start) (e .len) ≡ false) × ((e .start + e .len ≤ length ts)
           × (((c₁ .e + 4 ≤ length oe) × (c₁ .t + e .len ≤ length ot)) × ((c₁ .d ≤ 1048576) × (c₁ .t ≤ 65536) × (c₁ .k + 4 ≤ 18446744073709551615))))
       entry-asked c₁ f big =
           let r = roomy in
-          (fine .1, (fine .2, ((omega (arith, f .3, r .entryNumbers), omega (arith, f .4, r .text)), (omega (arith, f .2, r .data-limit), omega (arith, f .4, r .text-limit), omega (arith, f .1, entire, big)))))
+          let fits : (c₁ .e + 4 ≤ length oe) × (c₁ .t + e .len ≤ length ot) = (omega (arith, f .3, r .entryNumbers), omega (arith, f .4, r .text)) in
+          (fine .1, (fine .2, (fits, (omega (arith, f .2, r .data-limit), omega (arith, f .4, r .text-limit), omega (arith, f .1, entire, big)))))
 
       pub turned : (od′ oe′ ot′ : List ℕ) (c₁ c₂ : Cursor) (p′ : ℕ)
           → od′ ≡ overAt (c .d) (repeated n (part (c .at) p ds)) od

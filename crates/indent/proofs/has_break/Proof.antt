@@ -40,7 +40,8 @@ loop-less c = search needs
 loop-again : tie.Need-loop-again Inv-loop μ-loop
 loop-again c =
     let l = c .before .before in
-    (search needs, ap (λ (t : Bool). t || eqb (getD (l .before .args .s .now) (l .before .args .at + l .loop .j) 0) 0x0A) (l .loop .inv .1) ∙ found-next (l .before .args .at) (l .loop .j) (l .before .args .s .now) (omega arith))
+    let a = l .before .args in
+    (search needs, ap (λ (t : Bool). t || eqb (getD (a .s .now) (a .at + l .loop .j) 0) 0x0A) (l .loop .inv .1) ∙ found-next (a .at) (l .loop .j) (a .s .now) (omega arith))
 
 returns : tie.Need-returns Inv-loop μ-loop
 returns c =

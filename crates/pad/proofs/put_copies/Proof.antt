@@ -31,9 +31,10 @@ loop-holds c =
 put-requires : tie.Need-put-requires Inv-loop μ-loop
 put-requires c κs =
     let l = c .before .before .loop in
-    let a = c .before .before .before .before .before .args in
+    let s = c .before .before .before .before .before in
+    let a = s .args in
     let w = repeated-within (l .i) (a .n) (part (a .a) (a .b) (a .from .now)) (c .before .loop-test .taken) in
-    (search needs, search needs, omega (arith, w, l .inv .1, l .inv .2, c .before .before .before .before .before .pre .2, length-part (a .a) (a .b) (a .from .now) (c .before .before .before .before .before .pre .1)))
+    (search needs, search needs, omega (arith, w, l .inv .1, l .inv .2, s .pre .2, length-part (a .a) (a .b) (a .from .now) (s .pre .1)))
 
 add-i : tie.Need-add-i Inv-loop μ-loop
 add-i c = search needs
@@ -44,12 +45,13 @@ loop-less c = search needs
 loop-again : tie.Need-loop-again Inv-loop μ-loop
 loop-again c =
     let l = c .before .before .before .before .before .loop in
-    let a = c .before .before .before .before .before .before .before .before .args in
+    let s = c .before .before .before .before .before .before .before .before in
+    let a = s .args in
     let p = part (a .a) (a .b) (a .from .now) in (
       search needs,
       search needs,
-      omega (arith, c .before .before .put .ensures .0, l .inv .2, repeated-long (l .i) p, length-part (a .a) (a .b) (a .from .now) (c .before .before .before .before .before .before .before .before .pre .1)),
-      c .before .before .put .ensures .1 ∙ (λ j. overAt (l .inv .2 j) p (l .inv .3 j)) ∙ repeated-next (a .at) (l .i) p (a .out .now) (omega (arith, c .before .before .before .before .before .before .before .before .pre .2)),
+      omega (arith, c .before .before .put .ensures .0, l .inv .2, repeated-long (l .i) p, length-part (a .a) (a .b) (a .from .now) (s .pre .1)),
+      c .before .before .put .ensures .1 ∙ (λ j. overAt (l .inv .2 j) p (l .inv .3 j)) ∙ repeated-next (a .at) (l .i) p (a .out .now) (omega (arith, s .pre .2)),
     )
 
 same-length : tie.Need-same-length Inv-loop μ-loop

@@ -86,7 +86,8 @@ put-entry-requires : tie.Need-put-entry-requires Inv-loop μ-loop
 put-entry-requires c κs =
     let b = c .before .before .before .before in
     let t = turn b in
-    entry-asked _ _ _ _ _ _ _ _ _ _ _ _ _ (t .before .loop .inv) (room (t .before)) (t .loop-test .taken) _ (b .before .before .entry-at .ensures) _ (b .put-times .ensures .0) (omega (arith, start (t .before) .good))
+    entry-asked _ _ _ _ _ _ _ _ _ _ _ _ _ (t .before .loop .inv) (room (t .before)) (t .loop-test .taken) _ (b .before .before .entry-at .ensures)
+    _ (b .put-times .ensures .0) (omega (arith, start (t .before) .good))
 
 place-at-requires-2 : tie.Need-place-at-requires-2 Inv-loop μ-loop
 place-at-requires-2 c κs =

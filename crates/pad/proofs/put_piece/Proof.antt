@@ -38,8 +38,10 @@ returns-2 : tie.Need-returns-2
 returns-2 c =
     let a = c .before .before .before .before .before .before .before .before .before .args in
     let e = piece-one (a .a) (a .b) (a .from .now) (c .before .before .before .before .before .if2 .taken) (c .before .before .before .before .before .before .before .before .before .pre .1) in
-    let r = c .before .before .put-byte-times .ensures in
-    (r .0 ∙ ap (λ (m : ℕ). a .at + m) (sym (length-single (a .n) _)) ∙ ap (λ (l : List ℕ). a .at + length (repeated (a .n) l)) (sym e), r .1 ∙ ap (λ (l : List ℕ). overAt (a .at) (repeated (a .n) l) (a .out .now)) (sym e))
+    let r = c .before .before .put-byte-times .ensures in (
+      r .0 ∙ ap (λ (m : ℕ). a .at + m) (sym (length-single (a .n) _)) ∙ ap (λ (l : List ℕ). a .at + length (repeated (a .n) l)) (sym e),
+      r .1 ∙ ap (λ (l : List ℕ). overAt (a .at) (repeated (a .n) l) (a .out .now)) (sym e),
+    )
 
 put-copies-requires : tie.Need-put-copies-requires
 put-copies-requires c κs = search needs
