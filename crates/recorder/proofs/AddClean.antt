@@ -102,7 +102,8 @@ entry-clean-of kind start x r h l new = fault-free (withEntry kind start x r) (p
         kept =
             unfold withEntry in
             ap (entriesFault 0 (r .dataBytes) (r .text ++ x)) (entriesOf-snoc (r .entryNumbers) e four)
-            ∙ entries-snoc (entriesOf (r .entryNumbers)) 0 (r .dataBytes) (r .text ++ x) e (omega arith) (entries-more (entriesOf (r .entryNumbers)) 0 (r .dataBytes) (r .dataBytes) (r .text) x (omega arith) (f .entries)) new
+            ∙ entries-snoc (entriesOf (r .entryNumbers)) 0 (r .dataBytes) (r .text ++ x) e (omega arith)
+            (entries-more (entriesOf (r .entryNumbers)) 0 (r .dataBytes) (r .dataBytes) (r .text) x (omega arith) (f .entries)) new
 
 -- ── the new entry has no fault
 new-part : (t x : Bytes) → take (length x) (drop (length t) (t ++ x)) ≡ x

@@ -153,7 +153,8 @@ module _ (b : Lent) (d e t : ℕ) where
 
 -- ── what is answered and left
 module _ (f : Faults) (b : Lent) (q : Recording) where
-  pub add-refused : (x : Refusal) → refusalOf f (roomIn b) (leaves q) ≡ numberOf x → (answerOf (Refused x) ≡ returned (settle f (roomIn b) (leaves q))) × (b ≡ lentAfter (settle f (roomIn b) (leaves q)) b)
+  pub add-refused : (x : Refusal) → refusalOf f (roomIn b) (leaves q) ≡ numberOf x → (answerOf (Refused x) ≡ returned (settle f (roomIn b) (leaves q)))
+      × (b ≡ lentAfter (settle f (roomIn b) (leaves q)) b)
   add-refused x e = (refused-answer f (roomIn b) (leaves q) x e, refused-lent f (roomIn b) (leaves q) x b e)
 
   pub add-done : (d e t : ℕ) (od oe ot : List ℕ) → refusalOf f (roomIn b) (leaves q) ≡ 0 → d ≡ length (q .dataBytes) → e ≡ length (q .entryNumbers) → t ≡ length (q .text)
@@ -182,13 +183,15 @@ module _ (b : Lent) (d e t : ℕ) (x : Bytes) (i : Inside b d e t) where
   data-sizes = (omega (arith, front-d, length-append (take d (b .dataBytes)) x), sym front-e, sym front-t)
 
   pub data-left : (od : List ℕ) → od ≡ overAt d x (b .dataBytes)
-      → (od ≡ over (withData x (usedOf b d e t) .dataBytes) (b .dataBytes)) × (b .entryNumbers ≡ over (withData x (usedOf b d e t) .entryNumbers) (b .entryNumbers)) × (b .text ≡ over (withData x (usedOf b d e t) .text) (b .text))
+      → (od ≡ over (withData x (usedOf b d e t) .dataBytes) (b .dataBytes)) × (b .entryNumbers ≡ over (withData x (usedOf b d e t) .entryNumbers) (b .entryNumbers))
+      × (b .text ≡ over (withData x (usedOf b d e t) .text) (b .text))
   unfolding withData
   data-left od w = (w ∙ sym (over-take d x (b .dataBytes) (i .dataBytes)), sym (over-used e (b .entryNumbers) (i .entryNumbers)), sym (over-used t (b .text) (i .text)))
 
   -- an entry at the entries' end, its text at the text's end
   module _ (kind start : ℕ) where
-    pub entry-sizes : (d ≡ length (withEntry kind start x (usedOf b d e t) .dataBytes)) × (e + 4 ≡ length (withEntry kind start x (usedOf b d e t) .entryNumbers)) × (t + length x ≡ length (withEntry kind start x (usedOf b d e t) .text))
+    pub entry-sizes : (d ≡ length (withEntry kind start x (usedOf b d e t) .dataBytes)) × (e + 4 ≡ length (withEntry kind start x (usedOf b d e t) .entryNumbers))
+        × (t + length x ≡ length (withEntry kind start x (usedOf b d e t) .text))
     unfolding withEntry
     entry-sizes = (
       sym front-d,
@@ -197,7 +200,8 @@ module _ (b : Lent) (d e t : ℕ) (x : Bytes) (i : Inside b d e t) where
     )
 
     pub entry-left : (s : ℕ) (oe ot : List ℕ) → s ≡ start → oe ≡ overAt e (numbersOf (entry d kind s (length x) ∷ [])) (b .entryNumbers) → ot ≡ overAt t x (b .text)
-        → (b .dataBytes ≡ over (withEntry kind start x (usedOf b d e t) .dataBytes) (b .dataBytes)) × (oe ≡ over (withEntry kind start x (usedOf b d e t) .entryNumbers) (b .entryNumbers)) × (ot ≡ over (withEntry kind start x (usedOf b d e t) .text) (b .text))
+        → (b .dataBytes ≡ over (withEntry kind start x (usedOf b d e t) .dataBytes) (b .dataBytes)) × (oe ≡ over (withEntry kind start x (usedOf b d e t) .entryNumbers) (b .entryNumbers))
+        × (ot ≡ over (withEntry kind start x (usedOf b d e t) .text) (b .text))
     unfolding withEntry
     entry-left s oe ot q we wt = (
       sym (over-used d (b .dataBytes) (i .dataBytes)),

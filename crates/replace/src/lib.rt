@@ -1,6 +1,6 @@
 // Replacing stretches of a recording's data (document 01, module 5): the steps of the scan and of the writing, and `write_replaced_flat`, whose records are flat numbers, four each, as C lends them.
 // `write_replaced` over a list of structs stands in crate `replace_records`: one definition, two front doors.
-// All records are scanned first, for refusal 8 and for the size of the result, and written only then. Both scans hand each record, with a state by value, to a step.
+// All records are scanned first, for refusal 8 and for the size of the result, and written only then. The scan hands each record's four numbers, with a state by value, to `check_numbers`.
 // What the call answers and leaves is the `outcome` of the job `replace` in `layout/specs/Layout.antt`; the records behind the numbers are `recordsOf` of `specs/Records.antt`.
 use chars::LEADS;
 use layout::Replacement;
@@ -35,7 +35,7 @@ pub struct Scan {
 }
 
 // The record whose numbers start at k: the records from k on are this one and those from k + 4 on.
-pub fn record_at(records: &[u32], k: usize) -> Replacement
+fn record_at(records: &[u32], k: usize) -> Replacement
     requires { ⌜ k + 4 ≤ length (now records) ⌝ }
     ensures { λ r. ⌜ recordsOf (drop k (now (records .entry))) ≡ r ∷ recordsOf (drop (k + 4) (now (records .entry))) ⌝ }
 {
@@ -48,7 +48,7 @@ pub fn record_at(records: &[u32], k: usize) -> Replacement
 }
 
 // Refusal 8 of one record's four numbers after a record that ends at `at`, for n data bytes and a replacement text of t bytes.
-pub fn bad_record(at: u32, start: u32, end: u32, from: u32, to: u32, n: usize, t: usize) -> bool
+fn bad_record(at: u32, start: u32, end: u32, from: u32, to: u32, n: usize, t: usize) -> bool
     ensures { λ r. ⌜ r ≡ badRecord at n t (replacement start end from to) ⌝ }
 {
     if end < start {
@@ -105,15 +105,8 @@ pub fn check_numbers(s: Scan, start: u32, end: u32, from: u32, to: u32, n: usize
     }
 }
 
-// One record more of the scan: document 01 has the scan hand numbers on, and this is where a record's are handed to the function that decides.
-pub fn check_step(s: Scan, x: Replacement, n: usize, t: usize) -> Scan
-    ensures { λ r. ⌜ r ≡ checkStep n t x s ⌝ }
-{
-    check_numbers(s, x.start, x.end, x.from, x.to, n, t)
-}
-
 // The scan over all records.
-pub fn check_records(records: &[u32], n: usize, t: usize) -> Scan
+fn check_records(records: &[u32], n: usize, t: usize) -> Scan
     ensures { λ r. ⌜ r ≡ checkAll n t (recordsOf (now (records .entry))) (scan false 0 0) ⌝ }
 {
     let mut s = Scan {
@@ -123,13 +116,15 @@ pub fn check_records(records: &[u32], n: usize, t: usize) -> Scan
     };
     let mut i = 0;
     while i + 4 <= records.len() {
-        s = check_step(s, record_at(records, i), n, t);
+        let x = record_at(records, i);
+        s = check_numbers(s, x.start, x.end, x.from, x.to, n, t);
         i += 4;
     }
     s
 }
 
 // Writes one record: keeps the content up to its start, puts the new bytes in, and passes the stretch that goes, whose entries stay.
+// The contract is a relation (`Turned`): `keep` and `skip` tell what is left of the content, not which entry is next.
 pub fn write_step(
     c: Cursor,
     x: Replacement,
@@ -169,7 +164,7 @@ pub fn write_step(
 }
 
 // Writes all records, and the rest of the content after the last one.
-pub fn write_records(
+fn write_records(
     content: &[u8],
     entries: &[u32],
     text: &[u8],

@@ -1,5 +1,5 @@
 // Replacing stretches of a recording's data by a lent list of records (document 01, module 5): `write_replaced`.
-// Two thin scans over the list read a record and hand it, with a state by value, to a covered step; the call above them is a run of calls. These three are proved by hand, as walks.
+// Two thin scans over the list read a record and hand it on with a state by value, the checking one its four numbers; the call above them is a run of calls. These three are proved by hand, as walks.
 // Every decision is in a covered function, so a walk has no branch: where the call is refused the writing goes over the records and writes nothing.
 use chars::LEADS;
 use layout::Replacement;
@@ -34,7 +34,7 @@ pub struct Work {
 }
 
 // The scan before the first record.
-pub fn first() -> Scan
+fn first() -> Scan
     ensures { λ r. ⌜ r ≡ scan false 0 0 ⌝ }
 {
     Scan {
@@ -44,8 +44,8 @@ pub fn first() -> Scan
     }
 }
 
-// The scan over all records, for data of `old` bytes and a replacement text of `new`; `check_step` hands each record's numbers on.
-pub fn check_each(records: &[Replacement], state: Scan, old: usize, new: usize) -> Scan
+// The scan over all records, for data of `old` bytes and a replacement text of `new`; `check_numbers` decides.
+fn check_each(records: &[Replacement], state: Scan, old: usize, new: usize) -> Scan
     ensures { λ e. ⌜ e ≡ checkAll old new (now (records .entry)) state ⌝ }
 {
     let mut s = state;
@@ -59,7 +59,7 @@ pub fn check_each(records: &[Replacement], state: Scan, old: usize, new: usize) 
 }
 
 // The refusal for the content, for the records or for the size of the result, in this order; s is what the scan found, and the numbers are the buffers' lengths.
-pub fn judge(
+fn judge(
     s: Scan,
     content: &[u8],
     entries: &[u32],
@@ -87,7 +87,7 @@ pub fn judge(
 }
 
 // The state before the writing.
-pub fn plan(
+fn plan(
     s: Scan,
     content: &[u8],
     entries: &[u32],
@@ -97,7 +97,8 @@ pub fn plan(
     texts: usize,
 ) -> Work
     requires { ⌜ (s .bad ≡ false → s .at ≤ length (now content)) ⌝ }
-    ensures { λ r. ⌜ (settledFault (r .verdict) ≡ planFault (now (content .entry)) (now (entries .entry)) (now (text .entry)) s (roomOf bytes numbers texts 0)) × (r .cursor ≡ atStart) ⌝ }
+    ensures { λ r. ⌜ (settledFault (r .verdict) ≡ planFault (now (content .entry)) (now (entries .entry)) (now (text .entry)) s (roomOf bytes numbers texts 0))
+        × (r .cursor ≡ atStart) ⌝ }
 {
     Work {
         verdict: judge(s, content, entries, text, bytes, numbers, texts),
@@ -111,8 +112,8 @@ pub fn plan(
     }
 }
 
-// One record's turn; none where the call is refused. `write_step` hands the record's numbers to the writer.
-pub fn write_turn(
+// One record's turn; none where the call is refused. A relation (`TurnOf`), as that of `write_step` is.
+fn write_turn(
     w: Work,
     x: Replacement,
     content: &[u8],
@@ -124,7 +125,8 @@ pub fn write_turn(
     texts: &mut [u8],
 ) -> Work
     requires { ⌜ MayTurn (now content) (now entries) (now text) (now new) x (world w (now bytes) (now numbers) (now texts)) ⌝ }
-    ensures { λ r. ⌜ TurnOf (now (content .entry)) (now (entries .entry)) (now (text .entry)) (now (new .entry)) x (world w (now (bytes .entry)) (now (numbers .entry)) (now (texts .entry))) (world r (now (bytes .exit)) (now (numbers .exit)) (now (texts .exit))) ⌝ }
+    ensures { λ r. ⌜ TurnOf (now (content .entry)) (now (entries .entry)) (now (text .entry)) (now (new .entry)) x
+        (world w (now (bytes .entry)) (now (numbers .entry)) (now (texts .entry))) (world r (now (bytes .exit)) (now (numbers .exit)) (now (texts .exit))) ⌝ }
 {
     let v = w.verdict;
     match v {
@@ -142,7 +144,7 @@ pub fn write_turn(
 }
 
 // All records' turns.
-pub fn write_each(
+fn write_each(
     records: &[Replacement],
     state: Work,
     content: &[u8],
@@ -154,7 +156,8 @@ pub fn write_each(
     texts: &mut [u8],
 ) -> Work
     requires { ⌜ MayTurns (now content) (now entries) (now text) (now new) (now records) (world state (now bytes) (now numbers) (now texts)) ⌝ }
-    ensures { λ e. ⌜ Turns (now (content .entry)) (now (entries .entry)) (now (text .entry)) (now (new .entry)) (now (records .entry)) (world state (now (bytes .entry)) (now (numbers .entry)) (now (texts .entry))) (world e (now (bytes .exit)) (now (numbers .exit)) (now (texts .exit))) ⌝ }
+    ensures { λ e. ⌜ Turns (now (content .entry)) (now (entries .entry)) (now (text .entry)) (now (new .entry)) (now (records .entry))
+        (world state (now (bytes .entry)) (now (numbers .entry)) (now (texts .entry))) (world e (now (bytes .exit)) (now (numbers .exit)) (now (texts .exit))) ⌝ }
 {
     let mut s = state;
     let mut i = 0;
@@ -176,7 +179,7 @@ pub fn write_each(
 }
 
 // The rest of the content after the last record, and the answer.
-pub fn finish(
+fn finish(
     w: Work,
     content: &[u8],
     entries: &[u32],
@@ -186,7 +189,8 @@ pub fn finish(
     texts: &mut [u8],
 ) -> Answer
     requires { ⌜ MayEnd (now content) (now entries) (now text) (world w (now bytes) (now numbers) (now texts)) ⌝ }
-    ensures { λ r. ⌜ Ended (now (content .entry)) (now (entries .entry)) (now (text .entry)) (world w (now (bytes .entry)) (now (numbers .entry)) (now (texts .entry))) r (now (bytes .exit)) (now (numbers .exit)) (now (texts .exit)) ⌝ }
+    ensures { λ r. ⌜ Ended (now (content .entry)) (now (entries .entry)) (now (text .entry)) (world w (now (bytes .entry)) (now (numbers .entry)) (now (texts .entry))) r
+        (now (bytes .exit)) (now (numbers .exit)) (now (texts .exit)) ⌝ }
 {
     let v = w.verdict;
     match v {

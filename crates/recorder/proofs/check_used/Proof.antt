@@ -17,38 +17,51 @@ use Rattle.recording.proofs.check.Reads as check-reads
 returns : tie.Need-returns
 unfolding faultOf numberOf
 returns c =
-    sym (at-once (lentOf (c .before .before .before .before .args .content .now) (c .before .before .before .before .args .entries .now) (c .before .before .before .before .args .text .now)) (c .before .before .before .before .args .d) (c .before .before .before .before .args .e) (c .before .before .before .before .args .n) (long-data _ _ _ _ (c .if1 .taken)))
+    let a = c .before .before .before .before .args in
+    let b = lentOf (a .content .now) (a .entries .now) (a .text .now) in
+    sym (at-once b (a .d) (a .e) (a .n) (long-data _ _ _ _ (c .if1 .taken)))
 
 returns-2 : tie.Need-returns-2
 unfolding faultOf numberOf
 returns-2 c =
-    sym (at-once (lentOf (c .before .before .before .before .before .args .content .now) (c .before .before .before .before .before .args .entries .now) (c .before .before .before .before .before .args .text .now)) (c .before .before .before .before .before .args .d) (c .before .before .before .before .before .args .e) (c .before .before .before .before .before .args .n) (long-entries _ _ _ _ (c .before .if1 .left) (c .if2 .taken)))
+    let a = c .before .before .before .before .before .args in
+    let b = lentOf (a .content .now) (a .entries .now) (a .text .now) in
+    sym (at-once b (a .d) (a .e) (a .n) (long-entries _ _ _ _ (c .before .if1 .left) (c .if2 .taken)))
 
 returns-3 : tie.Need-returns-3
 unfolding faultOf numberOf
 returns-3 c =
-    sym (at-once (lentOf (c .before .before .before .before .before .before .args .content .now) (c .before .before .before .before .before .before .args .entries .now) (c .before .before .before .before .before .before .args .text .now)) (c .before .before .before .before .before .before .args .d) (c .before .before .before .before .before .before .args .e) (c .before .before .before .before .before .before .args .n) (long-text _ _ _ _ (c .before .before .if1 .left) (c .before .if2 .left) (c .if3 .taken)))
+    let a = c .before .before .before .before .before .before .args in
+    let b = lentOf (a .content .now) (a .entries .now) (a .text .now) in
+    sym (at-once b (a .d) (a .e) (a .n) (long-text _ _ _ _ (c .before .before .if1 .left) (c .before .if2 .left) (c .if3 .taken)))
 
 slice-aggregate-check : tie.Need-slice-aggregate-check
 slice-aggregate-check c =
-    sym (length-take-le (c .before .before .before .before .before .before .before .args .d) (c .before .before .before .before .before .before .before .args .content .now) (c .before .before .before .if1 .left))
+    let a = c .before .before .before .before .before .before .before .args in
+    sym (length-take-le (a .d) (a .content .now) (c .before .before .before .if1 .left))
 
 slice-aggregate-check-2 : tie.Need-slice-aggregate-check-2
 slice-aggregate-check-2 c =
-    sym (length-take-le (c .before .before .before .before .before .before .before .before .args .e) (c .before .before .before .before .before .before .before .before .args .entries .now) (c .before .before .before .if2 .left))
+    let a = c .before .before .before .before .before .before .before .before .args in
+    sym (length-take-le (a .e) (a .entries .now) (c .before .before .before .if2 .left))
 
 slice-aggregate-check-3 : tie.Need-slice-aggregate-check-3
 slice-aggregate-check-3 c =
-    sym (length-take-le (c .before .before .before .before .before .before .before .before .before .args .n) (c .before .before .before .before .before .before .before .before .before .args .text .now) (c .before .before .before .if3 .left))
+    let a = c .before .before .before .before .before .before .before .before .before .args in
+    sym (length-take-le (a .n) (a .text .now) (c .before .before .before .if3 .left))
 
 check-requires : tie.Need-check-requires
 check-requires c κs = search needs
 
 returns-4 : tie.Need-returns-4
 returns-4 c =
-    let z = no-long (lentOf (c .before .before .before .before .before .before .before .before .before .before .args .content .now) (c .before .before .before .before .before .before .before .before .before .before .args .entries .now) (c .before .before .before .before .before .before .before .before .before .before .args .text .now)) (c .before .before .before .before .before .before .before .before .before .before .args .d) (c .before .before .before .before .before .before .before .before .before .before .args .e) (c .before .before .before .before .before .before .before .before .before .before .args .n) (c .before .before .before .before .before .before .if1 .left) (c .before .before .before .before .before .if2 .left) (c .before .before .before .before .if3 .left) in
-    let r = recordingFault (usedOf (lentOf (c .before .before .before .before .before .before .before .before .before .before .args .content .now) (c .before .before .before .before .before .before .before .before .before .before .args .entries .now) (c .before .before .before .before .before .before .before .before .before .before .args .text .now)) (c .before .before .before .before .before .before .before .before .before .before .args .d) (c .before .before .before .before .before .before .before .before .before .before .args .e) (c .before .before .before .before .before .before .before .before .before .before .args .n)) in
-    c .check .ensures .0 ∙ sym (first-on (lengthsFault (lentOf (c .before .before .before .before .before .before .before .before .before .before .args .content .now) (c .before .before .before .before .before .before .before .before .before .before .args .entries .now) (c .before .before .before .before .before .before .before .before .before .before .args .text .now)) (c .before .before .before .before .before .before .before .before .before .before .args .d) (c .before .before .before .before .before .before .before .before .before .before .args .e) (c .before .before .before .before .before .before .before .before .before .before .args .n)) (r ∷ []) z ∙ first-one r)
+    let a = c .before .before .before .before .before .before .before .before .before .before .args in
+    let b = lentOf (a .content .now) (a .entries .now) (a .text .now) in
+    let k = c .check in
+    let z = no-long b (a .d) (a .e) (a .n) (c .before .before .before .before .before .before .if1 .left) (c .before .before .before .before .before .if2 .left)
+    (c .before .before .before .before .if3 .left) in
+    let r = recordingFault (usedOf b (a .d) (a .e) (a .n)) in
+    k .ensures .0 ∙ sym (first-on (lengthsFault b (a .d) (a .e) (a .n)) (r ∷ []) z ∙ first-one r)
 
 pub check-used-spec : {M : Type 1} → statement M
 check-used-spec =

@@ -36,8 +36,15 @@ same-length-2 c = search needs
 returns : tie.Need-returns
 unfolding pushed withLabel
 returns c =
+    let a = c .before .before .before .before .before .before .before .before .before .before .args in
+    let b = lentOf (a .content .now) (a .entries .now) (a .text .now) in
+    let u = usedOf b (a .content-len) (a .entries-len) (a .text-len) in
+    let n = refuseIf (not (wellFormed (a .label .now))) 6 in
+    let q = withEntry 0 (length (take (a .text-len) (a .text .now))) (a .label .now) u in
+    let k = c .before .before .before .check-used in
     let g = c .before .checked .given in
-    add-refused (addFaults (refuseIf (not (wellFormed (c .before .before .before .before .before .before .before .before .before .before .args .label .now))) 6) (lentOf (c .before .before .before .before .before .before .before .before .before .before .args .content .now) (c .before .before .before .before .before .before .before .before .before .before .args .entries .now) (c .before .before .before .before .before .before .before .before .before .before .args .text .now)) (c .before .before .before .before .before .before .before .before .before .before .args .content-len) (c .before .before .before .before .before .before .before .before .before .before .args .entries-len) (c .before .before .before .before .before .before .before .before .before .before .args .text-len)) (lentOf (c .before .before .before .before .before .before .before .before .before .before .args .content .now) (c .before .before .before .before .before .before .before .before .before .before .args .entries .now) (c .before .before .before .before .before .before .before .before .before .before .args .text .now)) (withEntry 0 (length (take (c .before .before .before .before .before .before .before .before .before .before .args .text-len) (c .before .before .before .before .before .before .before .before .before .before .args .text .now))) (c .before .before .before .before .before .before .before .before .before .before .args .label .now) (usedOf (lentOf (c .before .before .before .before .before .before .before .before .before .before .args .content .now) (c .before .before .before .before .before .before .before .before .before .before .args .entries .now) (c .before .before .before .before .before .before .before .before .before .before .args .text .now)) (c .before .before .before .before .before .before .before .before .before .before .args .content-len) (c .before .before .before .before .before .before .before .before .before .before .args .entries-len) (c .before .before .before .before .before .before .before .before .before .before .args .text-len))) (g .0 .0) (check-refused (lentOf (c .before .before .before .before .before .before .before .before .before .before .args .content .now) (c .before .before .before .before .before .before .before .before .before .before .args .entries .now) (c .before .before .before .before .before .before .before .before .before .before .args .text .now)) (c .before .before .before .before .before .before .before .before .before .before .args .content-len) (c .before .before .before .before .before .before .before .before .before .before .args .entries-len) (c .before .before .before .before .before .before .before .before .before .before .args .text-len) (c .before .before .before .check-used .result) (c .before .before .before .check-used .ensures) (refuseIf (not (wellFormed (c .before .before .before .before .before .before .before .before .before .before .args .label .now))) 6) (roomIn (lentOf (c .before .before .before .before .before .before .before .before .before .before .args .content .now) (c .before .before .before .before .before .before .before .before .before .before .args .entries .now) (c .before .before .before .before .before .before .before .before .before .before .args .text .now))) (leaves (withEntry 0 (length (take (c .before .before .before .before .before .before .before .before .before .before .args .text-len) (c .before .before .before .before .before .before .before .before .before .before .args .text .now))) (c .before .before .before .before .before .before .before .before .before .before .args .label .now) (usedOf (lentOf (c .before .before .before .before .before .before .before .before .before .before .args .content .now) (c .before .before .before .before .before .before .before .before .before .before .args .entries .now) (c .before .before .before .before .before .before .before .before .before .before .args .text .now)) (c .before .before .before .before .before .before .before .before .before .before .args .content-len) (c .before .before .before .before .before .before .before .before .before .before .args .entries-len) (c .before .before .before .before .before .before .before .before .before .before .args .text-len)))) (g .0 .0) (g .1))
+    add-refused (addFaults n b (a .content-len) (a .entries-len) (a .text-len)) b q (g .0 .0)
+    (check-refused b (a .content-len) (a .entries-len) (a .text-len) (k .result) (k .ensures) n (roomIn b) (leaves q) (g .0 .0) (g .1))
 
 enum-told : tie.Need-enum-told
 enum-told c = search needs
@@ -54,16 +61,41 @@ same-length-4 c = search needs
 returns-2 : tie.Need-returns-2
 unfolding pushed withLabel numberOf
 returns-2 c =
+    let a = c .before .before .before .before .before .before .before .before .before .before .before .args in
+    let b = lentOf (a .content .now) (a .entries .now) (a .text .now) in
+    let u = usedOf b (a .content-len) (a .entries-len) (a .text-len) in
+    let n = refuseIf (not (wellFormed (a .label .now))) 6 in
+    let q = withEntry 0 (length (take (a .text-len) (a .text .now))) (a .label .now) u in
+    let k = c .before .before .before .before .check-used in
+    let g = c .before .before .enum-told .given in
     let w = c .before .well-formed in
-    add-refused (addFaults (refuseIf (not (wellFormed (c .before .before .before .before .before .before .before .before .before .before .before .args .label .now))) 6) (lentOf (c .before .before .before .before .before .before .before .before .before .before .before .args .content .now) (c .before .before .before .before .before .before .before .before .before .before .before .args .entries .now) (c .before .before .before .before .before .before .before .before .before .before .before .args .text .now)) (c .before .before .before .before .before .before .before .before .before .before .before .args .content-len) (c .before .before .before .before .before .before .before .before .before .before .before .args .entries-len) (c .before .before .before .before .before .before .before .before .before .before .before .args .text-len)) (lentOf (c .before .before .before .before .before .before .before .before .before .before .before .args .content .now) (c .before .before .before .before .before .before .before .before .before .before .before .args .entries .now) (c .before .before .before .before .before .before .before .before .before .before .before .args .text .now)) (withEntry 0 (length (take (c .before .before .before .before .before .before .before .before .before .before .before .args .text-len) (c .before .before .before .before .before .before .before .before .before .before .before .args .text .now))) (c .before .before .before .before .before .before .before .before .before .before .before .args .label .now) (usedOf (lentOf (c .before .before .before .before .before .before .before .before .before .before .before .args .content .now) (c .before .before .before .before .before .before .before .before .before .before .before .args .entries .now) (c .before .before .before .before .before .before .before .before .before .before .before .args .text .now)) (c .before .before .before .before .before .before .before .before .before .before .before .args .content-len) (c .before .before .before .before .before .before .before .before .before .before .before .args .entries-len) (c .before .before .before .before .before .before .before .before .before .before .before .args .text-len))) LabelIllFormed (added-refused (lentOf (c .before .before .before .before .before .before .before .before .before .before .before .args .content .now) (c .before .before .before .before .before .before .before .before .before .before .before .args .entries .now) (c .before .before .before .before .before .before .before .before .before .before .before .args .text .now)) (c .before .before .before .before .before .before .before .before .before .before .before .args .content-len) (c .before .before .before .before .before .before .before .before .before .before .before .args .entries-len) (c .before .before .before .before .before .before .before .before .before .before .before .args .text-len) (c .before .before .before .before .check-used .result) (c .before .before .before .before .check-used .ensures) (c .before .before .enum-told .given .0 .0) (c .before .before .enum-told .given .1) (refuseIf (not (wellFormed (c .before .before .before .before .before .before .before .before .before .before .before .args .label .now))) 6) (roomIn (lentOf (c .before .before .before .before .before .before .before .before .before .before .before .args .content .now) (c .before .before .before .before .before .before .before .before .before .before .before .args .entries .now) (c .before .before .before .before .before .before .before .before .before .before .before .args .text .now))) (leaves (withEntry 0 (length (take (c .before .before .before .before .before .before .before .before .before .before .before .args .text-len) (c .before .before .before .before .before .before .before .before .before .before .before .args .text .now))) (c .before .before .before .before .before .before .before .before .before .before .before .args .label .now) (usedOf (lentOf (c .before .before .before .before .before .before .before .before .before .before .before .args .content .now) (c .before .before .before .before .before .before .before .before .before .before .before .args .entries .now) (c .before .before .before .before .before .before .before .before .before .before .before .args .text .now)) (c .before .before .before .before .before .before .before .before .before .before .before .args .content-len) (c .before .before .before .before .before .before .before .before .before .before .before .args .entries-len) (c .before .before .before .before .before .before .before .before .before .before .before .args .text-len)))) LabelIllFormed (bad-label (w .result) (c .before .before .before .before .before .before .before .before .before .before .before .args .label .now) (w .ensures) (not-true (w .result) (c .if1 .taken))))
+    add-refused (addFaults n b (a .content-len) (a .entries-len) (a .text-len)) b q LabelIllFormed
+    (added-refused b (a .content-len) (a .entries-len) (a .text-len) (k .result) (k .ensures) (g .0 .0) (g .1) n (roomIn b) (leaves q) LabelIllFormed
+    (bad-label (w .result) (a .label .now) (w .ensures) (not-true (w .result) (c .if1 .taken))))
 
 add-settle : tie.Need-add-settle
 add-settle c =
-    omega (arith, limits (lentOf (c .before .before .before .before .before .before .before .before .before .before .before .args .content .now) (c .before .before .before .before .before .before .before .before .before .before .before .args .entries .now) (c .before .before .before .before .before .before .before .before .before .before .before .args .text .now)) (c .before .before .before .before .before .before .before .before .before .before .before .args .content-len) (c .before .before .before .before .before .before .before .before .before .before .before .args .entries-len) (c .before .before .before .before .before .before .before .before .before .before .before .args .text-len) (c .before .before .before .before .check-used .result) (c .before .before .before .before .check-used .ensures) (c .before .before .enum-told .given .0 .0) (c .before .before .enum-told .given .1), c .before .before .before .before .before .before .before .before .before .before .before .good)
+    let a = c .before .before .before .before .before .before .before .before .before .before .before .args in
+    let b = lentOf (a .content .now) (a .entries .now) (a .text .now) in
+    let k = c .before .before .before .before .check-used in
+    let g = c .before .before .enum-told .given in
+    omega (
+      arith,
+      limits b (a .content-len) (a .entries-len) (a .text-len) (k .result) (k .ensures) (g .0 .0) (g .1),
+      c .before .before .before .before .before .before .before .before .before .before .before .good,
+    )
 
 add-settle-2 : tie.Need-add-settle-2
 add-settle-2 c =
-    omega (arith, limits (lentOf (c .before .before .before .before .before .before .before .before .before .before .before .args .content .now) (c .before .before .before .before .before .before .before .before .before .before .before .args .entries .now) (c .before .before .before .before .before .before .before .before .before .before .before .args .text .now)) (c .before .before .before .before .before .before .before .before .before .before .before .args .content-len) (c .before .before .before .before .before .before .before .before .before .before .before .args .entries-len) (c .before .before .before .before .before .before .before .before .before .before .before .args .text-len) (c .before .before .before .before .check-used .result) (c .before .before .before .before .check-used .ensures) (c .before .before .enum-told .given .0 .0) (c .before .before .enum-told .given .1), c .before .before .before .before .before .before .before .before .before .before .before .good)
+    let a = c .before .before .before .before .before .before .before .before .before .before .before .args in
+    let b = lentOf (a .content .now) (a .entries .now) (a .text .now) in
+    let k = c .before .before .before .before .check-used in
+    let g = c .before .before .enum-told .given in
+    omega (
+      arith,
+      limits b (a .content-len) (a .entries-len) (a .text-len) (k .result) (k .ensures) (g .0 .0) (g .1),
+      c .before .before .before .before .before .before .before .before .before .before .before .good,
+    )
 
 settle-requires : tie.Need-settle-requires
 settle-requires c κs = search needs
@@ -80,29 +112,69 @@ same-length-6 c = search needs
 returns-3 : tie.Need-returns-3
 unfolding pushed withLabel
 returns-3 c =
+    let a = c .before .before .before .before .before .before .before .before .before .before .before .before .before .before .before .args in
+    let b = lentOf (a .content .now) (a .entries .now) (a .text .now) in
+    let u = usedOf b (a .content-len) (a .entries-len) (a .text-len) in
+    let n = refuseIf (not (wellFormed (a .label .now))) 6 in
+    let q = withEntry 0 (length (take (a .text-len) (a .text .now))) (a .label .now) u in
+    let k = c .before .before .before .before .before .before .before .before .check-used in
+    let v = c .before .before .before .settle in
+    let w = c .before .before .before .before .before .well-formed in
+    let g = c .before .before .before .before .before .before .enum-told .given in
     let h = c .before .verdict .given in
-    let i = is-inside (lentOf (c .before .before .before .before .before .before .before .before .before .before .before .before .before .before .before .args .content .now) (c .before .before .before .before .before .before .before .before .before .before .before .before .before .before .before .args .entries .now) (c .before .before .before .before .before .before .before .before .before .before .before .before .before .before .before .args .text .now)) (c .before .before .before .before .before .before .before .before .before .before .before .before .before .before .before .args .content-len) (c .before .before .before .before .before .before .before .before .before .before .before .before .before .before .before .args .entries-len) (c .before .before .before .before .before .before .before .before .before .before .before .before .before .before .before .args .text-len) (c .before .before .before .before .before .before .before .before .check-used .result) (c .before .before .before .before .before .before .before .before .check-used .ensures) (c .before .before .before .before .before .before .enum-told .given .0 .0) (c .before .before .before .before .before .before .enum-told .given .1) in
-    let s = entry-sizes (lentOf (c .before .before .before .before .before .before .before .before .before .before .before .before .before .before .before .args .content .now) (c .before .before .before .before .before .before .before .before .before .before .before .before .before .before .before .args .entries .now) (c .before .before .before .before .before .before .before .before .before .before .before .before .before .before .before .args .text .now)) (c .before .before .before .before .before .before .before .before .before .before .before .before .before .before .before .args .content-len) (c .before .before .before .before .before .before .before .before .before .before .before .before .before .before .before .args .entries-len) (c .before .before .before .before .before .before .before .before .before .before .before .before .before .before .before .args .text-len) (c .before .before .before .before .before .before .before .before .before .before .before .before .before .before .before .args .label .now) i 0 (length (take (c .before .before .before .before .before .before .before .before .before .before .before .before .before .before .before .args .text-len) (c .before .before .before .before .before .before .before .before .before .before .before .before .before .before .before .args .text .now))) in
-    add-refused (addFaults (refuseIf (not (wellFormed (c .before .before .before .before .before .before .before .before .before .before .before .before .before .before .before .args .label .now))) 6) (lentOf (c .before .before .before .before .before .before .before .before .before .before .before .before .before .before .before .args .content .now) (c .before .before .before .before .before .before .before .before .before .before .before .before .before .before .before .args .entries .now) (c .before .before .before .before .before .before .before .before .before .before .before .before .before .before .before .args .text .now)) (c .before .before .before .before .before .before .before .before .before .before .before .before .before .before .before .args .content-len) (c .before .before .before .before .before .before .before .before .before .before .before .before .before .before .before .args .entries-len) (c .before .before .before .before .before .before .before .before .before .before .before .before .before .before .before .args .text-len)) (lentOf (c .before .before .before .before .before .before .before .before .before .before .before .before .before .before .before .args .content .now) (c .before .before .before .before .before .before .before .before .before .before .before .before .before .before .before .args .entries .now) (c .before .before .before .before .before .before .before .before .before .before .before .before .before .before .before .args .text .now)) (withEntry 0 (length (take (c .before .before .before .before .before .before .before .before .before .before .before .before .before .before .before .args .text-len) (c .before .before .before .before .before .before .before .before .before .before .before .before .before .before .before .args .text .now))) (c .before .before .before .before .before .before .before .before .before .before .before .before .before .before .before .args .label .now) (usedOf (lentOf (c .before .before .before .before .before .before .before .before .before .before .before .before .before .before .before .args .content .now) (c .before .before .before .before .before .before .before .before .before .before .before .before .before .before .before .args .entries .now) (c .before .before .before .before .before .before .before .before .before .before .before .before .before .before .before .args .text .now)) (c .before .before .before .before .before .before .before .before .before .before .before .before .before .before .before .args .content-len) (c .before .before .before .before .before .before .before .before .before .before .before .before .before .before .before .args .entries-len) (c .before .before .before .before .before .before .before .before .before .before .before .before .before .before .before .args .text-len))) (h .0 .0) (too-large (lentOf (c .before .before .before .before .before .before .before .before .before .before .before .before .before .before .before .args .content .now) (c .before .before .before .before .before .before .before .before .before .before .before .before .before .before .before .args .entries .now) (c .before .before .before .before .before .before .before .before .before .before .before .before .before .before .before .args .text .now)) (c .before .before .before .before .before .before .before .before .before .before .before .before .before .before .before .args .content-len) (c .before .before .before .before .before .before .before .before .before .before .before .before .before .before .before .args .entries-len) (c .before .before .before .before .before .before .before .before .before .before .before .before .before .before .before .args .text-len) (c .before .before .before .before .before .before .before .before .check-used .result) (c .before .before .before .before .before .before .before .before .check-used .ensures) (c .before .before .before .before .before .before .enum-told .given .0 .0) (c .before .before .before .before .before .before .enum-told .given .1) (refuseIf (not (wellFormed (c .before .before .before .before .before .before .before .before .before .before .before .before .before .before .before .args .label .now))) 6) (good-label (c .before .before .before .before .before .well-formed .result) (c .before .before .before .before .before .before .before .before .before .before .before .before .before .before .before .args .label .now) (c .before .before .before .before .before .well-formed .ensures) (not-false (c .before .before .before .before .before .well-formed .result) (c .before .before .before .before .if1 .left))) (roomIn (lentOf (c .before .before .before .before .before .before .before .before .before .before .before .before .before .before .before .args .content .now) (c .before .before .before .before .before .before .before .before .before .before .before .before .before .before .before .args .entries .now) (c .before .before .before .before .before .before .before .before .before .before .before .before .before .before .before .args .text .now))) (leaves (withEntry 0 (length (take (c .before .before .before .before .before .before .before .before .before .before .before .before .before .before .before .args .text-len) (c .before .before .before .before .before .before .before .before .before .before .before .before .before .before .before .args .text .now))) (c .before .before .before .before .before .before .before .before .before .before .before .before .before .before .before .args .label .now) (usedOf (lentOf (c .before .before .before .before .before .before .before .before .before .before .before .before .before .before .before .args .content .now) (c .before .before .before .before .before .before .before .before .before .before .before .before .before .before .before .args .entries .now) (c .before .before .before .before .before .before .before .before .before .before .before .before .before .before .before .args .text .now)) (c .before .before .before .before .before .before .before .before .before .before .before .before .before .before .before .args .content-len) (c .before .before .before .before .before .before .before .before .before .before .before .before .before .before .before .args .entries-len) (c .before .before .before .before .before .before .before .before .before .before .before .before .before .before .before .args .text-len)))) (c .before .before .before .settle .result) (c .before .before .before .before .before .before .before .before .before .before .before .before .before .before .before .args .content-len) (c .before .before .before .before .before .before .before .before .before .before .before .before .before .before .before .args .entries-len + 4) (c .before .before .before .before .before .before .before .before .before .before .before .before .before .before .before .args .text-len + length (c .before .before .before .before .before .before .before .before .before .before .before .before .before .before .before .args .label .now)) (c .before .before .before .settle .ensures) (s .0) (s .1) (s .2) refl (h .0 .0) (h .1))
+    let i = is-inside b (a .content-len) (a .entries-len) (a .text-len) (k .result) (k .ensures) (g .0 .0) (g .1) in
+    let s = entry-sizes b (a .content-len) (a .entries-len) (a .text-len) (a .label .now) i 0 (length (take (a .text-len) (a .text .now))) in
+    add-refused (addFaults n b (a .content-len) (a .entries-len) (a .text-len)) b q (h .0 .0)
+    (too-large b (a .content-len) (a .entries-len) (a .text-len) (k .result) (k .ensures) (g .0 .0) (g .1) n
+    (good-label (w .result) (a .label .now) (w .ensures) (not-false (w .result) (c .before .before .before .before .if1 .left))) (roomIn b) (leaves q) (v .result) (a .content-len)
+    (a .entries-len + 4) (a .text-len + length (a .label .now)) (v .ensures) (s .0) (s .1) (s .2) refl (h .0 .0) (h .1))
 
 enum-told-2 : tie.Need-enum-told-2
 enum-told-2 c = search needs
 
 put-mark-requires : tie.Need-put-mark-requires
 put-mark-requires c κs =
-    let i = is-inside (lentOf (c .before .before .before .before .before .before .before .before .before .before .before .before .before .before .before .before .args .content .now) (c .before .before .before .before .before .before .before .before .before .before .before .before .before .before .before .before .args .entries .now) (c .before .before .before .before .before .before .before .before .before .before .before .before .before .before .before .before .args .text .now)) (c .before .before .before .before .before .before .before .before .before .before .before .before .before .before .before .before .args .content-len) (c .before .before .before .before .before .before .before .before .before .before .before .before .before .before .before .before .args .entries-len) (c .before .before .before .before .before .before .before .before .before .before .before .before .before .before .before .before .args .text-len) (c .before .before .before .before .before .before .before .before .before .check-used .result) (c .before .before .before .before .before .before .before .before .before .check-used .ensures) (c .before .before .before .before .before .before .before .enum-told .given .0 .0) (c .before .before .before .before .before .before .before .enum-told .given .1) in
-    let s = entry-sizes (lentOf (c .before .before .before .before .before .before .before .before .before .before .before .before .before .before .before .before .args .content .now) (c .before .before .before .before .before .before .before .before .before .before .before .before .before .before .before .before .args .entries .now) (c .before .before .before .before .before .before .before .before .before .before .before .before .before .before .before .before .args .text .now)) (c .before .before .before .before .before .before .before .before .before .before .before .before .before .before .before .before .args .content-len) (c .before .before .before .before .before .before .before .before .before .before .before .before .before .before .before .before .args .entries-len) (c .before .before .before .before .before .before .before .before .before .before .before .before .before .before .before .before .args .text-len) (c .before .before .before .before .before .before .before .before .before .before .before .before .before .before .before .before .args .label .now) i 0 (length (take (c .before .before .before .before .before .before .before .before .before .before .before .before .before .before .before .before .args .text-len) (c .before .before .before .before .before .before .before .before .before .before .before .before .before .before .before .before .args .text .now))) in
-    let f = fits (lentOf (c .before .before .before .before .before .before .before .before .before .before .before .before .before .before .before .before .args .content .now) (c .before .before .before .before .before .before .before .before .before .before .before .before .before .before .before .before .args .entries .now) (c .before .before .before .before .before .before .before .before .before .before .before .before .before .before .before .before .args .text .now)) (c .before .before .before .before .before .before .before .before .before .before .before .before .before .before .before .before .args .content-len) (c .before .before .before .before .before .before .before .before .before .before .before .before .before .before .before .before .args .entries-len) (c .before .before .before .before .before .before .before .before .before .before .before .before .before .before .before .before .args .text-len) (c .before .before .before .before .before .before .before .before .before .check-used .result) (c .before .before .before .before .before .before .before .before .before .check-used .ensures) (c .before .before .before .before .before .before .before .enum-told .given .0 .0) (c .before .before .before .before .before .before .before .enum-told .given .1) (refuseIf (not (wellFormed (c .before .before .before .before .before .before .before .before .before .before .before .before .before .before .before .before .args .label .now))) 6) (good-label (c .before .before .before .before .before .before .well-formed .result) (c .before .before .before .before .before .before .before .before .before .before .before .before .before .before .before .before .args .label .now) (c .before .before .before .before .before .before .well-formed .ensures) (not-false (c .before .before .before .before .before .before .well-formed .result) (c .before .before .before .before .before .if1 .left))) (roomIn (lentOf (c .before .before .before .before .before .before .before .before .before .before .before .before .before .before .before .before .args .content .now) (c .before .before .before .before .before .before .before .before .before .before .before .before .before .before .before .before .args .entries .now) (c .before .before .before .before .before .before .before .before .before .before .before .before .before .before .before .before .args .text .now))) (leaves (withEntry 0 (length (take (c .before .before .before .before .before .before .before .before .before .before .before .before .before .before .before .before .args .text-len) (c .before .before .before .before .before .before .before .before .before .before .before .before .before .before .before .before .args .text .now))) (c .before .before .before .before .before .before .before .before .before .before .before .before .before .before .before .before .args .label .now) (usedOf (lentOf (c .before .before .before .before .before .before .before .before .before .before .before .before .before .before .before .before .args .content .now) (c .before .before .before .before .before .before .before .before .before .before .before .before .before .before .before .before .args .entries .now) (c .before .before .before .before .before .before .before .before .before .before .before .before .before .before .before .before .args .text .now)) (c .before .before .before .before .before .before .before .before .before .before .before .before .before .before .before .before .args .content-len) (c .before .before .before .before .before .before .before .before .before .before .before .before .before .before .before .before .args .entries-len) (c .before .before .before .before .before .before .before .before .before .before .before .before .before .before .before .before .args .text-len)))) (c .before .before .before .before .settle .result) (c .before .before .before .before .before .before .before .before .before .before .before .before .before .before .before .before .args .content-len) (c .before .before .before .before .before .before .before .before .before .before .before .before .before .before .before .before .args .entries-len + 4) (c .before .before .before .before .before .before .before .before .before .before .before .before .before .before .before .before .args .text-len + length (c .before .before .before .before .before .before .before .before .before .before .before .before .before .before .before .before .args .label .now)) (c .before .before .before .before .settle .ensures) (s .0) (s .1) (s .2) refl (c .before .before .enum-told2 .given .1) in
-    let m = limits (lentOf (c .before .before .before .before .before .before .before .before .before .before .before .before .before .before .before .before .args .content .now) (c .before .before .before .before .before .before .before .before .before .before .before .before .before .before .before .before .args .entries .now) (c .before .before .before .before .before .before .before .before .before .before .before .before .before .before .before .before .args .text .now)) (c .before .before .before .before .before .before .before .before .before .before .before .before .before .before .before .before .args .content-len) (c .before .before .before .before .before .before .before .before .before .before .before .before .before .before .before .before .args .entries-len) (c .before .before .before .before .before .before .before .before .before .before .before .before .before .before .before .before .args .text-len) (c .before .before .before .before .before .before .before .before .before .check-used .result) (c .before .before .before .before .before .before .before .before .before .check-used .ensures) (c .before .before .before .before .before .before .before .enum-told .given .0 .0) (c .before .before .before .before .before .before .before .enum-told .given .1) in
+    let a = c .before .before .before .before .before .before .before .before .before .before .before .before .before .before .before .before .args in
+    let b = lentOf (a .content .now) (a .entries .now) (a .text .now) in
+    let u = usedOf b (a .content-len) (a .entries-len) (a .text-len) in
+    let n = refuseIf (not (wellFormed (a .label .now))) 6 in
+    let q = withEntry 0 (length (take (a .text-len) (a .text .now))) (a .label .now) u in
+    let k = c .before .before .before .before .before .before .before .before .before .check-used in
+    let v = c .before .before .before .before .settle in
+    let w = c .before .before .before .before .before .before .well-formed in
+    let g = c .before .before .before .before .before .before .before .enum-told .given in
+    let g₂ = c .before .before .enum-told2 .given in
+    let i = is-inside b (a .content-len) (a .entries-len) (a .text-len) (k .result) (k .ensures) (g .0 .0) (g .1) in
+    let s = entry-sizes b (a .content-len) (a .entries-len) (a .text-len) (a .label .now) i 0 (length (take (a .text-len) (a .text .now))) in
+    let f = fits b (a .content-len) (a .entries-len) (a .text-len) (k .result) (k .ensures) (g .0 .0) (g .1) n
+    (good-label (w .result) (a .label .now) (w .ensures) (not-false (w .result) (c .before .before .before .before .before .if1 .left))) (roomIn b) (leaves q) (v .result) (a .content-len)
+    (a .entries-len + 4) (a .text-len + length (a .label .now)) (v .ensures) (s .0) (s .1) (s .2) refl (g₂ .1) in
+    let m = limits b (a .content-len) (a .entries-len) (a .text-len) (k .result) (k .ensures) (g .0 .0) (g .1) in
     ((omega (arith, f .entry-room, s .1), omega (arith, f .text-room, s .2)), (m .0, omega (arith, f .text-limit, s .2)))
 
 add-t20 : tie.Need-add-t20
 add-t20 c =
-    omega (arith, limits (lentOf (c .before .before .before .before .before .before .before .before .before .before .before .before .before .before .before .before .before .before .before .before .before .args .content .now) (c .before .before .before .before .before .before .before .before .before .before .before .before .before .before .before .before .before .before .before .before .before .args .entries .now) (c .before .before .before .before .before .before .before .before .before .before .before .before .before .before .before .before .before .before .before .before .before .args .text .now)) (c .before .before .before .before .before .before .before .before .before .before .before .before .before .before .before .before .before .before .before .before .before .args .content-len) (c .before .before .before .before .before .before .before .before .before .before .before .before .before .before .before .before .before .before .before .before .before .args .entries-len) (c .before .before .before .before .before .before .before .before .before .before .before .before .before .before .before .before .before .before .before .before .before .args .text-len) (c .before .before .before .before .before .before .before .before .before .before .before .before .before .before .check-used .result) (c .before .before .before .before .before .before .before .before .before .before .before .before .before .before .check-used .ensures) (c .before .before .before .before .before .before .before .before .before .before .before .before .enum-told .given .0 .0) (c .before .before .before .before .before .before .before .before .before .before .before .before .enum-told .given .1), c .before .before .before .before .before .before .before .before .before .before .before .before .before .before .before .before .before .before .before .before .before .good)
+    let a = c .before .before .before .before .before .before .before .before .before .before .before .before .before .before .before .before .before .before .before .before .before .args in
+    let b = lentOf (a .content .now) (a .entries .now) (a .text .now) in
+    let k = c .before .before .before .before .before .before .before .before .before .before .before .before .before .before .check-used in
+    let g = c .before .before .before .before .before .before .before .before .before .before .before .before .enum-told .given in
+    omega (
+      arith,
+      limits b (a .content-len) (a .entries-len) (a .text-len) (k .result) (k .ensures) (g .0 .0) (g .1),
+      c .before .before .before .before .before .before .before .before .before .before .before .before .before .before .before .before .before .before .before .before .before .good,
+    )
 
 add-t25 : tie.Need-add-t25
 add-t25 c =
-    omega (arith, limits (lentOf (c .before .before .before .before .before .before .before .before .before .before .before .before .before .before .before .before .before .before .before .before .before .args .content .now) (c .before .before .before .before .before .before .before .before .before .before .before .before .before .before .before .before .before .before .before .before .before .args .entries .now) (c .before .before .before .before .before .before .before .before .before .before .before .before .before .before .before .before .before .before .before .before .before .args .text .now)) (c .before .before .before .before .before .before .before .before .before .before .before .before .before .before .before .before .before .before .before .before .before .args .content-len) (c .before .before .before .before .before .before .before .before .before .before .before .before .before .before .before .before .before .before .before .before .before .args .entries-len) (c .before .before .before .before .before .before .before .before .before .before .before .before .before .before .before .before .before .before .before .before .before .args .text-len) (c .before .before .before .before .before .before .before .before .before .before .before .before .before .before .check-used .result) (c .before .before .before .before .before .before .before .before .before .before .before .before .before .before .check-used .ensures) (c .before .before .before .before .before .before .before .before .before .before .before .before .enum-told .given .0 .0) (c .before .before .before .before .before .before .before .before .before .before .before .before .enum-told .given .1), c .before .before .before .before .before .before .before .before .before .before .before .before .before .before .before .before .before .before .before .before .before .good)
+    let a = c .before .before .before .before .before .before .before .before .before .before .before .before .before .before .before .before .before .before .before .before .before .args in
+    let b = lentOf (a .content .now) (a .entries .now) (a .text .now) in
+    let k = c .before .before .before .before .before .before .before .before .before .before .before .before .before .before .check-used in
+    let g = c .before .before .before .before .before .before .before .before .before .before .before .before .enum-told .given in
+    omega (
+      arith,
+      limits b (a .content-len) (a .entries-len) (a .text-len) (k .result) (k .ensures) (g .0 .0) (g .1),
+      c .before .before .before .before .before .before .before .before .before .before .before .before .before .before .before .before .before .before .before .before .before .good,
+    )
 
 same-length-7 : tie.Need-same-length-7
 same-length-7 c = search needs
@@ -113,11 +185,26 @@ same-length-8 c = search needs
 returns-4 : tie.Need-returns-4
 unfolding pushed withLabel
 returns-4 c =
-    let i = is-inside (lentOf (c .before .before .before .before .before .before .before .before .before .before .before .before .before .before .before .before .before .before .before .before .before .args .content .now) (c .before .before .before .before .before .before .before .before .before .before .before .before .before .before .before .before .before .before .before .before .before .args .entries .now) (c .before .before .before .before .before .before .before .before .before .before .before .before .before .before .before .before .before .before .before .before .before .args .text .now)) (c .before .before .before .before .before .before .before .before .before .before .before .before .before .before .before .before .before .before .before .before .before .args .content-len) (c .before .before .before .before .before .before .before .before .before .before .before .before .before .before .before .before .before .before .before .before .before .args .entries-len) (c .before .before .before .before .before .before .before .before .before .before .before .before .before .before .before .before .before .before .before .before .before .args .text-len) (c .before .before .before .before .before .before .before .before .before .before .before .before .before .before .check-used .result) (c .before .before .before .before .before .before .before .before .before .before .before .before .before .before .check-used .ensures) (c .before .before .before .before .before .before .before .before .before .before .before .before .enum-told .given .0 .0) (c .before .before .before .before .before .before .before .before .before .before .before .before .enum-told .given .1) in
-    let s = entry-sizes (lentOf (c .before .before .before .before .before .before .before .before .before .before .before .before .before .before .before .before .before .before .before .before .before .args .content .now) (c .before .before .before .before .before .before .before .before .before .before .before .before .before .before .before .before .before .before .before .before .before .args .entries .now) (c .before .before .before .before .before .before .before .before .before .before .before .before .before .before .before .before .before .before .before .before .before .args .text .now)) (c .before .before .before .before .before .before .before .before .before .before .before .before .before .before .before .before .before .before .before .before .before .args .content-len) (c .before .before .before .before .before .before .before .before .before .before .before .before .before .before .before .before .before .before .before .before .before .args .entries-len) (c .before .before .before .before .before .before .before .before .before .before .before .before .before .before .before .before .before .before .before .before .before .args .text-len) (c .before .before .before .before .before .before .before .before .before .before .before .before .before .before .before .before .before .before .before .before .before .args .label .now) i 0 (length (take (c .before .before .before .before .before .before .before .before .before .before .before .before .before .before .before .before .before .before .before .before .before .args .text-len) (c .before .before .before .before .before .before .before .before .before .before .before .before .before .before .before .before .before .before .before .before .before .args .text .now))) in
-    let z = accepted (lentOf (c .before .before .before .before .before .before .before .before .before .before .before .before .before .before .before .before .before .before .before .before .before .args .content .now) (c .before .before .before .before .before .before .before .before .before .before .before .before .before .before .before .before .before .before .before .before .before .args .entries .now) (c .before .before .before .before .before .before .before .before .before .before .before .before .before .before .before .before .before .before .before .before .before .args .text .now)) (c .before .before .before .before .before .before .before .before .before .before .before .before .before .before .before .before .before .before .before .before .before .args .content-len) (c .before .before .before .before .before .before .before .before .before .before .before .before .before .before .before .before .before .before .before .before .before .args .entries-len) (c .before .before .before .before .before .before .before .before .before .before .before .before .before .before .before .before .before .before .before .before .before .args .text-len) (c .before .before .before .before .before .before .before .before .before .before .before .before .before .before .check-used .result) (c .before .before .before .before .before .before .before .before .before .before .before .before .before .before .check-used .ensures) (c .before .before .before .before .before .before .before .before .before .before .before .before .enum-told .given .0 .0) (c .before .before .before .before .before .before .before .before .before .before .before .before .enum-told .given .1) (refuseIf (not (wellFormed (c .before .before .before .before .before .before .before .before .before .before .before .before .before .before .before .before .before .before .before .before .before .args .label .now))) 6) (good-label (c .before .before .before .before .before .before .before .before .before .before .before .well-formed .result) (c .before .before .before .before .before .before .before .before .before .before .before .before .before .before .before .before .before .before .before .before .before .args .label .now) (c .before .before .before .before .before .before .before .before .before .before .before .well-formed .ensures) (not-false (c .before .before .before .before .before .before .before .before .before .before .before .well-formed .result) (c .before .before .before .before .before .before .before .before .before .before .if1 .left))) (roomIn (lentOf (c .before .before .before .before .before .before .before .before .before .before .before .before .before .before .before .before .before .before .before .before .before .args .content .now) (c .before .before .before .before .before .before .before .before .before .before .before .before .before .before .before .before .before .before .before .before .before .args .entries .now) (c .before .before .before .before .before .before .before .before .before .before .before .before .before .before .before .before .before .before .before .before .before .args .text .now))) (leaves (withEntry 0 (length (take (c .before .before .before .before .before .before .before .before .before .before .before .before .before .before .before .before .before .before .before .before .before .args .text-len) (c .before .before .before .before .before .before .before .before .before .before .before .before .before .before .before .before .before .before .before .before .before .args .text .now))) (c .before .before .before .before .before .before .before .before .before .before .before .before .before .before .before .before .before .before .before .before .before .args .label .now) (usedOf (lentOf (c .before .before .before .before .before .before .before .before .before .before .before .before .before .before .before .before .before .before .before .before .before .args .content .now) (c .before .before .before .before .before .before .before .before .before .before .before .before .before .before .before .before .before .before .before .before .before .args .entries .now) (c .before .before .before .before .before .before .before .before .before .before .before .before .before .before .before .before .before .before .before .before .before .args .text .now)) (c .before .before .before .before .before .before .before .before .before .before .before .before .before .before .before .before .before .before .before .before .before .args .content-len) (c .before .before .before .before .before .before .before .before .before .before .before .before .before .before .before .before .before .before .before .before .before .args .entries-len) (c .before .before .before .before .before .before .before .before .before .before .before .before .before .before .before .before .before .before .before .before .before .args .text-len)))) (c .before .before .before .before .before .before .before .before .before .settle .result) (c .before .before .before .before .before .before .before .before .before .before .before .before .before .before .before .before .before .before .before .before .before .args .content-len) (c .before .before .before .before .before .before .before .before .before .before .before .before .before .before .before .before .before .before .before .before .before .args .entries-len + 4) (c .before .before .before .before .before .before .before .before .before .before .before .before .before .before .before .before .before .before .before .before .before .args .text-len + length (c .before .before .before .before .before .before .before .before .before .before .before .before .before .before .before .before .before .before .before .before .before .args .label .now)) (c .before .before .before .before .before .before .before .before .before .settle .ensures) (s .0) (s .1) (s .2) refl (c .before .before .before .before .before .before .before .enum-told2 .given .1) in
-    let w = entry-left (lentOf (c .before .before .before .before .before .before .before .before .before .before .before .before .before .before .before .before .before .before .before .before .before .args .content .now) (c .before .before .before .before .before .before .before .before .before .before .before .before .before .before .before .before .before .before .before .before .before .args .entries .now) (c .before .before .before .before .before .before .before .before .before .before .before .before .before .before .before .before .before .before .before .before .before .args .text .now)) (c .before .before .before .before .before .before .before .before .before .before .before .before .before .before .before .before .before .before .before .before .before .args .content-len) (c .before .before .before .before .before .before .before .before .before .before .before .before .before .before .before .before .before .before .before .before .before .args .entries-len) (c .before .before .before .before .before .before .before .before .before .before .before .before .before .before .before .before .before .before .before .before .before .args .text-len) (c .before .before .before .before .before .before .before .before .before .before .before .before .before .before .before .before .before .before .before .before .before .args .label .now) i 0 _ _ _ _ (sym (used-t (lentOf (c .before .before .before .before .before .before .before .before .before .before .before .before .before .before .before .before .before .before .before .before .before .args .content .now) (c .before .before .before .before .before .before .before .before .before .before .before .before .before .before .before .before .before .before .before .before .before .args .entries .now) (c .before .before .before .before .before .before .before .before .before .before .before .before .before .before .before .before .before .before .before .before .before .args .text .now)) (c .before .before .before .before .before .before .before .before .before .before .before .before .before .before .before .before .before .before .before .before .before .args .content-len) (c .before .before .before .before .before .before .before .before .before .before .before .before .before .before .before .before .before .before .before .before .before .args .entries-len) (c .before .before .before .before .before .before .before .before .before .before .before .before .before .before .before .before .before .before .before .before .before .args .text-len) (c .before .before .before .before .before .before .before .before .before .before .before .before .before .before .check-used .result) (c .before .before .before .before .before .before .before .before .before .before .before .before .before .before .check-used .ensures) (c .before .before .before .before .before .before .before .before .before .before .before .before .enum-told .given .0 .0) (c .before .before .before .before .before .before .before .before .before .before .before .before .enum-told .given .1))) (c .before .before .before .before .put-mark .ensures .0) (c .before .before .before .before .put-mark .ensures .1) in
-    add-done (addFaults (refuseIf (not (wellFormed (c .before .before .before .before .before .before .before .before .before .before .before .before .before .before .before .before .before .before .before .before .before .args .label .now))) 6) (lentOf (c .before .before .before .before .before .before .before .before .before .before .before .before .before .before .before .before .before .before .before .before .before .args .content .now) (c .before .before .before .before .before .before .before .before .before .before .before .before .before .before .before .before .before .before .before .before .before .args .entries .now) (c .before .before .before .before .before .before .before .before .before .before .before .before .before .before .before .before .before .before .before .before .before .args .text .now)) (c .before .before .before .before .before .before .before .before .before .before .before .before .before .before .before .before .before .before .before .before .before .args .content-len) (c .before .before .before .before .before .before .before .before .before .before .before .before .before .before .before .before .before .before .before .before .before .args .entries-len) (c .before .before .before .before .before .before .before .before .before .before .before .before .before .before .before .before .before .before .before .before .before .args .text-len)) (lentOf (c .before .before .before .before .before .before .before .before .before .before .before .before .before .before .before .before .before .before .before .before .before .args .content .now) (c .before .before .before .before .before .before .before .before .before .before .before .before .before .before .before .before .before .before .before .before .before .args .entries .now) (c .before .before .before .before .before .before .before .before .before .before .before .before .before .before .before .before .before .before .before .before .before .args .text .now)) (withEntry 0 (length (take (c .before .before .before .before .before .before .before .before .before .before .before .before .before .before .before .before .before .before .before .before .before .args .text-len) (c .before .before .before .before .before .before .before .before .before .before .before .before .before .before .before .before .before .before .before .before .before .args .text .now))) (c .before .before .before .before .before .before .before .before .before .before .before .before .before .before .before .before .before .before .before .before .before .args .label .now) (usedOf (lentOf (c .before .before .before .before .before .before .before .before .before .before .before .before .before .before .before .before .before .before .before .before .before .args .content .now) (c .before .before .before .before .before .before .before .before .before .before .before .before .before .before .before .before .before .before .before .before .before .args .entries .now) (c .before .before .before .before .before .before .before .before .before .before .before .before .before .before .before .before .before .before .before .before .before .args .text .now)) (c .before .before .before .before .before .before .before .before .before .before .before .before .before .before .before .before .before .before .before .before .before .args .content-len) (c .before .before .before .before .before .before .before .before .before .before .before .before .before .before .before .before .before .before .before .before .before .args .entries-len) (c .before .before .before .before .before .before .before .before .before .before .before .before .before .before .before .before .before .before .before .before .before .args .text-len))) (c .before .before .before .before .before .before .before .before .before .before .before .before .before .before .before .before .before .before .before .before .before .args .content-len) (c .before .before .before .before .before .before .before .before .before .before .before .before .before .before .before .before .before .before .before .before .before .args .entries-len + 4) (c .before .before .before .before .before .before .before .before .before .before .before .before .before .before .before .before .before .before .before .before .before .args .text-len + length (c .before .before .before .before .before .before .before .before .before .before .before .before .before .before .before .before .before .before .before .before .before .args .label .now)) _ _ _ z (s .0) (s .1) (s .2) (w .0) (w .1) (w .2) refl
+    let a = c .before .before .before .before .before .before .before .before .before .before .before .before .before .before .before .before .before .before .before .before .before .args in
+    let b = lentOf (a .content .now) (a .entries .now) (a .text .now) in
+    let u = usedOf b (a .content-len) (a .entries-len) (a .text-len) in
+    let n = refuseIf (not (wellFormed (a .label .now))) 6 in
+    let q = withEntry 0 (length (take (a .text-len) (a .text .now))) (a .label .now) u in
+    let k = c .before .before .before .before .before .before .before .before .before .before .before .before .before .before .check-used in
+    let v = c .before .before .before .before .before .before .before .before .before .settle in
+    let w₁ = c .before .before .before .before .before .before .before .before .before .before .before .well-formed in
+    let p = c .before .before .before .before .put-mark in
+    let g = c .before .before .before .before .before .before .before .before .before .before .before .before .enum-told .given in
+    let g₂ = c .before .before .before .before .before .before .before .enum-told2 .given in
+    let i = is-inside b (a .content-len) (a .entries-len) (a .text-len) (k .result) (k .ensures) (g .0 .0) (g .1) in
+    let s = entry-sizes b (a .content-len) (a .entries-len) (a .text-len) (a .label .now) i 0 (length (take (a .text-len) (a .text .now))) in
+    let z = accepted b (a .content-len) (a .entries-len) (a .text-len) (k .result) (k .ensures) (g .0 .0) (g .1) n
+    (good-label (w₁ .result) (a .label .now) (w₁ .ensures) (not-false (w₁ .result) (c .before .before .before .before .before .before .before .before .before .before .if1 .left)))
+    (roomIn b) (leaves q) (v .result) (a .content-len) (a .entries-len + 4) (a .text-len + length (a .label .now)) (v .ensures) (s .0) (s .1) (s .2) refl (g₂ .1) in
+    let w = entry-left b (a .content-len) (a .entries-len) (a .text-len) (a .label .now) i 0 _ _ _ _
+    (sym (used-t b (a .content-len) (a .entries-len) (a .text-len) (k .result) (k .ensures) (g .0 .0) (g .1))) (p .ensures .0) (p .ensures .1) in
+    add-done (addFaults n b (a .content-len) (a .entries-len) (a .text-len)) b q (a .content-len) (a .entries-len + 4) (a .text-len + length (a .label .now)) _ _ _ z (s .0) (s .1) (s .2)
+    (w .0) (w .1) (w .2) refl
 
 pub push-by-spec : {M : Type 1} → statement M
 push-by-spec =

@@ -33,8 +33,15 @@ same-length-2 c = search needs
 returns : tie.Need-returns
 unfolding rawAdded withRaw
 returns c =
+    let a = c .before .before .before .before .before .before .before .before .before .before .args in
+    let b = lentOf (a .content .now) (a .entries .now) (a .text .now) in
+    let u = usedOf b (a .content-len) (a .entries-len) (a .text-len) in
+    let n = refuseIf (eqb (length (a .sequence .now)) 0) 3 in
+    let q = withEntry 2 (length (take (a .text-len) (a .text .now))) (a .sequence .now) u in
+    let k = c .before .before .before .check-lent in
     let g = c .before .checked .given in
-    add-refused (addFaults (refuseIf (eqb (length (c .before .before .before .before .before .before .before .before .before .before .args .sequence .now)) 0) 3) (lentOf (c .before .before .before .before .before .before .before .before .before .before .args .content .now) (c .before .before .before .before .before .before .before .before .before .before .args .entries .now) (c .before .before .before .before .before .before .before .before .before .before .args .text .now)) (c .before .before .before .before .before .before .before .before .before .before .args .content-len) (c .before .before .before .before .before .before .before .before .before .before .args .entries-len) (c .before .before .before .before .before .before .before .before .before .before .args .text-len)) (lentOf (c .before .before .before .before .before .before .before .before .before .before .args .content .now) (c .before .before .before .before .before .before .before .before .before .before .args .entries .now) (c .before .before .before .before .before .before .before .before .before .before .args .text .now)) (withEntry 2 (length (take (c .before .before .before .before .before .before .before .before .before .before .args .text-len) (c .before .before .before .before .before .before .before .before .before .before .args .text .now))) (c .before .before .before .before .before .before .before .before .before .before .args .sequence .now) (usedOf (lentOf (c .before .before .before .before .before .before .before .before .before .before .args .content .now) (c .before .before .before .before .before .before .before .before .before .before .args .entries .now) (c .before .before .before .before .before .before .before .before .before .before .args .text .now)) (c .before .before .before .before .before .before .before .before .before .before .args .content-len) (c .before .before .before .before .before .before .before .before .before .before .args .entries-len) (c .before .before .before .before .before .before .before .before .before .before .args .text-len))) (g .0 .0) (check-refused (lentOf (c .before .before .before .before .before .before .before .before .before .before .args .content .now) (c .before .before .before .before .before .before .before .before .before .before .args .entries .now) (c .before .before .before .before .before .before .before .before .before .before .args .text .now)) (c .before .before .before .before .before .before .before .before .before .before .args .content-len) (c .before .before .before .before .before .before .before .before .before .before .args .entries-len) (c .before .before .before .before .before .before .before .before .before .before .args .text-len) (c .before .before .before .check-lent .result) (c .before .before .before .check-lent .ensures) (refuseIf (eqb (length (c .before .before .before .before .before .before .before .before .before .before .args .sequence .now)) 0) 3) (roomIn (lentOf (c .before .before .before .before .before .before .before .before .before .before .args .content .now) (c .before .before .before .before .before .before .before .before .before .before .args .entries .now) (c .before .before .before .before .before .before .before .before .before .before .args .text .now))) (leaves (withEntry 2 (length (take (c .before .before .before .before .before .before .before .before .before .before .args .text-len) (c .before .before .before .before .before .before .before .before .before .before .args .text .now))) (c .before .before .before .before .before .before .before .before .before .before .args .sequence .now) (usedOf (lentOf (c .before .before .before .before .before .before .before .before .before .before .args .content .now) (c .before .before .before .before .before .before .before .before .before .before .args .entries .now) (c .before .before .before .before .before .before .before .before .before .before .args .text .now)) (c .before .before .before .before .before .before .before .before .before .before .args .content-len) (c .before .before .before .before .before .before .before .before .before .before .args .entries-len) (c .before .before .before .before .before .before .before .before .before .before .args .text-len)))) (g .0 .0) (g .1))
+    add-refused (addFaults n b (a .content-len) (a .entries-len) (a .text-len)) b q (g .0 .0)
+    (check-refused b (a .content-len) (a .entries-len) (a .text-len) (k .result) (k .ensures) n (roomIn b) (leaves q) (g .0 .0) (g .1))
 
 enum-told : tie.Need-enum-told
 enum-told c = search needs
@@ -48,15 +55,39 @@ same-length-4 c = search needs
 returns-2 : tie.Need-returns-2
 unfolding rawAdded withRaw numberOf
 returns-2 c =
-    add-refused (addFaults (refuseIf (eqb (length (c .before .before .before .before .before .before .before .before .before .before .args .sequence .now)) 0) 3) (lentOf (c .before .before .before .before .before .before .before .before .before .before .args .content .now) (c .before .before .before .before .before .before .before .before .before .before .args .entries .now) (c .before .before .before .before .before .before .before .before .before .before .args .text .now)) (c .before .before .before .before .before .before .before .before .before .before .args .content-len) (c .before .before .before .before .before .before .before .before .before .before .args .entries-len) (c .before .before .before .before .before .before .before .before .before .before .args .text-len)) (lentOf (c .before .before .before .before .before .before .before .before .before .before .args .content .now) (c .before .before .before .before .before .before .before .before .before .before .args .entries .now) (c .before .before .before .before .before .before .before .before .before .before .args .text .now)) (withEntry 2 (length (take (c .before .before .before .before .before .before .before .before .before .before .args .text-len) (c .before .before .before .before .before .before .before .before .before .before .args .text .now))) (c .before .before .before .before .before .before .before .before .before .before .args .sequence .now) (usedOf (lentOf (c .before .before .before .before .before .before .before .before .before .before .args .content .now) (c .before .before .before .before .before .before .before .before .before .before .args .entries .now) (c .before .before .before .before .before .before .before .before .before .before .args .text .now)) (c .before .before .before .before .before .before .before .before .before .before .args .content-len) (c .before .before .before .before .before .before .before .before .before .before .args .entries-len) (c .before .before .before .before .before .before .before .before .before .before .args .text-len))) EntryShape (added-refused (lentOf (c .before .before .before .before .before .before .before .before .before .before .args .content .now) (c .before .before .before .before .before .before .before .before .before .before .args .entries .now) (c .before .before .before .before .before .before .before .before .before .before .args .text .now)) (c .before .before .before .before .before .before .before .before .before .before .args .content-len) (c .before .before .before .before .before .before .before .before .before .before .args .entries-len) (c .before .before .before .before .before .before .before .before .before .before .args .text-len) (c .before .before .before .check-lent .result) (c .before .before .before .check-lent .ensures) (c .before .enum-told .given .0 .0) (c .before .enum-told .given .1) (refuseIf (eqb (length (c .before .before .before .before .before .before .before .before .before .before .args .sequence .now)) 0) 3) (roomIn (lentOf (c .before .before .before .before .before .before .before .before .before .before .args .content .now) (c .before .before .before .before .before .before .before .before .before .before .args .entries .now) (c .before .before .before .before .before .before .before .before .before .before .args .text .now))) (leaves (withEntry 2 (length (take (c .before .before .before .before .before .before .before .before .before .before .args .text-len) (c .before .before .before .before .before .before .before .before .before .before .args .text .now))) (c .before .before .before .before .before .before .before .before .before .before .args .sequence .now) (usedOf (lentOf (c .before .before .before .before .before .before .before .before .before .before .args .content .now) (c .before .before .before .before .before .before .before .before .before .before .args .entries .now) (c .before .before .before .before .before .before .before .before .before .before .args .text .now)) (c .before .before .before .before .before .before .before .before .before .before .args .content-len) (c .before .before .before .before .before .before .before .before .before .before .args .entries-len) (c .before .before .before .before .before .before .before .before .before .before .args .text-len)))) EntryShape (empty-raw _ (c .if1 .taken)))
+    let a = c .before .before .before .before .before .before .before .before .before .before .args in
+    let b = lentOf (a .content .now) (a .entries .now) (a .text .now) in
+    let u = usedOf b (a .content-len) (a .entries-len) (a .text-len) in
+    let n = refuseIf (eqb (length (a .sequence .now)) 0) 3 in
+    let q = withEntry 2 (length (take (a .text-len) (a .text .now))) (a .sequence .now) u in
+    let k = c .before .before .before .check-lent in
+    let g = c .before .enum-told .given in
+    add-refused (addFaults n b (a .content-len) (a .entries-len) (a .text-len)) b q EntryShape
+    (added-refused b (a .content-len) (a .entries-len) (a .text-len) (k .result) (k .ensures) (g .0 .0) (g .1) n (roomIn b) (leaves q) EntryShape (empty-raw _ (c .if1 .taken)))
 
 add-settle : tie.Need-add-settle
 add-settle c =
-    omega (arith, limits (lentOf (c .before .before .before .before .before .before .before .before .before .before .args .content .now) (c .before .before .before .before .before .before .before .before .before .before .args .entries .now) (c .before .before .before .before .before .before .before .before .before .before .args .text .now)) (c .before .before .before .before .before .before .before .before .before .before .args .content-len) (c .before .before .before .before .before .before .before .before .before .before .args .entries-len) (c .before .before .before .before .before .before .before .before .before .before .args .text-len) (c .before .before .before .check-lent .result) (c .before .before .before .check-lent .ensures) (c .before .enum-told .given .0 .0) (c .before .enum-told .given .1), c .before .before .before .before .before .before .before .before .before .before .good)
+    let a = c .before .before .before .before .before .before .before .before .before .before .args in
+    let b = lentOf (a .content .now) (a .entries .now) (a .text .now) in
+    let k = c .before .before .before .check-lent in
+    let g = c .before .enum-told .given in
+    omega (
+      arith,
+      limits b (a .content-len) (a .entries-len) (a .text-len) (k .result) (k .ensures) (g .0 .0) (g .1),
+      c .before .before .before .before .before .before .before .before .before .before .good,
+    )
 
 add-settle-2 : tie.Need-add-settle-2
 add-settle-2 c =
-    omega (arith, limits (lentOf (c .before .before .before .before .before .before .before .before .before .before .args .content .now) (c .before .before .before .before .before .before .before .before .before .before .args .entries .now) (c .before .before .before .before .before .before .before .before .before .before .args .text .now)) (c .before .before .before .before .before .before .before .before .before .before .args .content-len) (c .before .before .before .before .before .before .before .before .before .before .args .entries-len) (c .before .before .before .before .before .before .before .before .before .before .args .text-len) (c .before .before .before .check-lent .result) (c .before .before .before .check-lent .ensures) (c .before .enum-told .given .0 .0) (c .before .enum-told .given .1), c .before .before .before .before .before .before .before .before .before .before .good)
+    let a = c .before .before .before .before .before .before .before .before .before .before .args in
+    let b = lentOf (a .content .now) (a .entries .now) (a .text .now) in
+    let k = c .before .before .before .check-lent in
+    let g = c .before .enum-told .given in
+    omega (
+      arith,
+      limits b (a .content-len) (a .entries-len) (a .text-len) (k .result) (k .ensures) (g .0 .0) (g .1),
+      c .before .before .before .before .before .before .before .before .before .before .good,
+    )
 
 settle-requires : tie.Need-settle-requires
 settle-requires c κs = search needs
@@ -73,29 +104,65 @@ same-length-6 c = search needs
 returns-3 : tie.Need-returns-3
 unfolding rawAdded withRaw
 returns-3 c =
+    let a = c .before .before .before .before .before .before .before .before .before .before .before .before .before .before .args in
+    let b = lentOf (a .content .now) (a .entries .now) (a .text .now) in
+    let u = usedOf b (a .content-len) (a .entries-len) (a .text-len) in
+    let n = refuseIf (eqb (length (a .sequence .now)) 0) 3 in
+    let q = withEntry 2 (length (take (a .text-len) (a .text .now))) (a .sequence .now) u in
+    let k = c .before .before .before .before .before .before .before .check-lent in
+    let v = c .before .before .before .settle in
+    let g = c .before .before .before .before .before .enum-told .given in
     let h = c .before .verdict .given in
-    let i = is-inside (lentOf (c .before .before .before .before .before .before .before .before .before .before .before .before .before .before .args .content .now) (c .before .before .before .before .before .before .before .before .before .before .before .before .before .before .args .entries .now) (c .before .before .before .before .before .before .before .before .before .before .before .before .before .before .args .text .now)) (c .before .before .before .before .before .before .before .before .before .before .before .before .before .before .args .content-len) (c .before .before .before .before .before .before .before .before .before .before .before .before .before .before .args .entries-len) (c .before .before .before .before .before .before .before .before .before .before .before .before .before .before .args .text-len) (c .before .before .before .before .before .before .before .check-lent .result) (c .before .before .before .before .before .before .before .check-lent .ensures) (c .before .before .before .before .before .enum-told .given .0 .0) (c .before .before .before .before .before .enum-told .given .1) in
-    let s = entry-sizes (lentOf (c .before .before .before .before .before .before .before .before .before .before .before .before .before .before .args .content .now) (c .before .before .before .before .before .before .before .before .before .before .before .before .before .before .args .entries .now) (c .before .before .before .before .before .before .before .before .before .before .before .before .before .before .args .text .now)) (c .before .before .before .before .before .before .before .before .before .before .before .before .before .before .args .content-len) (c .before .before .before .before .before .before .before .before .before .before .before .before .before .before .args .entries-len) (c .before .before .before .before .before .before .before .before .before .before .before .before .before .before .args .text-len) (c .before .before .before .before .before .before .before .before .before .before .before .before .before .before .args .sequence .now) i 2 (length (take (c .before .before .before .before .before .before .before .before .before .before .before .before .before .before .args .text-len) (c .before .before .before .before .before .before .before .before .before .before .before .before .before .before .args .text .now))) in
-    add-refused (addFaults (refuseIf (eqb (length (c .before .before .before .before .before .before .before .before .before .before .before .before .before .before .args .sequence .now)) 0) 3) (lentOf (c .before .before .before .before .before .before .before .before .before .before .before .before .before .before .args .content .now) (c .before .before .before .before .before .before .before .before .before .before .before .before .before .before .args .entries .now) (c .before .before .before .before .before .before .before .before .before .before .before .before .before .before .args .text .now)) (c .before .before .before .before .before .before .before .before .before .before .before .before .before .before .args .content-len) (c .before .before .before .before .before .before .before .before .before .before .before .before .before .before .args .entries-len) (c .before .before .before .before .before .before .before .before .before .before .before .before .before .before .args .text-len)) (lentOf (c .before .before .before .before .before .before .before .before .before .before .before .before .before .before .args .content .now) (c .before .before .before .before .before .before .before .before .before .before .before .before .before .before .args .entries .now) (c .before .before .before .before .before .before .before .before .before .before .before .before .before .before .args .text .now)) (withEntry 2 (length (take (c .before .before .before .before .before .before .before .before .before .before .before .before .before .before .args .text-len) (c .before .before .before .before .before .before .before .before .before .before .before .before .before .before .args .text .now))) (c .before .before .before .before .before .before .before .before .before .before .before .before .before .before .args .sequence .now) (usedOf (lentOf (c .before .before .before .before .before .before .before .before .before .before .before .before .before .before .args .content .now) (c .before .before .before .before .before .before .before .before .before .before .before .before .before .before .args .entries .now) (c .before .before .before .before .before .before .before .before .before .before .before .before .before .before .args .text .now)) (c .before .before .before .before .before .before .before .before .before .before .before .before .before .before .args .content-len) (c .before .before .before .before .before .before .before .before .before .before .before .before .before .before .args .entries-len) (c .before .before .before .before .before .before .before .before .before .before .before .before .before .before .args .text-len))) (h .0 .0) (too-large (lentOf (c .before .before .before .before .before .before .before .before .before .before .before .before .before .before .args .content .now) (c .before .before .before .before .before .before .before .before .before .before .before .before .before .before .args .entries .now) (c .before .before .before .before .before .before .before .before .before .before .before .before .before .before .args .text .now)) (c .before .before .before .before .before .before .before .before .before .before .before .before .before .before .args .content-len) (c .before .before .before .before .before .before .before .before .before .before .before .before .before .before .args .entries-len) (c .before .before .before .before .before .before .before .before .before .before .before .before .before .before .args .text-len) (c .before .before .before .before .before .before .before .check-lent .result) (c .before .before .before .before .before .before .before .check-lent .ensures) (c .before .before .before .before .before .enum-told .given .0 .0) (c .before .before .before .before .before .enum-told .given .1) (refuseIf (eqb (length (c .before .before .before .before .before .before .before .before .before .before .before .before .before .before .args .sequence .now)) 0) 3) (some-raw _ (c .before .before .before .before .if1 .left)) (roomIn (lentOf (c .before .before .before .before .before .before .before .before .before .before .before .before .before .before .args .content .now) (c .before .before .before .before .before .before .before .before .before .before .before .before .before .before .args .entries .now) (c .before .before .before .before .before .before .before .before .before .before .before .before .before .before .args .text .now))) (leaves (withEntry 2 (length (take (c .before .before .before .before .before .before .before .before .before .before .before .before .before .before .args .text-len) (c .before .before .before .before .before .before .before .before .before .before .before .before .before .before .args .text .now))) (c .before .before .before .before .before .before .before .before .before .before .before .before .before .before .args .sequence .now) (usedOf (lentOf (c .before .before .before .before .before .before .before .before .before .before .before .before .before .before .args .content .now) (c .before .before .before .before .before .before .before .before .before .before .before .before .before .before .args .entries .now) (c .before .before .before .before .before .before .before .before .before .before .before .before .before .before .args .text .now)) (c .before .before .before .before .before .before .before .before .before .before .before .before .before .before .args .content-len) (c .before .before .before .before .before .before .before .before .before .before .before .before .before .before .args .entries-len) (c .before .before .before .before .before .before .before .before .before .before .before .before .before .before .args .text-len)))) (c .before .before .before .settle .result) (c .before .before .before .before .before .before .before .before .before .before .before .before .before .before .args .content-len) (c .before .before .before .before .before .before .before .before .before .before .before .before .before .before .args .entries-len + 4) (c .before .before .before .before .before .before .before .before .before .before .before .before .before .before .args .text-len + length (c .before .before .before .before .before .before .before .before .before .before .before .before .before .before .args .sequence .now)) (c .before .before .before .settle .ensures) (s .0) (s .1) (s .2) refl (h .0 .0) (h .1))
+    let i = is-inside b (a .content-len) (a .entries-len) (a .text-len) (k .result) (k .ensures) (g .0 .0) (g .1) in
+    let s = entry-sizes b (a .content-len) (a .entries-len) (a .text-len) (a .sequence .now) i 2 (length (take (a .text-len) (a .text .now))) in
+    add-refused (addFaults n b (a .content-len) (a .entries-len) (a .text-len)) b q (h .0 .0)
+    (too-large b (a .content-len) (a .entries-len) (a .text-len) (k .result) (k .ensures) (g .0 .0) (g .1) n (some-raw _ (c .before .before .before .before .if1 .left)) (roomIn b)
+    (leaves q) (v .result) (a .content-len) (a .entries-len + 4) (a .text-len + length (a .sequence .now)) (v .ensures) (s .0) (s .1) (s .2) refl (h .0 .0) (h .1))
 
 enum-told-2 : tie.Need-enum-told-2
 enum-told-2 c = search needs
 
 put-mark-requires : tie.Need-put-mark-requires
 put-mark-requires c κs =
-    let i = is-inside (lentOf (c .before .before .before .before .before .before .before .before .before .before .before .before .before .before .before .args .content .now) (c .before .before .before .before .before .before .before .before .before .before .before .before .before .before .before .args .entries .now) (c .before .before .before .before .before .before .before .before .before .before .before .before .before .before .before .args .text .now)) (c .before .before .before .before .before .before .before .before .before .before .before .before .before .before .before .args .content-len) (c .before .before .before .before .before .before .before .before .before .before .before .before .before .before .before .args .entries-len) (c .before .before .before .before .before .before .before .before .before .before .before .before .before .before .before .args .text-len) (c .before .before .before .before .before .before .before .before .check-lent .result) (c .before .before .before .before .before .before .before .before .check-lent .ensures) (c .before .before .before .before .before .before .enum-told .given .0 .0) (c .before .before .before .before .before .before .enum-told .given .1) in
-    let s = entry-sizes (lentOf (c .before .before .before .before .before .before .before .before .before .before .before .before .before .before .before .args .content .now) (c .before .before .before .before .before .before .before .before .before .before .before .before .before .before .before .args .entries .now) (c .before .before .before .before .before .before .before .before .before .before .before .before .before .before .before .args .text .now)) (c .before .before .before .before .before .before .before .before .before .before .before .before .before .before .before .args .content-len) (c .before .before .before .before .before .before .before .before .before .before .before .before .before .before .before .args .entries-len) (c .before .before .before .before .before .before .before .before .before .before .before .before .before .before .before .args .text-len) (c .before .before .before .before .before .before .before .before .before .before .before .before .before .before .before .args .sequence .now) i 2 (length (take (c .before .before .before .before .before .before .before .before .before .before .before .before .before .before .before .args .text-len) (c .before .before .before .before .before .before .before .before .before .before .before .before .before .before .before .args .text .now))) in
-    let f = fits (lentOf (c .before .before .before .before .before .before .before .before .before .before .before .before .before .before .before .args .content .now) (c .before .before .before .before .before .before .before .before .before .before .before .before .before .before .before .args .entries .now) (c .before .before .before .before .before .before .before .before .before .before .before .before .before .before .before .args .text .now)) (c .before .before .before .before .before .before .before .before .before .before .before .before .before .before .before .args .content-len) (c .before .before .before .before .before .before .before .before .before .before .before .before .before .before .before .args .entries-len) (c .before .before .before .before .before .before .before .before .before .before .before .before .before .before .before .args .text-len) (c .before .before .before .before .before .before .before .before .check-lent .result) (c .before .before .before .before .before .before .before .before .check-lent .ensures) (c .before .before .before .before .before .before .enum-told .given .0 .0) (c .before .before .before .before .before .before .enum-told .given .1) (refuseIf (eqb (length (c .before .before .before .before .before .before .before .before .before .before .before .before .before .before .before .args .sequence .now)) 0) 3) (some-raw _ (c .before .before .before .before .before .if1 .left)) (roomIn (lentOf (c .before .before .before .before .before .before .before .before .before .before .before .before .before .before .before .args .content .now) (c .before .before .before .before .before .before .before .before .before .before .before .before .before .before .before .args .entries .now) (c .before .before .before .before .before .before .before .before .before .before .before .before .before .before .before .args .text .now))) (leaves (withEntry 2 (length (take (c .before .before .before .before .before .before .before .before .before .before .before .before .before .before .before .args .text-len) (c .before .before .before .before .before .before .before .before .before .before .before .before .before .before .before .args .text .now))) (c .before .before .before .before .before .before .before .before .before .before .before .before .before .before .before .args .sequence .now) (usedOf (lentOf (c .before .before .before .before .before .before .before .before .before .before .before .before .before .before .before .args .content .now) (c .before .before .before .before .before .before .before .before .before .before .before .before .before .before .before .args .entries .now) (c .before .before .before .before .before .before .before .before .before .before .before .before .before .before .before .args .text .now)) (c .before .before .before .before .before .before .before .before .before .before .before .before .before .before .before .args .content-len) (c .before .before .before .before .before .before .before .before .before .before .before .before .before .before .before .args .entries-len) (c .before .before .before .before .before .before .before .before .before .before .before .before .before .before .before .args .text-len)))) (c .before .before .before .before .settle .result) (c .before .before .before .before .before .before .before .before .before .before .before .before .before .before .before .args .content-len) (c .before .before .before .before .before .before .before .before .before .before .before .before .before .before .before .args .entries-len + 4) (c .before .before .before .before .before .before .before .before .before .before .before .before .before .before .before .args .text-len + length (c .before .before .before .before .before .before .before .before .before .before .before .before .before .before .before .args .sequence .now)) (c .before .before .before .before .settle .ensures) (s .0) (s .1) (s .2) refl (c .before .before .enum-told2 .given .1) in
-    let m = limits (lentOf (c .before .before .before .before .before .before .before .before .before .before .before .before .before .before .before .args .content .now) (c .before .before .before .before .before .before .before .before .before .before .before .before .before .before .before .args .entries .now) (c .before .before .before .before .before .before .before .before .before .before .before .before .before .before .before .args .text .now)) (c .before .before .before .before .before .before .before .before .before .before .before .before .before .before .before .args .content-len) (c .before .before .before .before .before .before .before .before .before .before .before .before .before .before .before .args .entries-len) (c .before .before .before .before .before .before .before .before .before .before .before .before .before .before .before .args .text-len) (c .before .before .before .before .before .before .before .before .check-lent .result) (c .before .before .before .before .before .before .before .before .check-lent .ensures) (c .before .before .before .before .before .before .enum-told .given .0 .0) (c .before .before .before .before .before .before .enum-told .given .1) in
+    let a = c .before .before .before .before .before .before .before .before .before .before .before .before .before .before .before .args in
+    let b = lentOf (a .content .now) (a .entries .now) (a .text .now) in
+    let u = usedOf b (a .content-len) (a .entries-len) (a .text-len) in
+    let n = refuseIf (eqb (length (a .sequence .now)) 0) 3 in
+    let q = withEntry 2 (length (take (a .text-len) (a .text .now))) (a .sequence .now) u in
+    let k = c .before .before .before .before .before .before .before .before .check-lent in
+    let v = c .before .before .before .before .settle in
+    let g = c .before .before .before .before .before .before .enum-told .given in
+    let g₂ = c .before .before .enum-told2 .given in
+    let i = is-inside b (a .content-len) (a .entries-len) (a .text-len) (k .result) (k .ensures) (g .0 .0) (g .1) in
+    let s = entry-sizes b (a .content-len) (a .entries-len) (a .text-len) (a .sequence .now) i 2 (length (take (a .text-len) (a .text .now))) in
+    let f = fits b (a .content-len) (a .entries-len) (a .text-len) (k .result) (k .ensures) (g .0 .0) (g .1) n (some-raw _ (c .before .before .before .before .before .if1 .left)) (roomIn b)
+    (leaves q) (v .result) (a .content-len) (a .entries-len + 4) (a .text-len + length (a .sequence .now)) (v .ensures) (s .0) (s .1) (s .2) refl (g₂ .1) in
+    let m = limits b (a .content-len) (a .entries-len) (a .text-len) (k .result) (k .ensures) (g .0 .0) (g .1) in
     ((omega (arith, f .entry-room, s .1), omega (arith, f .text-room, s .2)), (m .0, omega (arith, f .text-limit, s .2)))
 
 add-t16 : tie.Need-add-t16
 add-t16 c =
-    omega (arith, limits (lentOf (c .before .before .before .before .before .before .before .before .before .before .before .before .before .before .before .before .before .before .before .before .args .content .now) (c .before .before .before .before .before .before .before .before .before .before .before .before .before .before .before .before .before .before .before .before .args .entries .now) (c .before .before .before .before .before .before .before .before .before .before .before .before .before .before .before .before .before .before .before .before .args .text .now)) (c .before .before .before .before .before .before .before .before .before .before .before .before .before .before .before .before .before .before .before .before .args .content-len) (c .before .before .before .before .before .before .before .before .before .before .before .before .before .before .before .before .before .before .before .before .args .entries-len) (c .before .before .before .before .before .before .before .before .before .before .before .before .before .before .before .before .before .before .before .before .args .text-len) (c .before .before .before .before .before .before .before .before .before .before .before .before .before .check-lent .result) (c .before .before .before .before .before .before .before .before .before .before .before .before .before .check-lent .ensures) (c .before .before .before .before .before .before .before .before .before .before .before .enum-told .given .0 .0) (c .before .before .before .before .before .before .before .before .before .before .before .enum-told .given .1), c .before .before .before .before .before .before .before .before .before .before .before .before .before .before .before .before .before .before .before .before .good)
+    let a = c .before .before .before .before .before .before .before .before .before .before .before .before .before .before .before .before .before .before .before .before .args in
+    let b = lentOf (a .content .now) (a .entries .now) (a .text .now) in
+    let k = c .before .before .before .before .before .before .before .before .before .before .before .before .before .check-lent in
+    let g = c .before .before .before .before .before .before .before .before .before .before .before .enum-told .given in
+    omega (
+      arith,
+      limits b (a .content-len) (a .entries-len) (a .text-len) (k .result) (k .ensures) (g .0 .0) (g .1),
+      c .before .before .before .before .before .before .before .before .before .before .before .before .before .before .before .before .before .before .before .before .good,
+    )
 
 add-t23 : tie.Need-add-t23
 add-t23 c =
-    omega (arith, limits (lentOf (c .before .before .before .before .before .before .before .before .before .before .before .before .before .before .before .before .before .before .before .before .args .content .now) (c .before .before .before .before .before .before .before .before .before .before .before .before .before .before .before .before .before .before .before .before .args .entries .now) (c .before .before .before .before .before .before .before .before .before .before .before .before .before .before .before .before .before .before .before .before .args .text .now)) (c .before .before .before .before .before .before .before .before .before .before .before .before .before .before .before .before .before .before .before .before .args .content-len) (c .before .before .before .before .before .before .before .before .before .before .before .before .before .before .before .before .before .before .before .before .args .entries-len) (c .before .before .before .before .before .before .before .before .before .before .before .before .before .before .before .before .before .before .before .before .args .text-len) (c .before .before .before .before .before .before .before .before .before .before .before .before .before .check-lent .result) (c .before .before .before .before .before .before .before .before .before .before .before .before .before .check-lent .ensures) (c .before .before .before .before .before .before .before .before .before .before .before .enum-told .given .0 .0) (c .before .before .before .before .before .before .before .before .before .before .before .enum-told .given .1), c .before .before .before .before .before .before .before .before .before .before .before .before .before .before .before .before .before .before .before .before .good)
+    let a = c .before .before .before .before .before .before .before .before .before .before .before .before .before .before .before .before .before .before .before .before .args in
+    let b = lentOf (a .content .now) (a .entries .now) (a .text .now) in
+    let k = c .before .before .before .before .before .before .before .before .before .before .before .before .before .check-lent in
+    let g = c .before .before .before .before .before .before .before .before .before .before .before .enum-told .given in
+    omega (
+      arith,
+      limits b (a .content-len) (a .entries-len) (a .text-len) (k .result) (k .ensures) (g .0 .0) (g .1),
+      c .before .before .before .before .before .before .before .before .before .before .before .before .before .before .before .before .before .before .before .before .good,
+    )
 
 same-length-7 : tie.Need-same-length-7
 same-length-7 c = search needs
@@ -106,11 +173,25 @@ same-length-8 c = search needs
 returns-4 : tie.Need-returns-4
 unfolding rawAdded withRaw
 returns-4 c =
-    let i = is-inside (lentOf (c .before .before .before .before .before .before .before .before .before .before .before .before .before .before .before .before .before .before .before .before .args .content .now) (c .before .before .before .before .before .before .before .before .before .before .before .before .before .before .before .before .before .before .before .before .args .entries .now) (c .before .before .before .before .before .before .before .before .before .before .before .before .before .before .before .before .before .before .before .before .args .text .now)) (c .before .before .before .before .before .before .before .before .before .before .before .before .before .before .before .before .before .before .before .before .args .content-len) (c .before .before .before .before .before .before .before .before .before .before .before .before .before .before .before .before .before .before .before .before .args .entries-len) (c .before .before .before .before .before .before .before .before .before .before .before .before .before .before .before .before .before .before .before .before .args .text-len) (c .before .before .before .before .before .before .before .before .before .before .before .before .before .check-lent .result) (c .before .before .before .before .before .before .before .before .before .before .before .before .before .check-lent .ensures) (c .before .before .before .before .before .before .before .before .before .before .before .enum-told .given .0 .0) (c .before .before .before .before .before .before .before .before .before .before .before .enum-told .given .1) in
-    let s = entry-sizes (lentOf (c .before .before .before .before .before .before .before .before .before .before .before .before .before .before .before .before .before .before .before .before .args .content .now) (c .before .before .before .before .before .before .before .before .before .before .before .before .before .before .before .before .before .before .before .before .args .entries .now) (c .before .before .before .before .before .before .before .before .before .before .before .before .before .before .before .before .before .before .before .before .args .text .now)) (c .before .before .before .before .before .before .before .before .before .before .before .before .before .before .before .before .before .before .before .before .args .content-len) (c .before .before .before .before .before .before .before .before .before .before .before .before .before .before .before .before .before .before .before .before .args .entries-len) (c .before .before .before .before .before .before .before .before .before .before .before .before .before .before .before .before .before .before .before .before .args .text-len) (c .before .before .before .before .before .before .before .before .before .before .before .before .before .before .before .before .before .before .before .before .args .sequence .now) i 2 (length (take (c .before .before .before .before .before .before .before .before .before .before .before .before .before .before .before .before .before .before .before .before .args .text-len) (c .before .before .before .before .before .before .before .before .before .before .before .before .before .before .before .before .before .before .before .before .args .text .now))) in
-    let z = accepted (lentOf (c .before .before .before .before .before .before .before .before .before .before .before .before .before .before .before .before .before .before .before .before .args .content .now) (c .before .before .before .before .before .before .before .before .before .before .before .before .before .before .before .before .before .before .before .before .args .entries .now) (c .before .before .before .before .before .before .before .before .before .before .before .before .before .before .before .before .before .before .before .before .args .text .now)) (c .before .before .before .before .before .before .before .before .before .before .before .before .before .before .before .before .before .before .before .before .args .content-len) (c .before .before .before .before .before .before .before .before .before .before .before .before .before .before .before .before .before .before .before .before .args .entries-len) (c .before .before .before .before .before .before .before .before .before .before .before .before .before .before .before .before .before .before .before .before .args .text-len) (c .before .before .before .before .before .before .before .before .before .before .before .before .before .check-lent .result) (c .before .before .before .before .before .before .before .before .before .before .before .before .before .check-lent .ensures) (c .before .before .before .before .before .before .before .before .before .before .before .enum-told .given .0 .0) (c .before .before .before .before .before .before .before .before .before .before .before .enum-told .given .1) (refuseIf (eqb (length (c .before .before .before .before .before .before .before .before .before .before .before .before .before .before .before .before .before .before .before .before .args .sequence .now)) 0) 3) (some-raw _ (c .before .before .before .before .before .before .before .before .before .before .if1 .left)) (roomIn (lentOf (c .before .before .before .before .before .before .before .before .before .before .before .before .before .before .before .before .before .before .before .before .args .content .now) (c .before .before .before .before .before .before .before .before .before .before .before .before .before .before .before .before .before .before .before .before .args .entries .now) (c .before .before .before .before .before .before .before .before .before .before .before .before .before .before .before .before .before .before .before .before .args .text .now))) (leaves (withEntry 2 (length (take (c .before .before .before .before .before .before .before .before .before .before .before .before .before .before .before .before .before .before .before .before .args .text-len) (c .before .before .before .before .before .before .before .before .before .before .before .before .before .before .before .before .before .before .before .before .args .text .now))) (c .before .before .before .before .before .before .before .before .before .before .before .before .before .before .before .before .before .before .before .before .args .sequence .now) (usedOf (lentOf (c .before .before .before .before .before .before .before .before .before .before .before .before .before .before .before .before .before .before .before .before .args .content .now) (c .before .before .before .before .before .before .before .before .before .before .before .before .before .before .before .before .before .before .before .before .args .entries .now) (c .before .before .before .before .before .before .before .before .before .before .before .before .before .before .before .before .before .before .before .before .args .text .now)) (c .before .before .before .before .before .before .before .before .before .before .before .before .before .before .before .before .before .before .before .before .args .content-len) (c .before .before .before .before .before .before .before .before .before .before .before .before .before .before .before .before .before .before .before .before .args .entries-len) (c .before .before .before .before .before .before .before .before .before .before .before .before .before .before .before .before .before .before .before .before .args .text-len)))) (c .before .before .before .before .before .before .before .before .before .settle .result) (c .before .before .before .before .before .before .before .before .before .before .before .before .before .before .before .before .before .before .before .before .args .content-len) (c .before .before .before .before .before .before .before .before .before .before .before .before .before .before .before .before .before .before .before .before .args .entries-len + 4) (c .before .before .before .before .before .before .before .before .before .before .before .before .before .before .before .before .before .before .before .before .args .text-len + length (c .before .before .before .before .before .before .before .before .before .before .before .before .before .before .before .before .before .before .before .before .args .sequence .now)) (c .before .before .before .before .before .before .before .before .before .settle .ensures) (s .0) (s .1) (s .2) refl (c .before .before .before .before .before .before .before .enum-told2 .given .1) in
-    let w = entry-left (lentOf (c .before .before .before .before .before .before .before .before .before .before .before .before .before .before .before .before .before .before .before .before .args .content .now) (c .before .before .before .before .before .before .before .before .before .before .before .before .before .before .before .before .before .before .before .before .args .entries .now) (c .before .before .before .before .before .before .before .before .before .before .before .before .before .before .before .before .before .before .before .before .args .text .now)) (c .before .before .before .before .before .before .before .before .before .before .before .before .before .before .before .before .before .before .before .before .args .content-len) (c .before .before .before .before .before .before .before .before .before .before .before .before .before .before .before .before .before .before .before .before .args .entries-len) (c .before .before .before .before .before .before .before .before .before .before .before .before .before .before .before .before .before .before .before .before .args .text-len) (c .before .before .before .before .before .before .before .before .before .before .before .before .before .before .before .before .before .before .before .before .args .sequence .now) i 2 _ _ _ _ (sym (used-t (lentOf (c .before .before .before .before .before .before .before .before .before .before .before .before .before .before .before .before .before .before .before .before .args .content .now) (c .before .before .before .before .before .before .before .before .before .before .before .before .before .before .before .before .before .before .before .before .args .entries .now) (c .before .before .before .before .before .before .before .before .before .before .before .before .before .before .before .before .before .before .before .before .args .text .now)) (c .before .before .before .before .before .before .before .before .before .before .before .before .before .before .before .before .before .before .before .before .args .content-len) (c .before .before .before .before .before .before .before .before .before .before .before .before .before .before .before .before .before .before .before .before .args .entries-len) (c .before .before .before .before .before .before .before .before .before .before .before .before .before .before .before .before .before .before .before .before .args .text-len) (c .before .before .before .before .before .before .before .before .before .before .before .before .before .check-lent .result) (c .before .before .before .before .before .before .before .before .before .before .before .before .before .check-lent .ensures) (c .before .before .before .before .before .before .before .before .before .before .before .enum-told .given .0 .0) (c .before .before .before .before .before .before .before .before .before .before .before .enum-told .given .1))) (c .before .before .before .before .put-mark .ensures .0) (c .before .before .before .before .put-mark .ensures .1) in
-    add-done (addFaults (refuseIf (eqb (length (c .before .before .before .before .before .before .before .before .before .before .before .before .before .before .before .before .before .before .before .before .args .sequence .now)) 0) 3) (lentOf (c .before .before .before .before .before .before .before .before .before .before .before .before .before .before .before .before .before .before .before .before .args .content .now) (c .before .before .before .before .before .before .before .before .before .before .before .before .before .before .before .before .before .before .before .before .args .entries .now) (c .before .before .before .before .before .before .before .before .before .before .before .before .before .before .before .before .before .before .before .before .args .text .now)) (c .before .before .before .before .before .before .before .before .before .before .before .before .before .before .before .before .before .before .before .before .args .content-len) (c .before .before .before .before .before .before .before .before .before .before .before .before .before .before .before .before .before .before .before .before .args .entries-len) (c .before .before .before .before .before .before .before .before .before .before .before .before .before .before .before .before .before .before .before .before .args .text-len)) (lentOf (c .before .before .before .before .before .before .before .before .before .before .before .before .before .before .before .before .before .before .before .before .args .content .now) (c .before .before .before .before .before .before .before .before .before .before .before .before .before .before .before .before .before .before .before .before .args .entries .now) (c .before .before .before .before .before .before .before .before .before .before .before .before .before .before .before .before .before .before .before .before .args .text .now)) (withEntry 2 (length (take (c .before .before .before .before .before .before .before .before .before .before .before .before .before .before .before .before .before .before .before .before .args .text-len) (c .before .before .before .before .before .before .before .before .before .before .before .before .before .before .before .before .before .before .before .before .args .text .now))) (c .before .before .before .before .before .before .before .before .before .before .before .before .before .before .before .before .before .before .before .before .args .sequence .now) (usedOf (lentOf (c .before .before .before .before .before .before .before .before .before .before .before .before .before .before .before .before .before .before .before .before .args .content .now) (c .before .before .before .before .before .before .before .before .before .before .before .before .before .before .before .before .before .before .before .before .args .entries .now) (c .before .before .before .before .before .before .before .before .before .before .before .before .before .before .before .before .before .before .before .before .args .text .now)) (c .before .before .before .before .before .before .before .before .before .before .before .before .before .before .before .before .before .before .before .before .args .content-len) (c .before .before .before .before .before .before .before .before .before .before .before .before .before .before .before .before .before .before .before .before .args .entries-len) (c .before .before .before .before .before .before .before .before .before .before .before .before .before .before .before .before .before .before .before .before .args .text-len))) (c .before .before .before .before .before .before .before .before .before .before .before .before .before .before .before .before .before .before .before .before .args .content-len) (c .before .before .before .before .before .before .before .before .before .before .before .before .before .before .before .before .before .before .before .before .args .entries-len + 4) (c .before .before .before .before .before .before .before .before .before .before .before .before .before .before .before .before .before .before .before .before .args .text-len + length (c .before .before .before .before .before .before .before .before .before .before .before .before .before .before .before .before .before .before .before .before .args .sequence .now)) _ _ _ z (s .0) (s .1) (s .2) (w .0) (w .1) (w .2) refl
+    let a = c .before .before .before .before .before .before .before .before .before .before .before .before .before .before .before .before .before .before .before .before .args in
+    let b = lentOf (a .content .now) (a .entries .now) (a .text .now) in
+    let u = usedOf b (a .content-len) (a .entries-len) (a .text-len) in
+    let n = refuseIf (eqb (length (a .sequence .now)) 0) 3 in
+    let q = withEntry 2 (length (take (a .text-len) (a .text .now))) (a .sequence .now) u in
+    let k = c .before .before .before .before .before .before .before .before .before .before .before .before .before .check-lent in
+    let v = c .before .before .before .before .before .before .before .before .before .settle in
+    let p = c .before .before .before .before .put-mark in
+    let g = c .before .before .before .before .before .before .before .before .before .before .before .enum-told .given in
+    let g₂ = c .before .before .before .before .before .before .before .enum-told2 .given in
+    let i = is-inside b (a .content-len) (a .entries-len) (a .text-len) (k .result) (k .ensures) (g .0 .0) (g .1) in
+    let s = entry-sizes b (a .content-len) (a .entries-len) (a .text-len) (a .sequence .now) i 2 (length (take (a .text-len) (a .text .now))) in
+    let z = accepted b (a .content-len) (a .entries-len) (a .text-len) (k .result) (k .ensures) (g .0 .0) (g .1) n
+    (some-raw _ (c .before .before .before .before .before .before .before .before .before .before .if1 .left)) (roomIn b) (leaves q) (v .result) (a .content-len) (a .entries-len + 4)
+    (a .text-len + length (a .sequence .now)) (v .ensures) (s .0) (s .1) (s .2) refl (g₂ .1) in
+    let w = entry-left b (a .content-len) (a .entries-len) (a .text-len) (a .sequence .now) i 2 _ _ _ _
+    (sym (used-t b (a .content-len) (a .entries-len) (a .text-len) (k .result) (k .ensures) (g .0 .0) (g .1))) (p .ensures .0) (p .ensures .1) in
+    add-done (addFaults n b (a .content-len) (a .entries-len) (a .text-len)) b q (a .content-len) (a .entries-len + 4) (a .text-len + length (a .sequence .now)) _ _ _ z (s .0) (s .1) (s .2)
+    (w .0) (w .1) (w .2) refl
 
 pub raw-spec : {M : Type 1} → statement M
 raw-spec =

@@ -10,6 +10,10 @@ use Rattle.recording.proofs.check.Reads as check-reads
 use Rattle.writer.proofs.put_recording.Reads as put-recording-reads
 use Rattle.writer.proofs.settle.Reads as settle-reads
 
+-- once the sizes are settled: where the function started
+abbrev start : tie.After-settle → tie.Start
+start c = c .before .before .before .before .before .before .before .before .before .before .before
+
 check-requires : tie.Need-check-requires
 check-requires c κs = search needs
 
@@ -41,7 +45,8 @@ returns-2 c =
     let v = c .before .before .before .settle in
     let h = c .before .verdict .given in
     replay-refused (a .content .now) (a .entries .now) (a .text .now) (a .bytes .now) (a .numbers .now) (a .texts .now) (h .0 .0)
-    (too-large (a .content .now) (a .entries .now) (a .text .now) (a .bytes .now) (a .numbers .now) (a .texts .now) (k .result) (k .ensures .0) (g .0 .0) (g .1) (k .ensures .1 .0) (v .result) (v .ensures) (h .0 .0) (h .1))
+    (too-large (a .content .now) (a .entries .now) (a .text .now) (a .bytes .now) (a .numbers .now) (a .texts .now) (k .result) (k .ensures .0) (g .0 .0) (g .1) (k .ensures .1 .0)
+    (v .result) (v .ensures) (h .0 .0) (h .1))
 
 enum-told : tie.Need-enum-told
 enum-told c = search needs
@@ -55,7 +60,8 @@ put-recording-requires c κs =
     let v = c .before .before .before .before .before .settle in
     let h = c .before .before .before .enum-told .given in (
       is-sound (a .content .now) (a .entries .now) (a .text .now) (a .bytes .now) (a .numbers .now) (a .texts .now) (k .result) (k .ensures .0) (g .0 .0) (g .1) (k .ensures .1 .0),
-      has-room (a .content .now) (a .entries .now) (a .text .now) (a .bytes .now) (a .numbers .now) (a .texts .now) (k .result) (k .ensures .0) (g .0 .0) (g .1) (k .ensures .1 .0) (v .result) (v .ensures) (h .1),
+      has-room (a .content .now) (a .entries .now) (a .text .now) (a .bytes .now) (a .numbers .now) (a .texts .now) (k .result) (k .ensures .0) (g .0 .0) (g .1) (k .ensures .1 .0)
+          (v .result) (v .ensures) (h .1),
     )
 
 same-length : tie.Need-same-length
@@ -70,13 +76,14 @@ same-length-3 c = search needs
 returns-3 : tie.Need-returns-3
 unfolding out
 returns-3 c =
-    let a = c .before .before .before .before .before .before .before .before .before .before .before .before .before .before .before .before .before .before .before .before .before .before .before .args in
+    let a = start (c .before .before .before .before .before .before .before .before .before .before .before .before) .args in
     let k = c .before .before .before .before .before .before .before .before .before .before .before .before .before .before .before .before .check in
     let g = c .before .before .before .before .before .before .before .before .before .before .before .before .before .before .checked2 .given in
     let v = c .before .before .before .before .before .before .before .before .before .before .before .before .settle in
     let h = c .before .before .before .before .before .before .before .before .before .before .enum-told .given in
     replay-done (a .content .now) (a .entries .now) (a .text .now) (a .bytes .now) (a .numbers .now) (a .texts .now) _ _ _ (c .before .before .before .before .before .before .put-recording .result)
-    (accepted (a .content .now) (a .entries .now) (a .text .now) (a .bytes .now) (a .numbers .now) (a .texts .now) (k .result) (k .ensures .0) (g .0 .0) (g .1) (k .ensures .1 .0) (v .result) (v .ensures) (h .1))
+    (accepted (a .content .now) (a .entries .now) (a .text .now) (a .bytes .now) (a .numbers .now) (a .texts .now) (k .result) (k .ensures .0) (g .0 .0) (g .1) (k .ensures .1 .0)
+    (v .result) (v .ensures) (h .1))
     (c .before .before .before .before .before .before .put-recording .ensures .0)
 
 pub replay-by-spec : {M : Type 1} → statement M

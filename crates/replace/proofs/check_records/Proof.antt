@@ -11,7 +11,7 @@ use Rattle.replace.proofs.check_records.Statement.{statement}
 use Rattle.replace.proofs.check_records.Tie as tie
 use Rattle.replace.proofs.check_records.Reads as reads
 use Rattle.replace.proofs.check_records.Lts as lts
-use Rattle.replace.proofs.check_step.Reads as check-step-reads
+use Rattle.replace.proofs.check_numbers.Reads as check-numbers-reads
 use Rattle.replace.proofs.record_at.Reads as record-at-reads
 
 abbrev Inv-loop : tie.InvT-loop
@@ -31,8 +31,8 @@ add-loop c = search needs
 record-at-requires : tie.Need-record-at-requires Inv-loop μ-loop
 record-at-requires c κs = search needs
 
-check-step-requires : tie.Need-check-step-requires Inv-loop μ-loop
-check-step-requires c κs = search needs
+check-numbers-requires : tie.Need-check-numbers-requires Inv-loop μ-loop
+check-numbers-requires c κs = search needs
 
 add-i : tie.Need-add-i Inv-loop μ-loop
 add-i c = search needs
@@ -44,7 +44,7 @@ loop-again : tie.Need-loop-again Inv-loop μ-loop
 loop-again c =
     let a = c .before .before .before .before .before .args in
     let r = c .before .record-at in
-    (search needs, scan-next (a .n) (a .t) (a .records .now) (c .before .before .before .loop .i) (r .result) _ _ _ (r .ensures) (c .check-step .ensures) (c .before .before .before .loop .inv .1))
+    (search needs, scan-next (a .n) (a .t) (a .records .now) (c .before .before .before .loop .i) (r .result) _ _ _ (r .ensures) (c .check-numbers .ensures) (c .before .before .before .loop .inv .1))
 
 returns : tie.Need-returns Inv-loop μ-loop
 returns c =
@@ -61,7 +61,7 @@ check-records-spec =
     loop-holds
     add-loop
     record-at-requires
-    check-step-requires
+    check-numbers-requires
     add-i
     loop-less
     loop-again
