@@ -1,12 +1,11 @@
 // The library's calls for Rust and C: each under the name that the archive gives it, with the contract of the call behind it.
 // A slice passes as a pointer and its number of elements.
 // A call on recordings takes its content, then what else it reads, its numbers, and last the lent buffers; none may overlap another. `res` gets five numbers: the refusal or 0, the lengths of data, entry numbers and text that were left, and the call's number.
-use chars::LEADS;
-use chars::text_width;
-use chars::truncate_end_pos;
-use chars::truncate_start_pos;
-use chars::well_formed;
-use chars::zero_width_len;
+use chars::cut_end;
+use chars::cut_start;
+use chars::display_width;
+use chars::is_well_formed;
+use chars::leading_zero_width;
 use elide::complete_newline;
 use elide::elide_end;
 use elide::elide_start;
@@ -46,8 +45,7 @@ ghost use Rattle.capi.specs.Five.{five};
 pub extern "C" fn ruszvedok_text_width(s: &[u8]) -> u64
     ensures { λ r. ⌜ r ≡ textWidth (now (s .entry)) ⌝ }
 {
-    let t = LEADS;
-    text_width(&t, s)
+    display_width(s)
 }
 
 // Whether a text is well-formed UTF-8.
@@ -55,8 +53,7 @@ pub extern "C" fn ruszvedok_text_width(s: &[u8]) -> u64
 pub extern "C" fn ruszvedok_well_formed(s: &[u8]) -> bool
     ensures { λ r. ⌜ r ≡ wellFormed (now (s .entry)) ⌝ }
 {
-    let t = LEADS;
-    well_formed(&t, s)
+    is_well_formed(s)
 }
 
 // A place in a text, and the width of the part that is kept.
@@ -71,8 +68,7 @@ pub struct Place {
 pub extern "C" fn ruszvedok_truncate_end_pos(s: &[u8], max: u64) -> Place
     ensures { λ r. ⌜ (r .pos ≡ truncateEndPos max (now (s .entry))) × (r .width ≡ truncateEndWidth max (now (s .entry))) ⌝ }
 {
-    let t = LEADS;
-    let c = truncate_end_pos(&t, s, max);
+    let c = cut_end(s, max);
     Place {
         pos: c.pos,
         width: c.width,
@@ -84,9 +80,7 @@ pub extern "C" fn ruszvedok_truncate_end_pos(s: &[u8], max: u64) -> Place
 pub extern "C" fn ruszvedok_truncate_start_pos(s: &[u8], max: u64) -> Place
     ensures { λ r. ⌜ (r .pos ≡ truncateStartPos max (now (s .entry))) × (r .width ≡ truncateStartWidth max (now (s .entry))) ⌝ }
 {
-    let t = LEADS;
-    let total = text_width(&t, s);
-    let c = truncate_start_pos(&t, s, total, max);
+    let c = cut_start(s, max);
     Place {
         pos: c.pos,
         width: c.width,
@@ -98,8 +92,7 @@ pub extern "C" fn ruszvedok_truncate_start_pos(s: &[u8], max: u64) -> Place
 pub extern "C" fn ruszvedok_zero_width_len(s: &[u8]) -> usize
     ensures { λ r. ⌜ r ≡ zeroWidthLen (now (s .entry)) ⌝ }
 {
-    let t = LEADS;
-    zero_width_len(&t, s)
+    leading_zero_width(s)
 }
 
 // Stores an answer as its five numbers.
