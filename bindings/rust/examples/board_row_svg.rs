@@ -46,14 +46,18 @@ impl Picture {
                 if let Some(behind) = behind {
                     writeln!(svg, r#"<rect x="{x}" y="{}" width="{size}" height="22" rx="4" fill="{behind}"/>"#, self.top + 2).unwrap();
                 }
-                write!(svg, r#"<text y="{}" fill="{colour}" x=""#, self.top + 18).unwrap();
-                for char in piece.chars() {
-                    write!(svg, "{} ", LEFT + column * COLUMN).unwrap();
-                    column += text_width(char.to_string().as_bytes());
+                // Word by word, with a place for each character: no reader has to keep spaces or to know a font's widths.
+                for word in piece.split_inclusive(' ') {
+                    let mut places = String::new();
+                    for char in word.chars() {
+                        write!(places, "{} ", LEFT + column * COLUMN).unwrap();
+                        column += text_width(char.to_string().as_bytes());
+                    }
+                    let text = word.trim_end().replace('&', "&amp;").replace('<', "&lt;");
+                    if !text.is_empty() {
+                        writeln!(svg, r#"<text y="{}" fill="{colour}" x="{}">{text}</text>"#, self.top + 18, places.trim_end()).unwrap();
+                    }
                 }
-                // A space that is kept wherever it stands.
-                let text = piece.replace('&', "&amp;").replace('<', "&lt;").replace(' ', "\u{A0}");
-                writeln!(svg, r#"">{text}</text>"#).unwrap();
             }
         }
         self.top += LINE;
