@@ -87,7 +87,14 @@ size-next ds new at x xs g =
     let put-in : List ℕ = dataOf (byteItems (part (x .from) (x .to) new)) in
     let more : List ℕ = editData (replaceOps new (x .end) xs) (drop (x .end) ds) in
     rw rest
-    (omega (arith, length-append kept (put-in ++ more), length-append put-in more, length-take-le (x .start - at) (drop at ds) (omega (arith, g .order, g .high, length-drop at ds)), ap length (data-bytes (part (x .from) (x .to) new)), length-part (x .from) (x .to) new (g .within)))
+    (omega (
+      arith,
+      length-append kept (put-in ++ more),
+      length-append put-in more,
+      length-take-le (x .start - at) (drop at ds) (omega (arith, g .order, g .high, length-drop at ds)),
+      ap length (data-bytes (part (x .from) (x .to) new)),
+      length-part (x .from) (x .to) new (g .within),
+    ))
 
 assoc : (a b c : ℕ) → (a + b) + c ≡ a + (b + c)
 assoc a b c = omega arith
@@ -95,7 +102,8 @@ assoc a b c = omega arith
 -- with no record bad: the end of the last one is within the data, and the size up to there and the rest of the data are the size of the result
 pub result-size : (ds new : List ℕ) (xs : List Replacement) (s : Scan) → s .bad ≡ false → s .at ≤ length ds → recordsFault (s .at) (length ds) (length new) xs ≡ 0
     → (checkAll (length ds) (length new) xs s .at ≤ length ds)
-    × (capped (checkAll (length ds) (length new) xs s .size + (length ds - checkAll (length ds) (length new) xs s .at)) ≡ capped (s .size + length (editData (replaceOps new (s .at) xs) (drop (s .at) ds))))
+    × (capped (checkAll (length ds) (length new) xs s .size + (length ds - checkAll (length ds) (length new) xs s .at))
+    ≡ capped (s .size + length (editData (replaceOps new (s .at) xs) (drop (s .at) ds))))
 result-size ds new [] s ok l h = (l, ap (λ (m : ℕ). capped (s .size + m)) (sym (length-drop (s .at) ds)))
 result-size ds new (x ∷ xs) s ok l h =
     let f = no-eight (badRecord (s .at) (length ds) (length new) x) (recordsFault (x .end) (length ds) (length new) xs) h in

@@ -48,7 +48,8 @@ module _ (ds ns ts new : List ℕ) (x : Replacement) (c : Cursor) (o : Out) (tur
     room-put = fits-first put-in gone (put-in ++ gone) o₁ refl two
 
     -- a is the cursor after keep; the bytes that come in leave b at the same place
-    module _ (o₂ : Out) (w₂ : o₂ ≡ add put-in o₁) (a b : Cursor) (ba : b .at ≡ a .at) (bk : b .k ≡ a .k) (here : a .at ≡ x .start) (behind : left ds ns ts a ≡ back (x .start - c .at) (left ds ns ts c)) where
+    module _ (o₂ : Out) (w₂ : o₂ ≡ add put-in o₁) (a b : Cursor) (ba : b .at ≡ a .at) (bk : b .k ≡ a .k) (here : a .at ≡ x .start)
+        (behind : left ds ns ts a ≡ back (x .start - c .at) (left ds ns ts c)) where
       left-b : left ds ns ts b ≡ back (x .start - c .at) (left ds ns ts c)
       unfolding left
       left-b = (λ i. itemsFrom (ba i) ts (drop (ba i) ds) (entriesOf (drop (bk i) ns))) ∙ behind

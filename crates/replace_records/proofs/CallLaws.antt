@@ -1,4 +1,5 @@
--- The public call from what its five calls say. The plan's refusal is the outcome's, by the laws of the scan and of a call on a content alone; with none, the turns and the end write the result; with one, nothing has moved.
+-- The public call from what its five calls say. The plan's refusal is the outcome's, by the laws of the scan and of a call on a content alone; with none, the turns and the end write the result;
+-- with one, nothing has moved.
 use mathlib.Core.Path.{_≡_, refl, sym, ap, subst, _∙_}
 use mathlib.Core.Bool.{false, cond}
 use mathlib.Core.List.{List, [], _∷_}

@@ -1,4 +1,5 @@
--- One turn, all turns together, and the end. With room: each may be made, and after the last one nothing but the rest of the content is to come (`PlanLaws.State`). Refused: each may be made, and nothing has moved.
+-- One turn, all turns together, and the end. With room: each may be made, and after the last one nothing but the rest of the content is to come (`PlanLaws.State`).
+-- Refused: each may be made, and nothing has moved.
 use mathlib.Core.Path.{_≡_, refl, sym, ap, subst, _∙_}
 use mathlib.Core.List.{List, [], _∷_}
 use Prim.Native.Nat.{ℕ}
@@ -100,7 +101,8 @@ module _ (ds ns ts : List ℕ) (w : World) where
         done = λ r. absurd (not-both (w .work .verdict) f r e);
       }
 
-  pub ended-done : w .work .verdict ≡ S.Room → (c : Cursor) (od oe ot : List ℕ) → out od oe ot c ≡ add (rest ds ns ts (w .work .cursor)) (outOf w) → Ended ds ns ts w (Done (c .d) (c .e) (c .t) 0) od oe ot
+  pub ended-done : w .work .verdict ≡ S.Room → (c : Cursor) (od oe ot : List ℕ) → out od oe ot c ≡ add (rest ds ns ts (w .work .cursor)) (outOf w)
+      → Ended ds ns ts w (Done (c .d) (c .e) (c .t) 0) od oe ot
   ended-done r c od oe ot e =
       record {
         refused = λ g q. absurd (not-both (w .work .verdict) g r q);

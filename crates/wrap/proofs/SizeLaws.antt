@@ -133,4 +133,5 @@ within d e t l o h =
 pub smaller-fits : (d d′ e t l l′ : ℕ) (o : Room) → sizesFault d′ e t l′ o ≡ 0 → d ≤ d′ → l ≤ l′ → sizesFault d e t l o ≡ 0
 smaller-fits d d′ e t l l′ o h p q =
     let w = within d′ e t l′ o h in
-    all-fit d e t l o (omega (arith, w .data-limit)) (omega (arith, w .entry-limit)) (omega (arith, w .text-limit)) (omega (arith, w .data-room)) (w .entry-room) (w .text-room) (omega (arith, w .line-room))
+    all-fit d e t l o (omega (arith, w .data-limit)) (omega (arith, w .entry-limit)) (omega (arith, w .text-limit)) (omega (arith, w .data-room)) (w .entry-room) (w .text-room)
+    (omega (arith, w .line-room))

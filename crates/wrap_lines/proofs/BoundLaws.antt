@@ -30,7 +30,8 @@ head-all m (c ∷ cs) h = rw (le-leb (wide c) m (omega arith)) (ap (λ (l : List
 head-word : (m : ℕ) (d : List ℕ) → 2 * length d ≤ m → headLen m d ≡ length (wordText d)
 unfolding headLen firstHead
 head-word m d h =
-    ap (λ (cs : List Character). length (bytesOf cs)) (head-all m (chars (wordText d)) (omega (arith, word-le d, width-bound (chars (wordText d)) (valid-chars (wordText d)), ap length (bytes-chars (wordText d)))))
+    ap (λ (cs : List Character). length (bytesOf cs)) (head-all m (chars (wordText d))
+    (omega (arith, word-le d, width-bound (chars (wordText d)) (valid-chars (wordText d)), ap length (bytes-chars (wordText d)))))
     ∙ ap length (bytes-chars (wordText d))
 
 -- after a word, where the line goes on, there is whitespace
@@ -45,7 +46,8 @@ word-over (x ∷ d) i = go (eqb x 0x20) refl (eqb x 0x0A) refl i (word-over d)
     go false e true f j h = absurd (false≢true (rw f at j))
     go false e false f j h = h j
 
-gap-after : (w : ℕ) (b : Bool) (d : List ℕ) → (b && ltb 0 w) ≡ false → 2 * length d ≤ unreached → (n k : ℕ) → n ≡ headLen (limitOf w b) d → k ≡ spaceLen (drop n d) → inLine (drop (n + k) d) ≡ true → 1 ≤ k
+gap-after : (w : ℕ) (b : Bool) (d : List ℕ) → (b && ltb 0 w) ≡ false → 2 * length d ≤ unreached → (n k : ℕ) → n ≡ headLen (limitOf w b) d → k ≡ spaceLen (drop n d) → inLine (drop (n + k) d)
+    ≡ true → 1 ≤ k
 unfolding limitOf
 gap-after w b d u s n zero en ek i =
     let l : n ≡ length (wordText d) = rw u at en ∙ head-word unreached d s in
@@ -64,7 +66,8 @@ unfolding inLine
 in-word x d e = rw e
 
 -- a line of the data ends here
-bound-line : (w : ℕ) (b first : Bool) (at end here run x : ℕ) (d : List ℕ) → x ≡ 0x0A → ((at : ℕ) → Bound w b true at at at d (going w b true at at at 0 d)) → Bound w b first at end here (x ∷ d) (going w b first at end here run (x ∷ d))
+bound-line : (w : ℕ) (b first : Bool) (at end here run x : ℕ) (d : List ℕ) → x ≡ 0x0A → ((at : ℕ) → Bound w b true at at at d (going w b true at at at 0 d))
+    → Bound w b first at end here (x ∷ d) (going w b first at end here run (x ∷ d))
 bound-line w b first at end here run x d e B =
     rw (going-line w b first at end here run x d e, rest-start w b (here + 1) d)
     (record {

@@ -91,7 +91,16 @@ module _ (w : ℕ) (b : Bool) (d old lines : List ℕ) (k at : ℕ) (S : Written
   -- there is room for one more
   pub room : length (lineNumbers (wrapLines w b d)) ≤ length old → k + lineSize ≤ length lines
   room h =
-      omega (arith, S .end, S .long, ap length (S .rest), length-append (S .done) (lineNumbers (restLines w b at (drop at d))), ap length (numbers-one w b d at r e), length-append one (lineNumbers (following w b d r)))
+      omega (
+        arith,
+        S .end,
+        S .long,
+        ap length (S .rest),
+        length-append (S .done) (lineNumbers (restLines w b at (drop at d))),
+        ap length (numbers-one w b d at r e),
+        length-append one
+            (lineNumbers (following w b d r)),
+      )
 
   put : (lines′ : List ℕ) → lines′ ≡ overAt k one lines → lines′ ≡ over (S .done ++ one) old
   put lines′ q = q ∙ rw (S .holds, S .end) (put-over (S .done) one old)

@@ -43,22 +43,31 @@ record-at-requires c κs = search needs
 
 write-step-requires : tie.Need-write-step-requires Inv-loop μ-loop
 write-step-requires c κs =
+    let given = c .before .before .before .before .before .before .before .before .before .before .before .before .before .before .pre in
     let a = c .before .before .before .before .before .before .before .before .before .before .before .before .before .before .args in
     let x = c .before .before .before .record-at in
-    may-turn (a .content .now) (a .entries .now) (a .text .now) (a .new .now) (recordsOf (a .records .now)) _ _ _ _ (c .before .before .before .before .before .loop .inv .1) (c .before .before .before .before .before .before .before .before .before .before .before .before .before .before .pre .1 .1) (x .result) _ (x .ensures)
+    may-turn (a .content .now) (a .entries .now) (a .text .now) (a .new .now) (recordsOf (a .records .now)) _ _ _ _ (c .before .before .before .before .before .loop .inv .1) (given .1 .1)
+    (x .result) _ (x .ensures)
 
 add-k : tie.Need-add-k Inv-loop μ-loop
 add-k c =
-    omega (arith, c .before .before .before .before .before .before .before .before .before .before .before .loop-test, c .before .before .before .before .before .before .before .before .before .before .before .before .before .before .before .before .before .before .before .before .before .good)
+    let test = c .before .before .before .before .before .before .before .before .before .before .before .loop-test in
+    omega (arith, test, c .before .before .before .before .before .before .before .before .before .before .before .before .before .before .before .before .before .before .before .before .before .good)
 
 loop-less : tie.Need-loop-less Inv-loop μ-loop
 loop-less c = search needs
 
 loop-again : tie.Need-loop-again Inv-loop μ-loop
 loop-again c =
+    let given = c .before .before .before .before .before .before .before .before .before .before .before .before .before .before .before .before .before .before .before .before .before .pre in
+    let l₀ = c .before .before .before .before .before .before .before .before .before .before .before .before .loop in
+    let step = c .before .before .before .before .before .before .write-step in
     let a = c .before .before .before .before .before .before .before .before .before .before .before .before .before .before .before .before .before .before .before .before .before .args in
-    let x = c .before .before .before .before .before .before .before .before .before .before .record-at in
-    (search needs, state-next (a .content .now) (a .entries .now) (a .text .now) (a .new .now) (recordsOf (a .records .now)) _ _ _ _ (c .before .before .before .before .before .before .before .before .before .before .before .before .loop .inv .1) (c .before .before .before .before .before .before .before .before .before .before .before .before .before .before .before .before .before .before .before .before .before .pre .1 .1) (x .result) _ (x .ensures) _ _ (c .before .before .before .before .before .before .write-step .ensures))
+    let x = c .before .before .before .before .before .before .before .before .before .before .record-at in (
+      search needs,
+      state-next (a .content .now) (a .entries .now) (a .text .now) (a .new .now) (recordsOf (a .records .now)) _ _ _ _ (l₀ .inv .1) (given .1 .1) (x .result) _ (x .ensures) _
+          _ (step .ensures),
+    )
 
 keep-requires : tie.Need-keep-requires Inv-loop μ-loop
 keep-requires c κs =
@@ -66,35 +75,50 @@ keep-requires c κs =
     let l = c .before .before .before .before .loop in
     let s = l .inv .1 in
     let p = c .before .before .before .before .before .before .before .before .before .before .before .before .before .pre in
-    let e = none-left (a .records .now) (l .k) (c .before .before .before .loop-test .left) in
-    (s .ready, ((within (a .content .now) (a .entries .now) (a .text .now) (a .new .now) (recordsOf (a .records .now)) _ _ _ _ s (p .1 .1) e, omega arith), room-last (a .content .now) (a .entries .now) (a .text .now) (a .new .now) (recordsOf (a .records .now)) _ _ _ _ s (p .1 .1) e))
+    let e = none-left (a .records .now) (l .k) (c .before .before .before .loop-test .left) in (
+      s .ready,
+      (
+        (within (a .content .now) (a .entries .now) (a .text .now) (a .new .now) (recordsOf (a .records .now)) _ _ _ _ s (p .1 .1) e, omega arith),
+        room-last (a .content .now)
+            (a .entries .now) (a .text .now) (a .new .now) (recordsOf (a .records .now)) _ _ _ _ s (p .1 .1) e,
+      ),
+    )
 
 same-length : tie.Need-same-length Inv-loop μ-loop
 unfolding out
 same-length c =
+    let given = c .before .before .before .before .before .before .before .before .before .before .before .before .before .before .before .before .before .before .before .before .pre in
+    let l₀ = c .before .before .before .before .before .before .before .before .before .before .before .loop in
     let a = c .before .before .before .before .before .before .before .before .before .before .before .before .before .before .before .before .before .before .before .before .args in
-    let g = long-now (a .content .now) (a .entries .now) (a .text .now) (a .new .now) (recordsOf (a .records .now)) _ _ _ _ (c .before .before .before .before .before .before .before .before .before .before .before .loop .inv .1) (c .before .before .before .before .before .before .before .before .before .before .before .before .before .before .before .before .before .before .before .before .pre .1 .1) in
+    let g = long-now (a .content .now) (a .entries .now) (a .text .now) (a .new .now) (recordsOf (a .records .now)) _ _ _ _ (l₀ .inv .1) (given .1 .1) in
     c .before .before .before .before .before .before .keep .kept .0 ∙ g .dataBytes
 
 same-length-2 : tie.Need-same-length-2 Inv-loop μ-loop
 unfolding out
 same-length-2 c =
+    let given = c .before .before .before .before .before .before .before .before .before .before .before .before .before .before .before .before .before .before .before .before .pre in
+    let l₀ = c .before .before .before .before .before .before .before .before .before .before .before .loop in
     let a = c .before .before .before .before .before .before .before .before .before .before .before .before .before .before .before .before .before .before .before .before .args in
-    let g = long-now (a .content .now) (a .entries .now) (a .text .now) (a .new .now) (recordsOf (a .records .now)) _ _ _ _ (c .before .before .before .before .before .before .before .before .before .before .before .loop .inv .1) (c .before .before .before .before .before .before .before .before .before .before .before .before .before .before .before .before .before .before .before .before .pre .1 .1) in
+    let g = long-now (a .content .now) (a .entries .now) (a .text .now) (a .new .now) (recordsOf (a .records .now)) _ _ _ _ (l₀ .inv .1) (given .1 .1) in
     c .before .before .before .before .before .before .keep .kept .1 .0 ∙ g .entryNumbers
 
 same-length-3 : tie.Need-same-length-3 Inv-loop μ-loop
 unfolding out
 same-length-3 c =
+    let given = c .before .before .before .before .before .before .before .before .before .before .before .before .before .before .before .before .before .before .before .before .pre in
+    let l₀ = c .before .before .before .before .before .before .before .before .before .before .before .loop in
     let a = c .before .before .before .before .before .before .before .before .before .before .before .before .before .before .before .before .before .before .before .before .args in
-    let g = long-now (a .content .now) (a .entries .now) (a .text .now) (a .new .now) (recordsOf (a .records .now)) _ _ _ _ (c .before .before .before .before .before .before .before .before .before .before .before .loop .inv .1) (c .before .before .before .before .before .before .before .before .before .before .before .before .before .before .before .before .before .before .before .before .pre .1 .1) in
+    let g = long-now (a .content .now) (a .entries .now) (a .text .now) (a .new .now) (recordsOf (a .records .now)) _ _ _ _ (l₀ .inv .1) (given .1 .1) in
     c .before .before .before .before .before .before .keep .kept .1 .1 .0 ∙ g .text
 
 returns : tie.Need-returns Inv-loop μ-loop
 returns c =
+    let given = c .before .before .before .before .before .before .before .before .before .before .before .before .before .before .before .before .before .before .before .before .pre in
+    let test = c .before .before .before .before .before .before .before .before .before .before .loop-test in
     let a = c .before .before .before .before .before .before .before .before .before .before .before .before .before .before .before .before .before .before .before .before .args in
     let l = c .before .before .before .before .before .before .before .before .before .before .before .loop in
-    finish (a .content .now) (a .entries .now) (a .text .now) (a .new .now) (recordsOf (a .records .now)) _ _ _ _ (l .inv .1) (c .before .before .before .before .before .before .before .before .before .before .before .before .before .before .before .before .before .before .before .before .pre .1 .1) (none-left (a .records .now) (l .k) (c .before .before .before .before .before .before .before .before .before .before .loop-test .left)) _ (c .before .before .before .before .before .before .keep .ensures .0)
+    finish (a .content .now) (a .entries .now) (a .text .now) (a .new .now) (recordsOf (a .records .now)) _ _ _ _ (l .inv .1) (given .1 .1) (none-left (a .records .now) (l .k) (test .left))
+    _ (c .before .before .before .before .before .before .keep .ensures .0)
 
 pub write-records-spec : {M : Type 1} → statement M
 write-records-spec =

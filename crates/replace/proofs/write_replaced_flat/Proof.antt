@@ -91,7 +91,8 @@ sized c =
     let r = scanned c in
     let s = start (checked r) in
     let d = c .before .capped-add in
-    settled (ds s) (new s) (xs s) (r .check-records .result) (r .check-records .ensures) (no-bad c) (d .result) (length (ns s)) (size (checked r)) (roomIn (lent s)) (d .ensures) (c .settle .result) (c .settle .ensures)
+    settled (ds s) (new s) (xs s) (r .check-records .result) (r .check-records .ensures) (no-bad c) (d .result) (length (ns s)) (size (checked r)) (roomIn (lent s)) (d .ensures)
+    (c .settle .result) (c .settle .ensures)
 
 -- ── what is asked on the way
 check-requires : tie.Need-check-requires
@@ -154,7 +155,8 @@ write-records-requires c κs =
     let p = c .before .before .before .before .before in
     let r = scanned p in
     let s = start (checked r) in
-    let room = has-room (call s) (ds s) (ns s) (ts s) (lent s) (size (checked r)) (fine (checked r) .passed) (fine (checked r) .text-size) (good p) _ 0 refl refl (p .settle .result) (sized p) (c .before .before .before .enum-told .given .1) in
+    let room = has-room (call s) (ds s) (ns s) (ts s) (lent s) (size (checked r)) (fine (checked r) .passed) (fine (checked r) .text-size) (good p) _ 0 refl refl (p .settle .result)
+    (sized p) (c .before .before .before .enum-told .given .1) in
     (fine (checked r) .whole, (good p, room))
 
 same-length : tie.Need-same-length
@@ -174,7 +176,8 @@ returns-4 c =
     let p = t .before .before in
     let r = scanned p in
     let s = start (checked r) in
-    written (call s) (ds s) (ns s) (ts s) (lent s) (size (checked r)) (fine (checked r) .passed) (fine (checked r) .text-size) (good p) _ 0 refl refl (p .settle .result) (sized p) (t .enum-told .given .1)
+    written (call s) (ds s) (ns s) (ts s) (lent s) (size (checked r)) (fine (checked r) .passed) (fine (checked r) .text-size) (good p) _ 0 refl refl (p .settle .result) (sized p)
+    (t .enum-told .given .1)
     0 _ _ _ _ (w .result) refl (w .ensures) refl
 
 pub write-replaced-flat-spec : {M : Type 1} → statement M

@@ -53,7 +53,8 @@ returns-3 c =
     let k = c .before .before .before .before .before .before .before .check in
     let g = c .before .before .before .before .before .checked2 .given in
     let d = c .before .capped-add in
-    by-sizes (a .content .now) (a .entries .now) (a .text .now) (a .s) (roomOf (a .bytes) (a .numbers) (a .texts) 0) (k .result) (k .ensures .0) (g .0 .0) (g .1) (c .before .before .before .if1 .left) (k .ensures .1 .0) (d .result) (d .ensures) (c .settle .result) (c .settle .ensures)
+    by-sizes (a .content .now) (a .entries .now) (a .text .now) (a .s) (roomOf (a .bytes) (a .numbers) (a .texts) 0) (k .result) (k .ensures .0) (g .0 .0) (g .1)
+    (c .before .before .before .if1 .left) (k .ensures .1 .0) (d .result) (d .ensures) (c .settle .result) (c .settle .ensures)
 
 pub judge-spec : {M : Type 1} → statement M
 judge-spec =

@@ -11,6 +11,10 @@ use Rattle.wrap.proofs.put_line.Lts as lts
 use Rattle.writer.proofs.keep.Reads as keep-reads
 use Rattle.writer.proofs.skip.Reads as skip-reads
 
+-- once the bytes before the line are left out: where the function started
+abbrev start : tie.After-skip → tie.Start
+start c = c .before .before .before .before .before .before .before .before .before .before
+
 skip-requires : tie.Need-skip-requires
 skip-requires c κs =
     let p = c .before .before .before .before .before .before .before .before .before .pre in
@@ -18,9 +22,10 @@ skip-requires c κs =
 
 keep-requires : tie.Need-keep-requires
 keep-requires c κs =
-    let a = c .before .before .before .before .before .before .before .before .before .before .before .before .before .before .before .before .before .before .before .args in
-    let p = c .before .before .before .before .before .before .before .before .before .before .before .before .before .before .before .before .before .before .before .pre in
-    let s = c .before .before .before .before .before .before .before .before .before .skip in
+    let q = c .before .before .before .before .before .before .before .before .before in
+    let a = start q .args in
+    let p = start q .pre in
+    let s = q .skip in
     let n = ap (λ (x : ℕ). a .end - x) (s .ensures .1 .1 .1) in
     (s .ensures .1 .1 .0, ((omega (arith, s .ensures .1 .1 .1, p .1 .0 .1), p .1 .0 .2), laws.keep-fits _ _ _ _ _ _ _ (p .1 .1) (s .ensures .0) (s .ensures .1 .0) n))
 
@@ -35,9 +40,10 @@ same-length-3 c = search needs
 
 returns : tie.Need-returns
 returns c =
-    let a = c .before .before .before .before .before .before .before .before .before .before .before .before .before .before .before .before .before .before .before .before .before .before .before .before .before .before .args in
-    let p = c .before .before .before .before .before .before .before .before .before .before .before .before .before .before .before .before .before .before .before .before .before .before .before .before .before .before .pre in
-    let s = c .before .before .before .before .before .before .before .before .before .before .before .before .before .before .before .before .skip in
+    let q = c .before .before .before .before .before .before .before .before .before .before .before .before .before .before .before .before in
+    let a = start q .args in
+    let p = start q .pre in
+    let s = q .skip in
     let k = c .before .before .before .before .before .before .keep in
     let n = ap (λ (x : ℕ). a .end - x) (s .ensures .1 .1 .1) in (
       laws.line-wrote _ _ _ _ _ _ _ (p .1 .1) (s .ensures .0) (s .ensures .1 .0) n _ (k .ensures .0),

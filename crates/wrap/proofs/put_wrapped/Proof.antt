@@ -35,89 +35,111 @@ next-line-requires : tie.Need-next-line-requires Inv-loop μ-loop
 next-line-requires c κs =
     (c .before .before .before .before .before .before .before .before .pre .0, c .loop .inv .0 .within)
 
+-- ── once a line is found: where the function started
+abbrev start : tie.After-next-line Inv-loop μ-loop → tie.Start Inv-loop μ-loop
+start c = c .before .before .before .before .before .before .before .before .before
+
 cast-set-line : tie.Need-cast-set-line Inv-loop μ-loop
 cast-set-line c =
-    omega (arith, c .before .before .loop .inv .0 .within, c .before .before .before .before .before .before .before .before .before .before .pre .1 .0 .short)
+    omega (arith, c .before .before .loop .inv .0 .within, start (c .before) .pre .1 .0 .short)
 
 cast-set-line-2 : tie.Need-cast-set-line-2 Inv-loop μ-loop
 cast-set-line-2 c =
-    omega (arith, c .before .next-line .ensures .1 .1, c .before .before .before .before .before .before .before .before .before .before .pre .1 .0 .short)
+    omega (arith, c .before .next-line .ensures .1 .1, start (c .before) .pre .1 .0 .short)
 
 set-line-requires : tie.Need-set-line-requires Inv-loop μ-loop
 set-line-requires c κs =
     let n = c .before .next-line in
-    lists.room _ _ _ _ _ _ _ (c .before .before .loop .inv .1) (n .result) (n .ensures .0) (c .before .before .before .before .before .before .before .before .before .before .pre .1 .1 .1)
+    lists.room _ _ _ _ _ _ _ (c .before .before .loop .inv .1) (n .result) (n .ensures .0) (start (c .before) .pre .1 .1 .1)
 
 put-line-requires : tie.Need-put-line-requires Inv-loop μ-loop
 put-line-requires c κs =
-    let S = c .before .before .before .before .before .before .before .before .loop .inv .0 in
-    let n = c .before .before .before .before .before .before .before .next-line in
-    (S .ready, ((S .here, n .ensures .1 .0, n .ensures .1 .1), laws.room-line _ _ _ _ _ _ _ _ _ S (c .before .before .before .before .before .before .before .before .before .before .before .before .before .before .before .before .pre .1 .1 .0) (n .result) (n .ensures .0)))
+    let p = c .before .before .before .before .before .before .before in
+    let S = p .before .loop .inv .0 in
+    let n = p .next-line in
+    (S .ready, ((S .here, n .ensures .1 .0, n .ensures .1 .1), laws.room-line _ _ _ _ _ _ _ _ _ S (start p .pre .1 .1 .0) (n .result) (n .ensures .0)))
+
+-- ── once a line is written: where it was found, and where it was listed
+abbrev found : tie.After-put-line Inv-loop μ-loop → tie.After-next-line Inv-loop μ-loop
+found c = c .before .before .before .before .before .before .before .before
+
+abbrev listed : tie.After-put-line Inv-loop μ-loop → tie.After-set-line Inv-loop μ-loop
+listed c = c .before .before .before .before .before .before
 
 put-newline-requires : tie.Need-put-newline-requires Inv-loop μ-loop
 unfolding out
 put-newline-requires c κs =
-    let S = c .before .before .before .before .before .before .before .before .before .before .before .before .before .before .before .before .before .before .loop .inv .0 in
-    let n = c .before .before .before .before .before .before .before .before .before .before .before .before .before .before .before .before .before .next-line in
-    let l = c .before .before .before .before .before .before .before .before .before .put-line .ensures in
-    let f = laws.room-newline _ _ _ _ _ _ _ _ _ S (c .before .before .before .before .before .before .before .before .before .before .before .before .before .before .before .before .before .before .before .before .before .before .before .before .before .before .pre .1 .1 .0) (n .result) (n .ensures .0) _ _ (l .0) (l .1 .0) (l .1 .1 .0) (l .1 .1 .1) (not-false (n .result .more) (c .before .if1 .left)) in
+    let p = c .before .before .before .before .before .before .before .before .before in
+    let n = found p .next-line in
+    let l = p .put-line .ensures in
+    let f = laws.room-newline _ _ _ _ _ _ _ _ _ (found p .before .loop .inv .0) (start (found p) .pre .1 .1 .0) (n .result) (n .ensures .0) _ _ (l .0) (l .1 .0) (l .1 .1 .0) (l .1 .1 .1)
+    (not-false (n .result .more) (c .before .if1 .left)) in
     omega (arith, f .dataBytes)
 
 loop-less : tie.Need-loop-less Inv-loop μ-loop
 loop-less c =
-    let n = c .before .before .before .before .before .before .before .before .before .before .before .before .before .before .before .before .before .before .before .before .next-line in
+    let n = found (c .before .before .before .before .before .before .before .before .before .before .before .before) .next-line in
     omega (arith, n .ensures .1 .2, n .ensures .1 .3 (not-false (n .result .more) (c .before .before .before .before .if1 .left)) .0)
 
 loop-again : tie.Need-loop-again Inv-loop μ-loop
 loop-again c =
-    let S = c .before .before .before .before .before .before .before .before .before .before .before .before .before .before .before .before .before .before .before .before .before .loop .inv in
-    let n = c .before .before .before .before .before .before .before .before .before .before .before .before .before .before .before .before .before .before .before .before .next-line in
-    let l = c .before .before .before .before .before .before .before .before .before .before .before .before .put-line .ensures in
+    let p = c .before .before .before .before .before .before .before .before .before .before .before .before in
+    let S = found p .before .loop .inv in
+    let n = found p .next-line in
+    let l = p .put-line .ensures in
     let w = c .before .before .put-newline .ensures in
-    let s = c .before .before .before .before .before .before .before .before .before .before .before .before .before .before .before .before .before .before .set-line in
+    let s = listed p .set-line in
     let m = not-false (n .result .more) (c .before .before .before .before .if1 .left) in
     let v = bytes-wrote _ _ _ _ (0x0A ∷ []) _ _ (w .1) (w .0 .2) (w .0 .3) (w .0 .4) in (
-      laws.step _ _ _ _ _ _ _ _ _ (S .0) (c .before .before .before .before .before .before .before .before .before .before .before .before .before .before .before .before .before .before .before .before .before .before .before .before .before .before .before .before .before .pre .1 .1 .0) (n .result) (n .ensures .0) _ _ (l .0) (l .1 .0) (l .1 .1 .0) (l .1 .1 .1) m _ _ v (w .0 .0) (w .0 .1) (n .ensures .1 .3 m .1) (n .ensures .1 .2),
+      laws.step _ _ _ _ _ _ _ _ _ (S .0) (start (found p) .pre .1 .1 .0) (n .result) (n .ensures .0) _ _ (l .0) (l .1 .0) (l .1 .1 .0) (l .1 .1 .1) m _ _ v (w .0 .0) (w .0 .1)
+          (n .ensures .1 .3 m .1) (n .ensures .1 .2),
       lists.next _ _ _ _ _ _ _ (S .1) (n .result) (n .ensures .0) _ _ (s .ensures .0) (s .ensures .1) (s .kept .0) m (n .ensures .1 .2),
     )
 
 skip-requires : tie.Need-skip-requires Inv-loop μ-loop
 skip-requires c κs =
-    let n = c .before .before .before .before .before .before .before .before .before .before .before .before .before .before .before .before .before .before .before .next-line in
-    let l = c .before .before .before .before .before .before .before .before .before .before .before .put-line .ensures in
-    let f = laws.room-behind _ _ _ _ _ _ _ _ _ (c .before .before .before .before .before .before .before .before .before .before .before .before .before .before .before .before .before .before .before .before .loop .inv .0) (c .before .before .before .before .before .before .before .before .before .before .before .before .before .before .before .before .before .before .before .before .before .before .before .before .before .before .before .before .pre .1 .1 .0) (n .result) (n .ensures .0) _ _ (l .0) (l .1 .0) (l .1 .1 .0) (l .1 .1 .1) (not-true (n .result .more) (c .before .before .before .if1 .taken)) in
+    let p = c .before .before .before .before .before .before .before .before .before .before .before in
+    let n = found p .next-line in
+    let l = p .put-line .ensures in
+    let f = laws.room-behind _ _ _ _ _ _ _ _ _ (found p .before .loop .inv .0) (start (found p) .pre .1 .1 .0) (n .result) (n .ensures .0) _ _ (l .0) (l .1 .0) (l .1 .1 .0) (l .1 .1 .1)
+    (not-true (n .result .more) (c .before .before .before .if1 .taken)) in
     (l .1 .1 .0, ((omega (arith, l .1 .1 .1, n .ensures .1 .1), omega arith), f))
 
 same-length : tie.Need-same-length Inv-loop μ-loop
 unfolding out
 same-length c =
-    let g = laws.long-now _ _ _ _ _ _ _ _ _ (c .before .before .before .before .before .before .before .before .before .before .before .before .before .before .before .before .before .before .before .before .before .before .before .before .before .before .before .loop .inv .0) (c .before .before .before .before .before .before .before .before .before .before .before .before .before .before .before .before .before .before .before .before .before .before .before .before .before .before .before .before .before .before .before .before .before .before .before .pre .1 .1 .0) in
-    c .before .before .before .before .before .before .skip .kept .0 ∙ c .before .before .before .before .before .before .before .before .before .before .before .before .before .before .before .before .before .before .put-line .kept .0 ∙ g .dataBytes
+    let p = c .before .before .before .before .before .before .before .before .before .before .before .before .before .before .before .before .before .before in
+    let g = laws.long-now _ _ _ _ _ _ _ _ _ (found p .before .loop .inv .0) (start (found p) .pre .1 .1 .0) in
+    c .before .before .before .before .before .before .skip .kept .0 ∙ p .put-line .kept .0 ∙ g .dataBytes
 
 same-length-2 : tie.Need-same-length-2 Inv-loop μ-loop
 unfolding out
 same-length-2 c =
-    let g = laws.long-now _ _ _ _ _ _ _ _ _ (c .before .before .before .before .before .before .before .before .before .before .before .before .before .before .before .before .before .before .before .before .before .before .before .before .before .before .before .loop .inv .0) (c .before .before .before .before .before .before .before .before .before .before .before .before .before .before .before .before .before .before .before .before .before .before .before .before .before .before .before .before .before .before .before .before .before .before .before .pre .1 .1 .0) in
-    c .before .before .before .before .before .before .skip .kept .1 .0 ∙ c .before .before .before .before .before .before .before .before .before .before .before .before .before .before .before .before .before .before .put-line .kept .1 .0 ∙ g .entryNumbers
+    let p = c .before .before .before .before .before .before .before .before .before .before .before .before .before .before .before .before .before .before in
+    let g = laws.long-now _ _ _ _ _ _ _ _ _ (found p .before .loop .inv .0) (start (found p) .pre .1 .1 .0) in
+    c .before .before .before .before .before .before .skip .kept .1 .0 ∙ p .put-line .kept .1 .0 ∙ g .entryNumbers
 
 same-length-3 : tie.Need-same-length-3 Inv-loop μ-loop
 unfolding out
 same-length-3 c =
-    let g = laws.long-now _ _ _ _ _ _ _ _ _ (c .before .before .before .before .before .before .before .before .before .before .before .before .before .before .before .before .before .before .before .before .before .before .before .before .before .before .before .loop .inv .0) (c .before .before .before .before .before .before .before .before .before .before .before .before .before .before .before .before .before .before .before .before .before .before .before .before .before .before .before .before .before .before .before .before .before .before .before .pre .1 .1 .0) in
-    c .before .before .before .before .before .before .skip .kept .1 .1 .0 ∙ c .before .before .before .before .before .before .before .before .before .before .before .before .before .before .before .before .before .before .put-line .kept .1 .1 .0 ∙ g .text
+    let p = c .before .before .before .before .before .before .before .before .before .before .before .before .before .before .before .before .before .before in
+    let g = laws.long-now _ _ _ _ _ _ _ _ _ (found p .before .loop .inv .0) (start (found p) .pre .1 .1 .0) in
+    c .before .before .before .before .before .before .skip .kept .1 .1 .0 ∙ p .put-line .kept .1 .1 .0 ∙ g .text
 
 same-length-4 : tie.Need-same-length-4 Inv-loop μ-loop
 same-length-4 c =
-    c .before .before .before .before .before .before .before .before .before .before .before .before .before .before .before .before .before .before .before .before .before .before .before .before .set-line .kept .0 ∙ c .before .before .before .before .before .before .before .before .before .before .before .before .before .before .before .before .before .before .before .before .before .before .before .before .before .before .before .loop .inv .1 .long
+    let p = c .before .before .before .before .before .before .before .before .before .before .before .before .before .before .before .before .before .before in
+    listed p .set-line .kept .0 ∙ found p .before .loop .inv .1 .long
 
 returns : tie.Need-returns Inv-loop μ-loop
 returns c =
-    let S = c .before .before .before .before .before .before .before .before .before .before .before .before .before .before .before .before .before .before .before .before .before .before .before .before .before .before .before .loop .inv in
-    let n = c .before .before .before .before .before .before .before .before .before .before .before .before .before .before .before .before .before .before .before .before .before .before .before .before .before .before .next-line in
-    let l = c .before .before .before .before .before .before .before .before .before .before .before .before .before .before .before .before .before .before .put-line .ensures in
-    let s = c .before .before .before .before .before .before .before .before .before .before .before .before .before .before .before .before .before .before .before .before .before .before .before .before .set-line in
+    let p = c .before .before .before .before .before .before .before .before .before .before .before .before .before .before .before .before .before .before in
+    let S = found p .before .loop .inv in
+    let n = found p .next-line in
+    let l = p .put-line .ensures in
+    let s = listed p .set-line in
     let m = not-true (n .result .more) (c .before .before .before .before .before .before .before .before .before .before .if1 .taken) in (
-      laws.finish _ _ _ _ _ _ _ _ _ (S .0) (c .before .before .before .before .before .before .before .before .before .before .before .before .before .before .before .before .before .before .before .before .before .before .before .before .before .before .before .before .before .before .before .before .before .before .before .pre .1 .1 .0) (n .result) (n .ensures .0) _ _ (l .0) (l .1 .0) (l .1 .1 .0) (l .1 .1 .1) m _ (c .before .before .before .before .before .before .skip .ensures .0),
+      laws.finish _ _ _ _ _ _ _ _ _ (S .0) (start (found p) .pre .1 .1 .0) (n .result) (n .ensures .0) _ _ (l .0) (l .1 .0) (l .1 .1 .0) (l .1 .1 .1) m _ (c .before .before .before .before .before .before .skip .ensures .0),
       (lists.last _ _ _ _ _ _ _ (S .1) (n .result) (n .ensures .0) _ (s .ensures .1) m, lists.last-count _ _ _ _ _ _ _ (S .1) (n .result) (n .ensures .0) (s .result) (s .ensures .0) m),
     )
 

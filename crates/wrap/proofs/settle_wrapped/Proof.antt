@@ -40,7 +40,13 @@ returns c =
     let a = c .before .before .before .before .before .before .args in
     let ls = wrapLines (a .width) (a .break-words) (a .content .now) in
     let h = sym (c .before .before .settle .ensures) ∙ ap settledFault (c .enum-told .given .1) in
-    sym (smaller-fits _ _ _ _ _ _ _ h (c .before .before .before .before .most-bytes .ensures) (omega (arith, numbers-length ls, lines-few (a .width) (a .break-words) (a .content .now) (c .before .before .before .before .before .before .pre .1), c .before .before .before .numbers-of .ensures)))
+    sym (smaller-fits _ _ _ _ _ _ _ h (c .before .before .before .before .most-bytes .ensures)
+    (omega (
+      arith,
+      numbers-length ls,
+      lines-few (a .width) (a .break-words) (a .content .now) (c .before .before .before .before .before .before .pre .1),
+      c .before .before .before .numbers-of .ensures,
+    )))
 
 enum-told-2 : tie.Need-enum-told-2
 enum-told-2 c = search needs

@@ -82,7 +82,8 @@ returns-2 : tie.Need-returns-2
 returns-2 c =
     let p = c .before .before .before in
     let s = start (checked p) in
-    sizes-refused (call s) (ds s) (ns s) (ts s) (lent s) (size (checked p)) (fine (checked p) .passed) (fine (checked p) .text-size) refl _ _ (data-size _ _ _) refl (p .settle-wrapped .result) (p .settle-wrapped .ensures)
+    sizes-refused (call s) (ds s) (ns s) (ts s) (lent s) (size (checked p)) (fine (checked p) .passed) (fine (checked p) .text-size) refl _ _ (data-size _ _ _) refl
+    (p .settle-wrapped .result) (p .settle-wrapped .ensures)
     (c .before .verdict .given .0 .0) (c .before .verdict .given .1)
 
 enum-told : tie.Need-enum-told
@@ -94,7 +95,8 @@ put-wrapped-requires c κs =
     let p = c .before .before .before .before .before .before .before in
     let s = start (checked p) in
     let q = c .before .before .before .before .before .enum-told .given .1 in
-    let room = has-room (call s) (ds s) (ns s) (ts s) (lent s) (size (checked p)) (fine (checked p) .passed) (fine (checked p) .text-size) refl _ _ (data-size _ _ _) refl (p .settle-wrapped .result) (p .settle-wrapped .ensures) q in
+    let room = has-room (call s) (ds s) (ns s) (ts s) (lent s) (size (checked p)) (fine (checked p) .passed) (fine (checked p) .text-size) refl _ _ (data-size _ _ _) refl
+    (p .settle-wrapped .result) (p .settle-wrapped .ensures) q in
     (search needs, (fine (checked p) .whole, (room, within _ _ _ _ _ (sym (p .settle-wrapped .ensures) ∙ ap settledFault q) .line-room)))
 
 same-length : tie.Need-same-length
@@ -116,7 +118,8 @@ returns-3 c =
     let t = c .before .before .before .before .before .before .before .before .before .before .before .before .before .before .before in
     let p = t .before .before in
     let s = start (checked p) in
-    written (call s) (ds s) (ns s) (ts s) (lent s) (size (checked p)) (fine (checked p) .passed) (fine (checked p) .text-size) refl _ _ (data-size _ _ _) refl (p .settle-wrapped .result) (p .settle-wrapped .ensures) (t .enum-told .given .1)
+    written (call s) (ds s) (ns s) (ts s) (lent s) (size (checked p)) (fine (checked p) .passed) (fine (checked p) .text-size) refl _ _ (data-size _ _ _) refl (p .settle-wrapped .result)
+    (p .settle-wrapped .ensures) (t .enum-told .given .1)
     (w .result .count) _ _ _ _ (w .result .cursor) (sym (w .ensures .1 .1)) (w .ensures .0) (w .ensures .1 .0)
 
 pub write-wrapped-spec : {M : Type 1} → statement M

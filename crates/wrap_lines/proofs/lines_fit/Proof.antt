@@ -27,7 +27,14 @@ numbers-of-requires c κs = search needs
 returns : tie.Need-returns
 returns c =
     let a = c .before .before .before .args in
-    sym (le-leb (length (lineNumbers (wrapLines (a .width) (a .break-words) (a .«data» .now)))) (a .room) (omega (arith, numbers-length (wrapLines (a .width) (a .break-words) (a .«data» .now)), lines-few (a .width) (a .break-words) (a .«data» .now) (c .before .before .before .pre .1), c .before .numbers-of .ensures, c .if1 .taken)))
+    sym (le-leb (length (lineNumbers (wrapLines (a .width) (a .break-words) (a .«data» .now)))) (a .room)
+    (omega (
+      arith,
+      numbers-length (wrapLines (a .width) (a .break-words) (a .«data» .now)),
+      lines-few (a .width) (a .break-words) (a .«data» .now) (c .before .before .before .pre .1),
+      c .before .numbers-of .ensures,
+      c .if1 .taken,
+    )))
 
 count-lines-requires : tie.Need-count-lines-requires
 count-lines-requires c κs = search needs

@@ -45,9 +45,10 @@ loop-less c =
 
 loop-again : tie.Need-loop-again Inv-loop μ-loop
 loop-again c =
+    let l₀ = c .before .before .before .before .before .before .before .loop in
     let l = c .before .before .before .before .before .before .next-line in
     let s = c .before .before .before .before .set-line in
-    laws.next _ _ _ _ _ _ _ (c .before .before .before .before .before .before .before .loop .inv) (l .result) (l .ensures .0) _ _ (s .ensures .0) (s .ensures .1) (s .kept .0) (not-false (l .result .more) (c .if1 .left)) (l .ensures .1 .2)
+    laws.next _ _ _ _ _ _ _ (l₀ .inv) (l .result) (l .ensures .0) _ _ (s .ensures .0) (s .ensures .1) (s .kept .0) (not-false (l .result .more) (c .if1 .left)) (l .ensures .1 .2)
 
 same-length : tie.Need-same-length Inv-loop μ-loop
 same-length c =
