@@ -1,15 +1,8 @@
 """The expected outputs of the programs that test one call or a few: chars_test, recorder_test, truncate_test, pad_test, indent_test, wrap_test, replace_test, elide_test."""
-from ruszvedok_model import call, char_width, chars, recording, text_width, truncate_end_pos, truncate_start_pos, trimmed, well_formed, width_of
+from printing import hexed, spaced
+from ruszvedok_model import TWO, ZERO, call, char_width, chars, recording, text_width, truncate_end_pos, truncate_start_pos, trimmed, well_formed, width_of
 
 NONE = recording(b"")
-
-
-def spaced(numbers):
-    return b"".join(b" %d" % n for n in numbers)
-
-
-def hexed(data):
-    return b"".join(b" %02x" % b for b in data)
 
 
 # ── pad_test and indent_test: `_` and 9 where nothing was written, 0A shown as `$`
@@ -309,7 +302,6 @@ def in_range(first, last):
 
 
 def chars_test():
-    from ruszvedok_model import TWO, ZERO
     rows = """c0afe080bff0818241 eda080edbfbfedaf41 f4919293ff4180bf42 e180e2f09192f1bf41 007f c280dfbf e0a080e0bfbf e18080ecbfbf ed8080ed9fbf ee8080efbfbf f0908080f0bfbfbf
         f1808080f3bfbfbf f4808080f48fbfbf 80 bf c080 c1bf f5808080 fffe 8080bfbf c27f dfc0 e09fbf e0c080 e17f80 ecc080 ed7fbf eda080 ee7f80 efc080 f08fbfbf f0c08080 f17f8080 f3c08080
         f47f8080 f4908080 e08080 f0808080 e1807f e180c0 f1807f80 f180c080 f180807f f18080c0 c2 e0 e0a0 e180 ed9f f0 f090 f09080 f48fbf 61f48fbf""".split()

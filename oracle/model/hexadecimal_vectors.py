@@ -3,9 +3,7 @@
 It has nineteen fields: the call's number, whether its expectation is right, content, second recording, width and break, the answer's five numbers, the buffers after.
 """
 import ruszvedok_model as model
-
-NAMES = ("text_width well_formed truncate_end_pos truncate_start_pos zero_width_len replay write_truncated_start write_truncated_end write_padded_start write_padded_end "
-         "write_padded_centered write_indented wrap_bytes write_wrapped write_replaced elide_start elide_end complete_newline write push_label pop_label raw").split()
+from vectors import NAMES
 
 
 def bytes_in(field):

@@ -3,8 +3,8 @@ from pathlib import Path
 
 import call_tests
 import vectors
-from call_tests import spaced
 from lists import result_of
+from printing import spaced
 from ruszvedok_model import call, recording, wraplist
 
 CRATES = Path(__file__).resolve().parents[2] / "crates"

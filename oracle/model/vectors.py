@@ -5,10 +5,12 @@ or numbers, `*N` behind one that comes N times. `N:list` is a buffer of N places
 """
 import re
 
-import hexadecimal_vectors
 import ruszvedok_model as model
 
-NAMES = hexadecimal_vectors.NAMES + ["char_width", "read_char", "trim_start_zero_width_chars"]
+NAMES = ("text_width well_formed truncate_end_pos truncate_start_pos zero_width_len replay write_truncated_start write_truncated_end write_padded_start write_padded_end "
+         "write_padded_centered write_indented wrap_bytes write_wrapped write_replaced elide_start elide_end complete_newline write push_label pop_label raw "
+         "char_width read_char trim_start_zero_width_chars").split()
+KEYS = "data entries text second second_entries second_text records new added used width break code answer out out_entries out_text lines characters".split()
 WORDS = {"push": 0, "pop": 1, "raw": 2}
 ESCAPES = {"n": 0x0A, "t": 0x09}
 FIELD = re.compile(r'(?:[^ "]|"[^"]*")+')
@@ -55,6 +57,8 @@ class Line:
         self.right = not line.startswith("!")
         self.name, *fields = FIELD.findall(line.lstrip("!"))
         self.fields = dict(f.split("=", 1) for f in fields)
+        if self.name not in NAMES or not all(key in KEYS for key in self.fields):
+            raise ValueError(f"no such call or field: {line[:80]}")
 
     def bytes(self, key):
         return bytes(buffer(self.fields.get(key, ""), 0xA5))
@@ -120,13 +124,16 @@ class Line:
 
 
 def parsed(line):
-    return hexadecimal_vectors.Vector(line) if line[0].isdigit() else Line(line)
+    if line[0].isdigit():
+        from hexadecimal_vectors import Vector      # the older form
+        return Vector(line)
+    return Line(line)
 
 
 def check(text):
     """The rows that the program prints, and the lines where the model says otherwise than the file."""
     lines = [(number, parsed(line)) for number, line in enumerate(text.split("\n"), 1) if line and not line.startswith("#")]
-    names = [name for name in NAMES if name in hexadecimal_vectors.NAMES or any(isinstance(line, Line) for _, line in lines)] + ["wrong"]
+    names = (NAMES if any(isinstance(line, Line) for _, line in lines) else NAMES[:22]) + ["wrong"]
     total, agreed, differing = dict.fromkeys(names, 0), dict.fromkeys(names, 0), []
     for number, line in lines:
         row = line.name if line.right else "wrong"
