@@ -27,7 +27,7 @@ ghost use Rattle.layout.specs.Lent.{lentOf, Leaves};
 ghost use Rattle.pad.specs.Padding.{repeated, onceIf, sides, leftOf, kindOf};
 
 // Where the fill goes.
-pub enum Side {
+enum Side {
     // All of it before the content.
     Start,
     // All of it behind the content.
