@@ -35,6 +35,10 @@ loop-holds c =
     let p = c .before .before .before .before .before .before .before .before .pre in
     (omega arith, state-first _ _ _ _ _ _ _ refl refl (p .0) (p .1 .0))
 
+-- at the loop's head: where the function started
+abbrev start : tie.At-loop Inv-loop μ-loop → tie.Start Inv-loop μ-loop
+start c = c .before .before .before .before .before .before .before .before .before
+
 add-loop : tie.Need-add-loop Inv-loop μ-loop
 add-loop c = search needs
 
@@ -43,82 +47,76 @@ record-at-requires c κs = search needs
 
 write-step-requires : tie.Need-write-step-requires Inv-loop μ-loop
 write-step-requires c κs =
-    let given = c .before .before .before .before .before .before .before .before .before .before .before .before .before .before .pre in
-    let a = c .before .before .before .before .before .before .before .before .before .before .before .before .before .before .args in
+    let l = c .before .before .before .before .before in
+    let a = start l .args in
     let x = c .before .before .before .record-at in
-    may-turn (a .content .now) (a .entries .now) (a .text .now) (a .new .now) (recordsOf (a .records .now)) _ _ _ _ (c .before .before .before .before .before .loop .inv .1) (given .1 .1)
-    (x .result) _ (x .ensures)
+    may-turn (a .content .now) (a .entries .now) (a .text .now) (a .new .now) (recordsOf (a .records .now)) _ _ _ _ (l .loop .inv .1) (start l .pre .1 .1) (x .result) _ (x .ensures)
 
 add-k : tie.Need-add-k Inv-loop μ-loop
 add-k c =
-    let test = c .before .before .before .before .before .before .before .before .before .before .before .loop-test in
-    omega (arith, test, c .before .before .before .before .before .before .before .before .before .before .before .before .before .before .before .before .before .before .before .before .before .good)
+    let l = c .before .before .before .before .before .before .before .before .before .before .before .before in
+    omega (arith, c .before .before .before .before .before .before .before .before .before .before .before .loop-test, start l .good)
 
 loop-less : tie.Need-loop-less Inv-loop μ-loop
 loop-less c = search needs
 
 loop-again : tie.Need-loop-again Inv-loop μ-loop
 loop-again c =
-    let given = c .before .before .before .before .before .before .before .before .before .before .before .before .before .before .before .before .before .before .before .before .before .pre in
-    let l₀ = c .before .before .before .before .before .before .before .before .before .before .before .before .loop in
-    let step = c .before .before .before .before .before .before .write-step in
-    let a = c .before .before .before .before .before .before .before .before .before .before .before .before .before .before .before .before .before .before .before .before .before .args in
+    let l = c .before .before .before .before .before .before .before .before .before .before .before .before in
+    let a = start l .args in
     let x = c .before .before .before .before .before .before .before .before .before .before .record-at in (
-      search needs,
-      state-next (a .content .now) (a .entries .now) (a .text .now) (a .new .now) (recordsOf (a .records .now)) _ _ _ _ (l₀ .inv .1) (given .1 .1) (x .result) _ (x .ensures) _
-          _ (step .ensures),
+      omega (arith, c .before .before .before .before .before .before .before .before .before .before .before .loop-test),
+      state-next (a .content .now) (a .entries .now) (a .text .now) (a .new .now) (recordsOf (a .records .now)) _ _ _ _ (l .loop .inv .1) (start l .pre .1 .1) (x .result) _ (x .ensures) _ _
+          (c .before .before .before .before .before .before .write-step .ensures),
     )
 
 keep-requires : tie.Need-keep-requires Inv-loop μ-loop
 keep-requires c κs =
-    let a = c .before .before .before .before .before .before .before .before .before .before .before .before .before .args in
-    let l = c .before .before .before .before .loop in
+    let h = c .before .before .before .before in
+    let a = start h .args in
+    let l = h .loop in
     let s = l .inv .1 in
-    let p = c .before .before .before .before .before .before .before .before .before .before .before .before .before .pre in
+    let p = start h .pre in
     let e = none-left (a .records .now) (l .k) (c .before .before .before .loop-test .left) in (
       s .ready,
       (
         (within (a .content .now) (a .entries .now) (a .text .now) (a .new .now) (recordsOf (a .records .now)) _ _ _ _ s (p .1 .1) e, omega arith),
-        room-last (a .content .now)
-            (a .entries .now) (a .text .now) (a .new .now) (recordsOf (a .records .now)) _ _ _ _ s (p .1 .1) e,
+        room-last (a .content .now) (a .entries .now) (a .text .now) (a .new .now) (recordsOf (a .records .now)) _ _ _ _ s (p .1 .1) e,
       ),
     )
 
 same-length : tie.Need-same-length Inv-loop μ-loop
 unfolding out
 same-length c =
-    let given = c .before .before .before .before .before .before .before .before .before .before .before .before .before .before .before .before .before .before .before .before .pre in
-    let l₀ = c .before .before .before .before .before .before .before .before .before .before .before .loop in
-    let a = c .before .before .before .before .before .before .before .before .before .before .before .before .before .before .before .before .before .before .before .before .args in
-    let g = long-now (a .content .now) (a .entries .now) (a .text .now) (a .new .now) (recordsOf (a .records .now)) _ _ _ _ (l₀ .inv .1) (given .1 .1) in
+    let l = c .before .before .before .before .before .before .before .before .before .before .before in
+    let a = start l .args in
+    let g = long-now (a .content .now) (a .entries .now) (a .text .now) (a .new .now) (recordsOf (a .records .now)) _ _ _ _ (l .loop .inv .1) (start l .pre .1 .1) in
     c .before .before .before .before .before .before .keep .kept .0 ∙ g .dataBytes
 
 same-length-2 : tie.Need-same-length-2 Inv-loop μ-loop
 unfolding out
 same-length-2 c =
-    let given = c .before .before .before .before .before .before .before .before .before .before .before .before .before .before .before .before .before .before .before .before .pre in
-    let l₀ = c .before .before .before .before .before .before .before .before .before .before .before .loop in
-    let a = c .before .before .before .before .before .before .before .before .before .before .before .before .before .before .before .before .before .before .before .before .args in
-    let g = long-now (a .content .now) (a .entries .now) (a .text .now) (a .new .now) (recordsOf (a .records .now)) _ _ _ _ (l₀ .inv .1) (given .1 .1) in
+    let l = c .before .before .before .before .before .before .before .before .before .before .before in
+    let a = start l .args in
+    let g = long-now (a .content .now) (a .entries .now) (a .text .now) (a .new .now) (recordsOf (a .records .now)) _ _ _ _ (l .loop .inv .1) (start l .pre .1 .1) in
     c .before .before .before .before .before .before .keep .kept .1 .0 ∙ g .entryNumbers
 
 same-length-3 : tie.Need-same-length-3 Inv-loop μ-loop
 unfolding out
 same-length-3 c =
-    let given = c .before .before .before .before .before .before .before .before .before .before .before .before .before .before .before .before .before .before .before .before .pre in
-    let l₀ = c .before .before .before .before .before .before .before .before .before .before .before .loop in
-    let a = c .before .before .before .before .before .before .before .before .before .before .before .before .before .before .before .before .before .before .before .before .args in
-    let g = long-now (a .content .now) (a .entries .now) (a .text .now) (a .new .now) (recordsOf (a .records .now)) _ _ _ _ (l₀ .inv .1) (given .1 .1) in
+    let l = c .before .before .before .before .before .before .before .before .before .before .before in
+    let a = start l .args in
+    let g = long-now (a .content .now) (a .entries .now) (a .text .now) (a .new .now) (recordsOf (a .records .now)) _ _ _ _ (l .loop .inv .1) (start l .pre .1 .1) in
     c .before .before .before .before .before .before .keep .kept .1 .1 .0 ∙ g .text
 
 returns : tie.Need-returns Inv-loop μ-loop
 returns c =
-    let given = c .before .before .before .before .before .before .before .before .before .before .before .before .before .before .before .before .before .before .before .before .pre in
-    let test = c .before .before .before .before .before .before .before .before .before .before .loop-test in
-    let a = c .before .before .before .before .before .before .before .before .before .before .before .before .before .before .before .before .before .before .before .before .args in
-    let l = c .before .before .before .before .before .before .before .before .before .before .before .loop in
-    finish (a .content .now) (a .entries .now) (a .text .now) (a .new .now) (recordsOf (a .records .now)) _ _ _ _ (l .inv .1) (given .1 .1) (none-left (a .records .now) (l .k) (test .left))
-    _ (c .before .before .before .before .before .before .keep .ensures .0)
+    let h = c .before .before .before .before .before .before .before .before .before .before .before in
+    let a = start h .args in
+    let l = h .loop in
+    finish (a .content .now) (a .entries .now) (a .text .now) (a .new .now) (recordsOf (a .records .now)) _ _ _ _ (l .inv .1) (start h .pre .1 .1)
+    (none-left (a .records .now) (l .k) (c .before .before .before .before .before .before .before .before .before .before .loop-test .left)) _
+    (c .before .before .before .before .before .before .keep .ensures .0)
 
 pub write-records-spec : {M : Type 1} → statement M
 write-records-spec =
