@@ -59,21 +59,29 @@ table =
     -- C8
     layoutCase (row (widthOf (0xE6 ∷ 0x9C ∷ 0x41 ∷ [])) (numbers (2 ∷ []))) ∷
     -- C9
-    layoutCase (row (call (truncateEnd 4 (recording (0x2E ∷ 0x2E ∷ []) [] [])) roomy (recording (0x73 ∷ 0x70 ∷ 0x72 ∷ 0x75 ∷ 0x63 ∷ 0x65 ∷ []) [] [])) (outcomeOf (done (record { recording = recording (0x73 ∷ 0x70 ∷ 0x2E ∷ 0x2E ∷ []) [] []; lines = []; number = 4 })))) ∷
+    layoutCase (row (call (truncateEnd 4 (recording (0x2E ∷ 0x2E ∷ []) [] [])) roomy (recording (0x73 ∷ 0x70 ∷ 0x72 ∷ 0x75 ∷ 0x63 ∷ 0x65 ∷ []) [] []))
+    (outcomeOf (done (record { recording = recording (0x73 ∷ 0x70 ∷ 0x2E ∷ 0x2E ∷ []) [] []; lines = []; number = 4 })))) ∷
     -- C10
-    layoutCase (row (call (truncateStart 4 (recording (0x2E ∷ 0x2E ∷ []) [] [])) roomy (recording (0x73 ∷ 0x70 ∷ 0x72 ∷ 0x75 ∷ 0x63 ∷ 0x65 ∷ []) [] [])) (outcomeOf (done (record { recording = recording (0x2E ∷ 0x2E ∷ 0x63 ∷ 0x65 ∷ []) [] []; lines = []; number = 4 })))) ∷
+    layoutCase (row (call (truncateStart 4 (recording (0x2E ∷ 0x2E ∷ []) [] [])) roomy (recording (0x73 ∷ 0x70 ∷ 0x72 ∷ 0x75 ∷ 0x63 ∷ 0x65 ∷ []) [] []))
+    (outcomeOf (done (record { recording = recording (0x2E ∷ 0x2E ∷ 0x63 ∷ 0x65 ∷ []) [] []; lines = []; number = 4 })))) ∷
     -- C11
-    layoutCase (row (call (truncateEnd 1 (recording (0x2E ∷ 0x2E ∷ []) [] [])) roomy (recording (0x73 ∷ 0x70 ∷ 0x72 ∷ 0x75 ∷ 0x63 ∷ 0x65 ∷ []) [] [])) (outcomeOf (done (record { recording = recording (0x2E ∷ []) [] []; lines = []; number = 1 })))) ∷
+    layoutCase (row (call (truncateEnd 1 (recording (0x2E ∷ 0x2E ∷ []) [] [])) roomy (recording (0x73 ∷ 0x70 ∷ 0x72 ∷ 0x75 ∷ 0x63 ∷ 0x65 ∷ []) [] []))
+    (outcomeOf (done (record { recording = recording (0x2E ∷ []) [] []; lines = []; number = 1 })))) ∷
     -- C12
-    layoutCase (row (call (padCentered 6 (recording (0x2E ∷ []) [] [])) roomy (recording (0x66 ∷ 0x69 ∷ 0x72 ∷ []) [] [])) (outcomeOf (done (record { recording = recording (0x2E ∷ 0x66 ∷ 0x69 ∷ 0x72 ∷ 0x2E ∷ 0x2E ∷ []) [] []; lines = []; number = 0 })))) ∷
+    layoutCase (row (call (padCentered 6 (recording (0x2E ∷ []) [] [])) roomy (recording (0x66 ∷ 0x69 ∷ 0x72 ∷ []) [] []))
+    (outcomeOf (done (record { recording = recording (0x2E ∷ 0x66 ∷ 0x69 ∷ 0x72 ∷ 0x2E ∷ 0x2E ∷ []) [] []; lines = []; number = 0 })))) ∷
     -- C13
-    layoutCase (row (call (indent (recording (0x3E ∷ 0x20 ∷ []) [] [])) roomy (recording (0x61 ∷ 0x0A ∷ 0x0A ∷ 0x62 ∷ []) [] [])) (outcomeOf (done (record { recording = recording (0x3E ∷ 0x20 ∷ 0x61 ∷ 0x0A ∷ 0x0A ∷ 0x3E ∷ 0x20 ∷ 0x62 ∷ []) [] []; lines = []; number = 0 })))) ∷
+    layoutCase (row (call (indent (recording (0x3E ∷ 0x20 ∷ []) [] [])) roomy (recording (0x61 ∷ 0x0A ∷ 0x0A ∷ 0x62 ∷ []) [] []))
+    (outcomeOf (done (record { recording = recording (0x3E ∷ 0x20 ∷ 0x61 ∷ 0x0A ∷ 0x0A ∷ 0x3E ∷ 0x20 ∷ 0x62 ∷ []) [] []; lines = []; number = 0 })))) ∷
     -- C14
-    layoutCase (row (call (replace (replacement 1 3 0 1 ∷ replacement 6 6 1 2 ∷ []) (0x58 ∷ 0x59 ∷ [])) roomy (recording (0x61 ∷ 0x62 ∷ 0x63 ∷ 0x64 ∷ 0x65 ∷ 0x66 ∷ []) [] [])) (outcomeOf (done (record { recording = recording (0x61 ∷ 0x58 ∷ 0x64 ∷ 0x65 ∷ 0x66 ∷ 0x59 ∷ []) [] []; lines = []; number = 0 })))) ∷
+    layoutCase (row (call (replace (replacement 1 3 0 1 ∷ replacement 6 6 1 2 ∷ []) (0x58 ∷ 0x59 ∷ [])) roomy (recording (0x61 ∷ 0x62 ∷ 0x63 ∷ 0x64 ∷ 0x65 ∷ 0x66 ∷ []) [] []))
+    (outcomeOf (done (record { recording = recording (0x61 ∷ 0x58 ∷ 0x64 ∷ 0x65 ∷ 0x66 ∷ 0x59 ∷ []) [] []; lines = []; number = 0 })))) ∷
     -- C15
     plainCase c15 ∷
     -- C16: the 0A at 2 has no label, the pop is at 2
-    layoutCase (row (call (wrap 2 false) roomy (recording (0x61 ∷ 0x62 ∷ 0x20 ∷ 0x63 ∷ 0x64 ∷ []) (0 ∷ 0 ∷ 0 ∷ 1 ∷ 2 ∷ 1 ∷ 0 ∷ 0 ∷ []) (0x4C ∷ []))) (outcomeOf (done (record { recording = recording (0x61 ∷ 0x62 ∷ 0x0A ∷ 0x63 ∷ 0x64 ∷ []) (0 ∷ 0 ∷ 0 ∷ 1 ∷ 2 ∷ 1 ∷ 0 ∷ 0 ∷ []) (0x4C ∷ []); lines = (0 ∷ 2 ∷ 3 ∷ 5 ∷ []); number = 2 })))) ∷
+    layoutCase (row (call (wrap 2 false) roomy (recording (0x61 ∷ 0x62 ∷ 0x20 ∷ 0x63 ∷ 0x64 ∷ []) (0 ∷ 0 ∷ 0 ∷ 1 ∷ 2 ∷ 1 ∷ 0 ∷ 0 ∷ []) (0x4C ∷ [])))
+    (outcomeOf (done (record { recording = recording (0x61 ∷ 0x62 ∷ 0x0A ∷ 0x63 ∷ 0x64 ∷ []) (0 ∷ 0 ∷ 0 ∷ 1 ∷ 2 ∷ 1 ∷ 0 ∷ 0 ∷ []) (0x4C ∷ []); lines = (0 ∷ 2 ∷ 3 ∷ 5 ∷ []); number = 2 })))) ∷
     -- outside demand 3: fill `ab` with an entry at 1, twice, gives `aabb`
-    layoutCase (row (call (padEnd 2 (recording (0x61 ∷ 0x62 ∷ []) (1 ∷ 2 ∷ 0 ∷ 1 ∷ []) (0x1B ∷ []))) roomy (recording [] [] [])) (outcomeOf (done (record { recording = recording (0x61 ∷ 0x61 ∷ 0x62 ∷ 0x62 ∷ []) (2 ∷ 2 ∷ 0 ∷ 1 ∷ []) (0x1B ∷ []); lines = []; number = 0 })))) ∷
+    layoutCase (row (call (padEnd 2 (recording (0x61 ∷ 0x62 ∷ []) (1 ∷ 2 ∷ 0 ∷ 1 ∷ []) (0x1B ∷ []))) roomy (recording [] [] []))
+    (outcomeOf (done (record { recording = recording (0x61 ∷ 0x61 ∷ 0x62 ∷ 0x62 ∷ []) (2 ∷ 2 ∷ 0 ∷ 1 ∷ []) (0x1B ∷ []); lines = []; number = 0 })))) ∷
     []

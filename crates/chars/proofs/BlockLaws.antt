@@ -33,7 +33,14 @@ fits-by w x y z low high p q true o c l h f g e =
     let k = f e in
     record {
       lead = λ d. absurd (o refl d);
-      more = λ d. (omega (arith, k .0, l .0), omega (arith, k .1, h .0), (λ j. omega (arith, k .0, l .1 j)), (λ j. omega (arith, k .0, l .2 j)), (λ j. omega (arith, k .1, h .1 j)), (λ j. omega (arith, k .1, h .2 j)));
+      more = λ d. (
+        omega (arith, k .0, l .0),
+        omega (arith, k .1, h .0),
+        (λ j. omega (arith, k .0, l .1 j)),
+        (λ j. omega (arith, k .0, l .2 j)),
+        (λ j. omega (arith, k .1, h .1 j)),
+        (λ j. omega (arith, k .1, h .2 j)),
+      );
     }
 fits-by w x y z low high p q false o c l h f g e = record { lead = λ d. g e; more = λ d. absurd (d (c refl)) }
 
@@ -156,7 +163,17 @@ row-f0 a e = rw e refl
 row-f1 : (a : ℕ) → 0xF1 ≤ a → a ≤ 0xF3 → rowOf a ≡ span 0xF1 0xF3 ∷ columns 4 0x80 0xBF
 unfolding rowOf table37
 row-f1 a p q =
-    simp (above 0x00 0x7F a (omega arith), above 0xC2 0xDF a (omega arith), above 0xE0 0xE0 a (omega arith), above 0xE1 0xEC a (omega arith), above 0xED 0xED a (omega arith), above 0xEE 0xEF a (omega arith), above 0xF0 0xF0 a (omega arith), in-span 0xF1 0xF3 a p q)
+    simp (
+      above 0x00 0x7F a (omega arith),
+      above 0xC2 0xDF a (omega arith),
+      above 0xE0 0xE0 a (omega arith),
+      above 0xE1 0xEC a (omega arith),
+      above 0xED 0xED a (omega arith),
+      above
+          0xEE 0xEF a (omega arith),
+      above 0xF0 0xF0 a (omega arith),
+      in-span 0xF1 0xF3 a p q,
+    )
 
 row-f4 : (a : ℕ) → a ≡ 0xF4 → rowOf a ≡ span 0xF4 0xF4 ∷ columns 4 0x80 0x8F
 unfolding rowOf table37
@@ -343,7 +360,8 @@ ended-before w x y z f h = record {
 
 passed : (s : List ℕ) (e r : ℕ) → e ≤ length s → Fitting 0 e s → r ≤ e → (r ≡ e → EndsAt e s) → (r < e → 0xC0 ≤ getD s r 0) → allOk (chars (drop r s)) ≡ wellFormed s
 unfolding wellFormed
-passed s e r h fit p q l = sym (passes r s 0 r (omega arith) (omega arith) (omega arith) (record { second = omega arith; third = omega arith; fourth = omega arith }) (ends (leb e r) refl) (λ i u v. fit i u (omega arith)))
+passed s e r h fit p q l = sym (passes r s 0 r (omega arith) (omega arith) (omega arith) (record { second = omega arith; third = omega arith; fourth = omega arith })
+    (ends (leb e r) refl) (λ i u v. fit i u (omega arith)))
   where
     ends : (t : Bool) → leb e r ≡ t → EndsAt r s
     ends true k =

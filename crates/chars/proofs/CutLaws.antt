@@ -94,7 +94,8 @@ kept-back m (c ∷ cs) = ap (λ (l : List Character). keptWithin m l) (reverse-c
     go false e true e′ ih =
         let k = leb-false (wide c + widthOf cs) m e in
         let k′ = leb-true (widthOf cs) m e′ in
-        kept-all m (reverse cs) (c ∷ []) (omega (arith, width-reverse cs)) ∙ rw (lt-leb (wide c) (m - widthOf (reverse cs)) (omega (arith, width-reverse cs)), longest-whole m cs k′) (append-nil (reverse cs))
+        kept-all m (reverse cs) (c ∷ []) (omega (arith, width-reverse cs)) ∙ rw
+        (lt-leb (wide c) (m - widthOf (reverse cs)) (omega (arith, width-reverse cs)), longest-whole m cs k′) (append-nil (reverse cs))
     go false e false e′ ih = kept-part m (reverse cs) (c ∷ []) (omega (arith, width-reverse cs, leb-false (widthOf cs) m e′)) ∙ ih
 
 length-reverse : (cs : List Character) → length (bytesOf (reverse cs)) ≡ length (bytesOf cs)

@@ -59,5 +59,9 @@ module _ (b : ℕ) (h : b < 256) where
       let t₁ : Bool = eqb (lenOf x) (length (rowOf b)) in
       let t₂ : Bool = sameRow (tail (rowOf b)) (columns (lenOf x) (lowOf x) (highOf x)) in
       let t₃ : Bool = leb (lenOf x) 4 in
-      let rest : T (t₂ && t₃) = and-right t₁ (t₂ && t₃) tested in
-      (eqb→eq (lenOf x) (length (rowOf b)) (and-left t₁ (t₂ && t₃) tested), same-row (tail (rowOf b)) (columns (lenOf x) (lowOf x) (highOf x)) (and-left t₂ t₃ rest), leb→le (lenOf x) 4 (and-right t₂ t₃ rest))
+      let rest : T (t₂ && t₃) = and-right t₁ (t₂ && t₃) tested in (
+        eqb→eq (lenOf x) (length (rowOf b)) (and-left t₁ (t₂ && t₃) tested),
+        same-row (tail (rowOf b)) (columns (lenOf x) (lowOf x) (highOf x)) (and-left t₂ t₃ rest),
+        leb→le
+            (lenOf x) 4 (and-right t₂ t₃ rest),
+      )

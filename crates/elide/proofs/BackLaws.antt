@@ -54,8 +54,11 @@ matched-trails (c ∷ cs) (b ∷ more) rest t e i h =
     go true w f zero l ih =
         let x : T (within (c .low) (c .high) b) = subst T (sym w) tt in
         let low = leb→le (c .low) b (and-left (leb (c .low) b) (leb b (c .high)) x) in
-        let high = leb→le b (c .high) (and-right (leb (c .low) b) (leb b (c .high)) x) in
-        (omega (arith, low, leb→le 0x80 (c .low) (and-left (leb 0x80 (c .low)) (leb (c .high) 0xBF) span)), omega (arith, high, leb→le (c .high) 0xBF (and-right (leb 0x80 (c .low)) (leb (c .high) 0xBF) span)))
+        let high = leb→le b (c .high) (and-right (leb (c .low) b) (leb b (c .high)) x) in (
+          omega (arith, low, leb→le 0x80 (c .low) (and-left (leb 0x80 (c .low)) (leb (c .high) 0xBF) span)),
+          omega
+              (arith, high, leb→le (c .high) 0xBF (and-right (leb 0x80 (c .low)) (leb (c .high) 0xBF) span)),
+        )
     go true w f (suc j) l ih = ih (omega (arith, f)) j (omega (arith, l))
     go false w f j l ih = absurd (omega (arith, f))
 
@@ -185,8 +188,11 @@ module _ (s : List ℕ) (at r w m : ℕ) (back : List Character) (l : Last s at 
   pub last-kept : w ≤ m
       → (length (bytesOf (keptWithin m back)) ≡ (at - r) + length (bytesOf (keptWithin (m - w) (l .rest)))) × (widthOf (keptWithin m back) ≡ w + widthOf (keptWithin (m - w) (l .rest)))
   last-kept h =
-      let k : keptWithin m back ≡ l .last ∷ keptWithin (m - w) (l .rest) = kept-last ∙ simp (le-leb w m h) in
-      (omega (arith, l .far, ap (λ (cs : List Character). length (bytesOf cs)) k, length-append (l .last .text) (bytesOf (keptWithin (m - w) (l .rest)))), omega (arith, e, ap wide (l .reads), ap widthOf k))
+      let k : keptWithin m back ≡ l .last ∷ keptWithin (m - w) (l .rest) = kept-last ∙ simp (le-leb w m h) in (
+        omega (arith, l .far, ap (λ (cs : List Character). length (bytesOf cs)) k, length-append (l .last .text) (bytesOf (keptWithin (m - w) (l .rest)))),
+        omega
+            (arith, e, ap wide (l .reads), ap widthOf k),
+      )
 
   pub last-passes : m < w → keptWithin m back ≡ []
   last-passes h = kept-last ∙ simp (lt-leb w m h)

@@ -13,7 +13,8 @@ use Rattle.buffer.proofs.Laws.{length-part, put-over}
 use Rattle.recording.specs.Recording.{Bytes}
 use Rattle.recording.specs.Refusals.{dataLimit, firstOf, refuseIf}
 use Rattle.recording.specs.Outcome.{Room, Result, refused, done, overLimit, noRoom, refusalOf, settle}
-use Rattle.elide.specs.Elide.{elideEnd, elideStart, missingNewline, completeNewline, plainResult, plainRoom, faultsBy, noFaults, plainFaults, plainFault, elideEndOutcome, elideStartOutcome, completeNewlineOutcome}
+use Rattle.elide.specs.Elide.{elideEnd, elideStart, missingNewline, completeNewline, plainResult, plainRoom, faultsBy, noFaults, plainFaults, plainFault, elideEndOutcome}
+use Rattle.elide.specs.Elide.{elideStartOutcome, completeNewlineOutcome}
 use Rattle.elide.proofs.PartLaws.{whole}
 
 -- ── faults of the input

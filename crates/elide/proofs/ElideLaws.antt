@@ -13,7 +13,8 @@ use borrow.Author.Tests.{leb-false, leb-true, le-leb, lt-leb, eq-eqb, ne-eqb, lt
 use Rattle.chars.specs.Chars.{Character, chars, bytesOf, wide, widthOf, textWidth, allOk, wellFormed}
 use Rattle.chars.specs.Cut.{keptWithin, truncateEndPos, truncateEndWidth, truncateStartPos, truncateStartWidth}
 use Rattle.chars.proofs.CharsLaws.{bytes-chars, bytes-append, width-append, chars-beginning, chars-rest}
-use Rattle.chars.proofs.CutLaws.{longest, keptRest, beforeLongest, split-kept, split-longest, kept-back, kept-within, width-reverse, kept-whole, longest-whole, kept-end, kept-start, start-pos, start-width}
+use Rattle.chars.proofs.CutLaws.{longest, keptRest, beforeLongest, split-kept, split-longest, kept-back, kept-within, width-reverse, kept-whole, longest-whole, kept-end}
+use Rattle.chars.proofs.CutLaws.{kept-start, start-pos, start-width}
 use Rattle.recording.specs.Recording.{Bytes}
 use Rattle.elide.proofs.BackLaws.{ok-beginning}
 use Rattle.elide.specs.Elide.{leaving, cutAtStart, fitAtEnd, fitAtStart, elideEnd, elideStart, elided, trimmed}
@@ -77,7 +78,8 @@ kept-on a m (c ∷ cs) h = go (leb (wide c) a) refl (kept-on (a - wide c) (m - w
     go true e ih =
         let w : ℕ = widthOf (keptWithin (a - wide c) cs) in
         let k : (m - wide c) - w ≡ m - (wide c + w) = omega arith in
-        simp (le-leb (wide c) m (omega (arith, leb-true (wide c) a e))) (ap (λ (l : List Character). c ∷ l) (ih ∙ ap (λ (n : ℕ). keptWithin (a - wide c) cs ++ keptWithin n (keptRest (a - wide c) cs)) k))
+        simp (le-leb (wide c) m (omega (arith, leb-true (wide c) a e)))
+        (ap (λ (l : List Character). c ∷ l) (ih ∙ ap (λ (n : ℕ). keptWithin (a - wide c) cs ++ keptWithin n (keptRest (a - wide c) cs)) k))
     go false e ih = let k : m - 0 ≡ m = omega arith in rw k
 
 -- the place and the width of a cut, from those of a narrower one and those of the cut of the rest
@@ -180,7 +182,8 @@ unfolding elideEnd
 end-within m s e = go (ltb m (textWidth s)) refl (ltb m (textWidth e)) refl
   where
     go : (t : Bool) → ltb m (textWidth s) ≡ t → (u : Bool) → ltb m (textWidth e) ≡ u
-        → cond t (cond u (elided (bytesOf (keptWithin m (chars e))) (widthOf (keptWithin m (chars e)))) (elided (bytesOf (fitAtEnd m (textWidth e) (chars s)) ++ e) (widthOf (fitAtEnd m (textWidth e) (chars s)) + textWidth e))) (elided s (textWidth s)) .columns ≤ m
+        → cond t (cond u (elided (bytesOf (keptWithin m (chars e))) (widthOf (keptWithin m (chars e))))
+        (elided (bytesOf (fitAtEnd m (textWidth e) (chars s)) ++ e) (widthOf (fitAtEnd m (textWidth e) (chars s)) + textWidth e))) (elided s (textWidth s)) .columns ≤ m
     go true p true q = kept-within m (chars e)
     go true p false q =
         let h = ltb-false m (textWidth e) q in
@@ -192,7 +195,8 @@ unfolding elideStart
 start-within m s e = go (ltb m (textWidth s)) refl (ltb m (textWidth e)) refl
   where
     go : (t : Bool) → ltb m (textWidth s) ≡ t → (u : Bool) → ltb m (textWidth e) ≡ u
-        → cond t (cond u (elided (trimmed (bytesOf (cutAtStart m (chars e)))) (widthOf (cutAtStart m (chars e)))) (elided (e ++ trimmed (bytesOf (fitAtStart m (textWidth e) (chars s)))) (widthOf (fitAtStart m (textWidth e) (chars s)) + textWidth e))) (elided s (textWidth s)) .columns ≤ m
+        → cond t (cond u (elided (trimmed (bytesOf (cutAtStart m (chars e)))) (widthOf (cutAtStart m (chars e))))
+        (elided (e ++ trimmed (bytesOf (fitAtStart m (textWidth e) (chars s)))) (widthOf (fitAtStart m (textWidth e) (chars s)) + textWidth e))) (elided s (textWidth s)) .columns ≤ m
     go true p true q = omega (arith, ap widthOf (cut-start m (chars e)), longest-within m (chars e))
     go true p false q =
         let h = ltb-false m (textWidth e) q in

@@ -11,7 +11,8 @@ ghost use Rattle.chars.specs.Cut.{truncateStartPos, truncateStartWidth};
 ghost use Rattle.buffer.specs.Place.{part};
 ghost use Rattle.recording.specs.Outcome.{settle, Promised};
 ghost use Rattle.elide.specs.Back.{StartBefore};
-ghost use Rattle.elide.specs.Elide.{trimmed, missingNewline, elideEnd, elideStart, plainFault, noFaults, plainRoom, plainResult, lent, elideEndOutcome, elideStartOutcome, completeNewlineOutcome};
+ghost use Rattle.elide.specs.Elide.{trimmed, missingNewline, elideEnd, elideStart, plainFault, noFaults, plainRoom, plainResult, lent, elideEndOutcome, elideStartOutcome};
+ghost use Rattle.elide.specs.Elide.{completeNewlineOutcome};
 
 // The data limit of a recording, which texts keep to.
 const LIMIT: usize = 1048576;

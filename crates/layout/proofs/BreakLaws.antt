@@ -61,7 +61,8 @@ abbrev HeadsOk : ℕ → Bool → List (List Character) → Type 0
 HeadsOk w t [] = ⊥
 HeadsOk w t (h ∷ hs) = HeadsApart w (widthOf h) hs × (t ≡ false → isNil (bytesOf h) ≡ false)
 
-heads-cons : (w : ℕ) (c : Character) (cs : List Character) (gs : List (List Character)) → Grouped (inHead w) wide (wide c) cs gs → AllOf (λ (c : Character). isNil (c .text) ≡ false) (c ∷ cs) → (t : Bool)
+heads-cons : (w : ℕ) (c : Character) (cs : List Character) (gs : List (List Character)) → Grouped (inHead w) wide (wide c) cs gs
+    → AllOf (λ (c : Character). isNil (c .text) ≡ false) (c ∷ cs) → (t : Bool)
     → HeadsOk w t (ontoFirst c gs)
 heads-cons w c cs (g ∷ gs) d h t = (heads-apart w d (h .1) (wide c + widthOf g) refl, λ e. isNil-append (c .text) (bytesOf g) (h .0))
 

@@ -30,11 +30,13 @@ refused-run [] r h = refl
 refused-run (x ∷ xs) r h = refused-run xs (after x r) (h .1) ∙ after-refused x r (ne-eqb (refusal x r) 0 (h .0))
 
 -- one wrap, not refused
-wrap-once : (w : ℕ) (b : Bool) (o : Room) (r : Recording) → balanced r ≡ true → refusal (wrapCall w b o) r ≡ 0 → coloured (after (wrapCall w b o) r) ≡ wrapped (wrapLines w b (values (coloured r))) (coloured r)
+wrap-once : (w : ℕ) (b : Bool) (o : Room) (r : Recording) → balanced r ≡ true → refusal (wrapCall w b o) r ≡ 0
+    → coloured (after (wrapCall w b o) r) ≡ wrapped (wrapLines w b (values (coloured r))) (coloured r)
 unfolding step toldOf
 wrap-once w b o r h z = one-call wrap-ordered (wrapCall w b o) r h (λ e. tt) ∙ rw (eq-eqb (refusal (wrapCall w b o) r) 0 z)
 
-wrap-again : (w : ℕ) (b : Bool) (o : Room) (q : Recording) (cs : List Coloured) → balanced q ≡ true → coloured q ≡ wrapped (wrapLines w b (values cs)) cs → coloured (after (wrapCall w b o) q) ≡ coloured q
+wrap-again : (w : ℕ) (b : Bool) (o : Room) (q : Recording) (cs : List Coloured) → balanced q ≡ true → coloured q ≡ wrapped (wrapLines w b (values cs)) cs
+    → coloured (after (wrapCall w b o) q) ≡ coloured q
 unfolding step toldOf
 wrap-again w b o q cs h e = one-call wrap-ordered (wrapCall w b o) q h (λ e. tt) ∙ go (eqb (refusal (wrapCall w b o) q) 0)
   where

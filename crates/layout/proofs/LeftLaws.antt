@@ -15,7 +15,9 @@ use Rattle.recording.specs.Recording.{Bytes, Recording, Item, byte, push, pop, 
 use Rattle.recording.specs.Refusals.{recordingFault}
 use Rattle.recording.proofs.FaultLaws.{Ok, ItemOk, ok-bytes, ok-edit, OkPuts, ok-recording, encoded}
 use Rattle.recording.proofs.Lists.{all-append}
-use Rattle.layout.specs.Layout.{trimmedStartPos, cutEnd, cutStart, copies, repeatPieces, padding, fillCount, indentOps, wrapOps, replaceOps, Kind, writeTruncatedStart, writeTruncatedEnd, writePaddedStart, writePaddedEnd, writePaddedCentered, writeIndented, Single, writeWrapped, writeReplaced, Job, withSecond, alone, singleOps, Call, resultItems, secondFault, refusal, after, faultsOf, resultOf}
+use Rattle.layout.specs.Layout.{trimmedStartPos, cutEnd, cutStart, copies, repeatPieces, padding, fillCount, indentOps, wrapOps, replaceOps, Kind, writeTruncatedStart}
+use Rattle.layout.specs.Layout.{writeTruncatedEnd, writePaddedStart, writePaddedEnd, writePaddedCentered, writeIndented, Single, writeWrapped, writeReplaced, Job, withSecond}
+use Rattle.layout.specs.Layout.{alone, singleOps, Call, resultItems, secondFault, refusal, after, faultsOf, resultOf}
 use Rattle.layout.specs.Wrap.{Line, wrapLines}
 use Rattle.layout.specs.declared.Replacement.{Replacement}
 use Rattle.layout.proofs.ListLaws.{after-done, GrantedCall, granted-call}
@@ -66,16 +68,20 @@ ok-result (withSecond writeTruncatedStart m e) r h g =
     let x : List Item = edit (cutStart (trimmedStartPos m (e .dataBytes))) (items e) in
     let y : List Item = edit (cutStart (trimmedStartPos (m - textWidth (e .dataBytes)) (r .dataBytes))) (items r) in
     ok-cond (ltb m (textWidth (r .dataBytes))) (x ++ y) (edit (cutStart (zeroWidthLen (r .dataBytes))) (items r))
-    (all-append ItemOk x y (ok-edit (cutStart (trimmedStartPos m (e .dataBytes))) (items e) tt (ok-recording e g)) (ok-edit (cutStart (trimmedStartPos (m - textWidth (e .dataBytes)) (r .dataBytes))) (items r) tt (ok-recording r h)))
+    (all-append ItemOk x y (ok-edit (cutStart (trimmedStartPos m (e .dataBytes))) (items e) tt (ok-recording e g))
+    (ok-edit (cutStart (trimmedStartPos (m - textWidth (e .dataBytes)) (r .dataBytes))) (items r) tt (ok-recording r h)))
     (ok-edit (cutStart (zeroWidthLen (r .dataBytes))) (items r) tt (ok-recording r h))
 ok-result (withSecond writeTruncatedEnd m e) r h g =
     let x : List Item = edit (cutEnd (truncateEndPos (m - textWidth (e .dataBytes)) (r .dataBytes)) (r .dataBytes)) (items r) in
     let y : List Item = edit (cutEnd (truncateEndPos m (e .dataBytes)) (e .dataBytes)) (items e) in
     ok-cond (ltb m (textWidth (r .dataBytes))) (x ++ y) (items r)
-    (all-append ItemOk x y (ok-edit (cutEnd (truncateEndPos (m - textWidth (e .dataBytes)) (r .dataBytes)) (r .dataBytes)) (items r) tt (ok-recording r h)) (ok-edit (cutEnd (truncateEndPos m (e .dataBytes)) (e .dataBytes)) (items e) tt (ok-recording e g)))
+    (all-append ItemOk x y (ok-edit (cutEnd (truncateEndPos (m - textWidth (e .dataBytes)) (r .dataBytes)) (r .dataBytes)) (items r) tt (ok-recording r h))
+    (ok-edit (cutEnd (truncateEndPos m (e .dataBytes)) (e .dataBytes)) (items e) tt (ok-recording e g)))
     (ok-recording r h)
-ok-result (withSecond writePaddedStart m f) r h g = all-append ItemOk (padding (fillCount m (r .dataBytes)) (items f)) (items r) (ok-padding (fillCount m (r .dataBytes)) (items f) (ok-recording f g)) (ok-recording r h)
-ok-result (withSecond writePaddedEnd m f) r h g = all-append ItemOk (items r) (padding (fillCount m (r .dataBytes)) (items f)) (ok-recording r h) (ok-padding (fillCount m (r .dataBytes)) (items f) (ok-recording f g))
+ok-result (withSecond writePaddedStart m f) r h g = all-append ItemOk (padding (fillCount m (r .dataBytes)) (items f)) (items r)
+    (ok-padding (fillCount m (r .dataBytes)) (items f) (ok-recording f g)) (ok-recording r h)
+ok-result (withSecond writePaddedEnd m f) r h g = all-append ItemOk (items r) (padding (fillCount m (r .dataBytes)) (items f)) (ok-recording r h)
+    (ok-padding (fillCount m (r .dataBytes)) (items f) (ok-recording f g))
 ok-result (withSecond writePaddedCentered m f) r h g =
     let n : ℕ = fillCount m (r .dataBytes) in
     all-append ItemOk (padding (n / 2) (items f)) (items r ++ padding (n - n / 2) (items f)) (ok-padding (n / 2) (items f) (ok-recording f g))

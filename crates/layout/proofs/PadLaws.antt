@@ -47,7 +47,14 @@ flat-bytes d = record { opening = []; closing = []; no-opening = tt; no-closing 
 
 flat-entry : (k : ℕ) (p d : Bytes) (is : List Item) → Flat d is → Flat d (itemOf k p ∷ is)
 flat-entry k p d is f =
-    record { opening = itemOf k p ∷ f .opening; closing = f .closing; no-opening = no-entry k p (f .opening) (f .no-opening); no-closing = f .no-closing; split = ap (λ (l : List Item). itemOf k p ∷ l) (f .split) }
+    record {
+      opening = itemOf k p ∷ f .opening;
+      closing = f .closing;
+      no-opening = no-entry k p (f .opening) (f .no-opening);
+      no-closing = f .no-closing;
+      split = ap
+          (λ (l : List Item). itemOf k p ∷ l) (f .split);
+    }
 
 flat-from : (es : List Entry) (t d : Bytes) → noneInsideOf (length d) es ≡ true → Flat d (itemsFrom 0 t d es)
 flat-from [] t d h = flat-bytes d
@@ -64,7 +71,14 @@ flat-from (e ∷ es) t d h = go (flat-from es t d rest) (eqb p 0) refl (eqb p (l
     go ih true z y z′ g = rw (eqb-true p 0 z) (flat-entry (e .kind) (partOf t e) d (itemsFrom 0 t d es) ih)
     go ih false z true z′ g =
         rw (sub-zero p, eqb-true p (length d) z′, take-length d, drop-length d)
-        (record { opening = []; closing = itemOf (e .kind) (partOf t e) ∷ itemsFrom (length d) t [] es; no-opening = tt; no-closing = no-entry (e .kind) (partOf t e) (itemsFrom (length d) t [] es) (no-itemsFrom es (length d) t); split = refl })
+        (record {
+          opening = [];
+          closing = itemOf (e .kind) (partOf t e) ∷ itemsFrom (length d) t [] es;
+          no-opening = tt;
+          no-closing = no-entry (e .kind) (partOf t e)
+              (itemsFrom (length d) t [] es) (no-itemsFrom es (length d) t);
+          split = refl;
+        })
     go ih false z false z′ g = absurd (false≢true (rw (z, z′) at g))
 
 pub flat : (f : Recording) → noneInside f ≡ true → Flat (f .dataBytes) (items f)
@@ -125,11 +139,24 @@ coloured-copies (suc n) s d is =
 coloured-flat : (d : Bytes) (is : List Item) (f : Flat d is) → colouredFrom [] is ≡ withLabels (reverse (openAfter [] (f .opening))) d
 coloured-flat d is f =
     ap (λ (l : List Item). colouredFrom [] l) (f .split)
-    ∙ rw (coloured-append [] (f .opening) (byteItems d ++ f .closing), coloured-none [] (f .opening) (f .no-opening), coloured-bytes (openAfter [] (f .opening)) d (f .closing), coloured-none (openAfter [] (f .opening)) (f .closing) (f .no-closing)) (append-nil _)
+    ∙ rw (
+      coloured-append [] (f .opening) (byteItems d ++ f .closing),
+      coloured-none [] (f .opening) (f .no-opening),
+      coloured-bytes (openAfter [] (f .opening)) d (f .closing),
+      coloured-none (openAfter [] (f .opening)) (f .closing) (f .no-closing),
+    ) (append-nil _)
 
 repeated-flat : (n : ℕ) (d : Bytes) (is : List Item) → Flat d is → colouredFrom [] (repeatPieces n [] is) ≡ times n (colouredFrom [] is)
 repeated-flat n d is f =
-    rw (repeat-flat n d is f, coloured-flat d is f, coloured-append [] (f .opening) (copies n d ++ f .closing), coloured-none [] (f .opening) (f .no-opening), coloured-copies n (openAfter [] (f .opening)) d (f .closing), coloured-none (openAfter [] (f .opening)) (f .closing) (f .no-closing)) (append-nil _)
+    rw (
+      repeat-flat n d is f,
+      coloured-flat d is f,
+      coloured-append [] (f .opening) (copies n d ++ f .closing),
+      coloured-none [] (f .opening) (f .no-opening),
+      coloured-copies n
+          (openAfter [] (f .opening)) d (f .closing),
+      coloured-none (openAfter [] (f .opening)) (f .closing) (f .no-closing),
+    ) (append-nil _)
 
 pub coloured-padding : (n : ℕ) (d : Bytes) (is : List Item) → Flat d is → colouredFrom [] (padding n is) ≡ times n (colouredFrom [] is)
 coloured-padding zero d is f = refl

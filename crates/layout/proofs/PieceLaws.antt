@@ -30,9 +30,12 @@ each-one n (b ∷ p) r = ap (λ (l : Bytes). l ++ r) (append-end (dataOf (copies
 repeated : (n : ℕ) (p : Bytes) (is : List Item) → dataOf (repeatPieces n p is) ≡ eachTimes n (piecesFrom p is)
 repeated n p [] = sym (mathlib.Core.List.append-nil _) ∙ sym (each-one n p []) ∙ mathlib.Core.List.append-nil _
 repeated n p (byte b ∷ is) = repeated n (p ++ (b ∷ [])) is
-repeated n p (push l ∷ is) = data-append (copies n p) (push l ∷ repeatPieces n [] is) ∙ rw (repeated n [] is, each-append n (nonEmpty p) (piecesFrom [] is)) (sym (each-one n p (eachTimes n (piecesFrom [] is))))
-repeated n p (pop ∷ is) = data-append (copies n p) (pop ∷ repeatPieces n [] is) ∙ rw (repeated n [] is, each-append n (nonEmpty p) (piecesFrom [] is)) (sym (each-one n p (eachTimes n (piecesFrom [] is))))
-repeated n p (raw t ∷ is) = data-append (copies n p) (raw t ∷ repeatPieces n [] is) ∙ rw (repeated n [] is, each-append n (nonEmpty p) (piecesFrom [] is)) (sym (each-one n p (eachTimes n (piecesFrom [] is))))
+repeated n p (push l ∷ is) = data-append (copies n p) (push l ∷ repeatPieces n [] is) ∙ rw (repeated n [] is, each-append n (nonEmpty p) (piecesFrom [] is))
+    (sym (each-one n p (eachTimes n (piecesFrom [] is))))
+repeated n p (pop ∷ is) = data-append (copies n p) (pop ∷ repeatPieces n [] is) ∙ rw (repeated n [] is, each-append n (nonEmpty p) (piecesFrom [] is))
+    (sym (each-one n p (eachTimes n (piecesFrom [] is))))
+repeated n p (raw t ∷ is) = data-append (copies n p) (raw t ∷ repeatPieces n [] is) ∙ rw (repeated n [] is, each-append n (nonEmpty p) (piecesFrom [] is))
+    (sym (each-one n p (eachTimes n (piecesFrom [] is))))
 
 pub padding-pieces : (n : ℕ) (f : Recording) → dataOf (padding (suc n) (items f)) ≡ eachTimes (suc n) (pieces f)
 unfolding pieces

@@ -17,7 +17,9 @@ use Rattle.recording.specs.Recording.{Bytes, Recording, Item, byteItems, items}
 use Rattle.recording.proofs.EditLaws.{PutsBal, coloured-append, open-under, edit-law, edit-bal, bal-append}
 use Rattle.recording.proofs.ItemsLaws.{values-of}
 use Rattle.recording.proofs.Lists.{or-left, or-right}
-use Rattle.layout.specs.Layout.{ownFault, singleOps, trimmedStartPos, cutEnd, cutStart, padding, fillCount, indentOps, wrapOps, replaceOps, Kind, writeTruncatedStart, writeTruncatedEnd, writePaddedStart, writePaddedEnd, writePaddedCentered, writeIndented, Single, writeWrapped, writeReplaced, Job, withSecond, alone, truncateStart, truncateEnd, padStart, padEnd, padCentered, wrap, replace, resultItems, recordsFault}
+use Rattle.layout.specs.Layout.{ownFault, singleOps, trimmedStartPos, cutEnd, cutStart, padding, fillCount, indentOps, wrapOps, replaceOps, Kind, writeTruncatedStart}
+use Rattle.layout.specs.Layout.{writeTruncatedEnd, writePaddedStart, writePaddedEnd, writePaddedCentered, writeIndented, Single, writeWrapped, writeReplaced, Job, withSecond}
+use Rattle.layout.specs.Layout.{alone, truncateStart, truncateEnd, padStart, padEnd, padCentered, wrap, replace, resultItems, recordsFault}
 use Rattle.layout.specs.Plain.{times, withLabels, indented, wrapped, replaced, step, toldOf}
 use Rattle.layout.specs.Theorem.{SecondOk}
 use Rattle.layout.specs.Wrap.{Line, wrapLines}
@@ -71,7 +73,8 @@ indent-law p start [] = refl
 indent-law p start (c ∷ cs) = go (start && not (eqb (c .val) 0x0A)) (indent-law p (eqb (c .val) 0x0A) cs)
   where
     go : (t : Bool) → editColoured (indentOps p (eqb (c .val) 0x0A) (values cs)) cs ≡ indented (colouredFrom [] p) (eqb (c .val) 0x0A) cs
-        → editColoured (cond t (put p ∷ []) [] ++ keep 1 ∷ indentOps p (eqb (c .val) 0x0A) (values cs)) (c ∷ cs) ≡ cond t (under (c .labels) (colouredFrom [] p)) [] ++ c ∷ indented (colouredFrom [] p) (eqb (c .val) 0x0A) cs
+        → editColoured (cond t (put p ∷ []) [] ++ keep 1 ∷ indentOps p (eqb (c .val) 0x0A) (values cs)) (c ∷ cs) ≡ cond t (under (c .labels) (colouredFrom [] p)) [] ++ c
+        ∷ indented (colouredFrom [] p) (eqb (c .val) 0x0A) cs
     go true e = ap (λ (l : List Coloured). under (c .labels) (colouredFrom [] p) ++ c ∷ l) e
     go false e = ap (λ (l : List Coloured). c ∷ l) e
 
@@ -103,8 +106,12 @@ sorted at n t (x ∷ xs) h = go (ltb (x .end) (x .start) || ltb n (x .end) || lt
     go false e g f =
         let e₁ = or-left (ltb (x .end) (x .start) || ltb n (x .end) || ltb (x .start) at || ltb (x .to) (x .from)) (ltb t (x .to)) e in
         let e₂ = or-left (ltb (x .end) (x .start) || ltb n (x .end) || ltb (x .start) at) (ltb (x .to) (x .from)) e₁ in
-        let e₃ = or-left (ltb (x .end) (x .start) || ltb n (x .end)) (ltb (x .start) at) e₂ in
-        (ltb-false (x .start) at (or-right (ltb (x .end) (x .start) || ltb n (x .end)) (ltb (x .start) at) e₂), ltb-false (x .end) (x .start) (or-left (ltb (x .end) (x .start)) (ltb n (x .end)) e₃), f g)
+        let e₃ = or-left (ltb (x .end) (x .start) || ltb n (x .end)) (ltb (x .start) at) e₂ in (
+          ltb-false (x .start) at (or-right (ltb (x .end) (x .start) || ltb n (x .end)) (ltb (x .start) at) e₂),
+          ltb-false (x .end) (x .start)
+              (or-left (ltb (x .end) (x .start)) (ltb n (x .end)) e₃),
+          f g,
+        )
 
 pub replace-law : (t : Bytes) (at : ℕ) (xs : List Replacement) (cs : List Coloured) → Sorted at xs → editColoured (replaceOps t at xs) (drop at cs) ≡ replaced t at xs cs
 replace-law t at [] cs h = refl
@@ -153,12 +160,14 @@ module _ (r : Recording) (h : balanced r ≡ true) where
       ∙ rw (from-law (trimmedStartPos m (e .dataBytes)) (items e) g, from-law (trimmedStartPos (m - textWidth (e .dataBytes)) (r .dataBytes)) (items r) h))
       (from-law (zeroWidthLen (r .dataBytes)) (items r) h))
 
-  end-law : (m : ℕ) (e : Recording) → balanced e ≡ true → length (colouredFrom [] (items e)) ≡ length (e .dataBytes) → colouredFrom [] (resultItems (truncateEnd m e) r) ≡ step (toldOf (truncateEnd m e)) (coloured r)
+  end-law : (m : ℕ) (e : Recording) → balanced e ≡ true → length (colouredFrom [] (items e)) ≡ length (e .dataBytes)
+      → colouredFrom [] (resultItems (truncateEnd m e) r) ≡ step (toldOf (truncateEnd m e)) (coloured r)
   unfolding resultItems step toldOf coloured balanced
   end-law m e g le =
       rw (values-of r, values-of e)
       (coloured-cond (ltb m (textWidth (r .dataBytes))) _ _ _ _
-      (coloured-join (edit (cutEnd (truncateEndPos (m - textWidth (e .dataBytes)) (r .dataBytes)) (r .dataBytes)) (items r)) _ (edit-bal (cutEnd (truncateEndPos (m - textWidth (e .dataBytes)) (r .dataBytes)) (r .dataBytes)) 0 (items r) tt h)
+      (coloured-join (edit (cutEnd (truncateEndPos (m - textWidth (e .dataBytes)) (r .dataBytes)) (r .dataBytes)) (items r)) _
+      (edit-bal (cutEnd (truncateEndPos (m - textWidth (e .dataBytes)) (r .dataBytes)) (r .dataBytes)) 0 (items r) tt h)
       ∙ rw (upTo-law (truncateEndPos (m - textWidth (e .dataBytes)) (r .dataBytes)) (r .dataBytes) (items r) h long, upTo-law (truncateEndPos m (e .dataBytes)) (e .dataBytes) (items e) g le))
       refl)
 
@@ -173,7 +182,12 @@ module _ (r : Recording) (h : balanced r ≡ true) where
 
     padStart-law : (m : ℕ) → colouredFrom [] (resultItems (padStart m f) r) ≡ step (toldOf (padStart m f)) (coloured r)
     unfolding resultItems step toldOf
-    padStart-law m = rw (values-of r, coloured-join (padding (fillCount m (r .dataBytes)) (items f)) (items r) (pads-bal (fillCount m (r .dataBytes))), pads (fillCount m (r .dataBytes))) (unfold coloured in refl)
+    padStart-law m = rw (
+      values-of r,
+      coloured-join (padding (fillCount m (r .dataBytes)) (items f)) (items r) (pads-bal (fillCount m (r .dataBytes))),
+      pads
+          (fillCount m (r .dataBytes)),
+    ) (unfold coloured in refl)
 
     padEnd-law : (m : ℕ) → colouredFrom [] (resultItems (padEnd m f) r) ≡ step (toldOf (padEnd m f)) (coloured r)
     unfolding resultItems step toldOf
@@ -183,7 +197,14 @@ module _ (r : Recording) (h : balanced r ≡ true) where
     unfolding resultItems step toldOf
     padBoth-law m =
         let n : ℕ = fillCount m (r .dataBytes) in
-        rw (values-of r, coloured-join (padding (n / 2) (items f)) (items r ++ padding (n - n / 2) (items f)) (pads-bal (n / 2)), coloured-join (items r) (padding (n - n / 2) (items f)) here, pads (n / 2), pads (n - n / 2)) (unfold coloured in refl)
+        rw (
+          values-of r,
+          coloured-join (padding (n / 2) (items f)) (items r ++ padding (n - n / 2) (items f)) (pads-bal (n / 2)),
+          coloured-join (items r)
+              (padding (n - n / 2) (items f)) here,
+          pads (n / 2),
+          pads (n - n / 2),
+        ) (unfold coloured in refl)
 
   indented-law : (m : ℕ) (p : Recording) → balanced p ≡ true
       → colouredFrom [] (resultItems (withSecond writeIndented m p) r) ≡ step (toldOf (withSecond writeIndented m p)) (coloured r)
@@ -196,11 +217,13 @@ module _ (r : Recording) (h : balanced r ≡ true) where
   unfolding resultItems step toldOf coloured balanced
   replaced-law xs t o = edit-law (replaceOps t 0 xs) [] (items r) h (replace-puts t 0 xs) ∙ replace-law t 0 xs (coloured r) o
 
-  wrapped-law : (w : ℕ) (b : Bool) (ls : List Line) → wrapLines w b (r .dataBytes) ≡ ls → Ordered 0 ls → (0 < length ls) → colouredFrom [] (resultItems (wrap w b) r) ≡ step (toldOf (wrap w b)) (coloured r)
+  wrapped-law : (w : ℕ) (b : Bool) (ls : List Line) → wrapLines w b (r .dataBytes) ≡ ls → Ordered 0 ls → (0 < length ls)
+      → colouredFrom [] (resultItems (wrap w b) r) ≡ step (toldOf (wrap w b)) (coloured r)
   unfolding resultItems step toldOf coloured balanced
   wrapped-law w b [] q o z = absurd (omega arith)
   wrapped-law w b (l ∷ ls) q o z =
-      rw (values-of r, q) (edit-law (wrapOps (length (r .dataBytes)) 0 (l ∷ ls)) [] (items r) h (wrap-puts (length (r .dataBytes)) 0 (l ∷ ls)) ∙ wrap-law (length (r .dataBytes)) 0 l ls (coloured r) long o)
+      rw (values-of r, q) (edit-law (wrapOps (length (r .dataBytes)) 0 (l ∷ ls)) [] (items r) h (wrap-puts (length (r .dataBytes)) 0 (l ∷ ls))
+      ∙ wrap-law (length (r .dataBytes)) 0 l ls (coloured r) long o)
 
   -- balance is kept
   pub bal-law : (j : Job) → SecondOk j → balancedFrom 0 (resultItems j r) ≡ true
@@ -209,19 +232,22 @@ module _ (r : Recording) (h : balanced r ≡ true) where
       let x : List Item = edit (cutStart (trimmedStartPos m (e .dataBytes))) (items e) in
       let y : List Item = edit (cutStart (trimmedStartPos (m - textWidth (e .dataBytes)) (r .dataBytes))) (items r) in
       bal-cond (ltb m (textWidth (r .dataBytes))) (x ++ y) (edit (cutStart (zeroWidthLen (r .dataBytes))) (items r))
-      (bal-join x y (edit-bal (cutStart (trimmedStartPos m (e .dataBytes))) 0 (items e) tt (g .0)) (edit-bal (cutStart (trimmedStartPos (m - textWidth (e .dataBytes)) (r .dataBytes))) 0 (items r) tt h))
+      (bal-join x y (edit-bal (cutStart (trimmedStartPos m (e .dataBytes))) 0 (items e) tt (g .0))
+      (edit-bal (cutStart (trimmedStartPos (m - textWidth (e .dataBytes)) (r .dataBytes))) 0 (items r) tt h))
       (edit-bal (cutStart (zeroWidthLen (r .dataBytes))) 0 (items r) tt h)
   bal-law (withSecond writeTruncatedEnd m e) g =
       let x : List Item = edit (cutEnd (truncateEndPos (m - textWidth (e .dataBytes)) (r .dataBytes)) (r .dataBytes)) (items r) in
       let y : List Item = edit (cutEnd (truncateEndPos m (e .dataBytes)) (e .dataBytes)) (items e) in
       bal-cond (ltb m (textWidth (r .dataBytes))) (x ++ y) (items r)
-      (bal-join x y (edit-bal (cutEnd (truncateEndPos (m - textWidth (e .dataBytes)) (r .dataBytes)) (r .dataBytes)) 0 (items r) tt h) (edit-bal (cutEnd (truncateEndPos m (e .dataBytes)) (e .dataBytes)) 0 (items e) tt (g .0)))
+      (bal-join x y (edit-bal (cutEnd (truncateEndPos (m - textWidth (e .dataBytes)) (r .dataBytes)) (r .dataBytes)) 0 (items r) tt h)
+      (edit-bal (cutEnd (truncateEndPos m (e .dataBytes)) (e .dataBytes)) 0 (items e) tt (g .0)))
       h
   bal-law (withSecond writePaddedStart m f) g = bal-join (padding (fillCount m (r .dataBytes)) (items f)) (items r) (pads-bal f (g .0) (g .1 refl) (fillCount m (r .dataBytes))) h
   bal-law (withSecond writePaddedEnd m f) g = bal-join (items r) (padding (fillCount m (r .dataBytes)) (items f)) h (pads-bal f (g .0) (g .1 refl) (fillCount m (r .dataBytes)))
   bal-law (withSecond writePaddedCentered m f) g =
       let n : ℕ = fillCount m (r .dataBytes) in
-      bal-join (padding (n / 2) (items f)) (items r ++ padding (n - n / 2) (items f)) (pads-bal f (g .0) (g .1 refl) (n / 2)) (bal-join (items r) (padding (n - n / 2) (items f)) h (pads-bal f (g .0) (g .1 refl) (n - n / 2)))
+      bal-join (padding (n / 2) (items f)) (items r ++ padding (n - n / 2) (items f)) (pads-bal f (g .0) (g .1 refl) (n / 2))
+      (bal-join (items r) (padding (n - n / 2) (items f)) h (pads-bal f (g .0) (g .1 refl) (n - n / 2)))
   bal-law (withSecond writeIndented m p) g = edit-bal (indentOps (items p) true (r .dataBytes)) 0 (items r) (indent-puts (items p) true (r .dataBytes) (g .0)) h
   bal-law (alone s) g = edit-bal (singleOps s (r .dataBytes)) 0 (items r) (single-puts s (r .dataBytes)) h
 

@@ -17,7 +17,9 @@ use Rattle.recording.specs.Refusals.{recordingFault}
 use Rattle.recording.proofs.EditLaws.{data-append, edit-data}
 use Rattle.recording.proofs.FaultLaws.{no-fault, in-limits, Roomy, roomy}
 use Rattle.recording.proofs.ItemsLaws.{data-items, data-bytes}
-use Rattle.layout.specs.Layout.{trimmedStartPos, cutEnd, cutStart, copies, repeatPieces, padding, fillCount, indentOps, wrapOps, replaceOps, Kind, writeTruncatedStart, writeTruncatedEnd, writePaddedStart, writePaddedEnd, writePaddedCentered, writeIndented, Single, writeWrapped, writeReplaced, Job, withSecond, alone, singleOps, Call, resultItems, linesLeft, secondFault, refusal, after, run, ownFault, faultsOf, resultOf}
+use Rattle.layout.specs.Layout.{trimmedStartPos, cutEnd, cutStart, copies, repeatPieces, padding, fillCount, indentOps, wrapOps, replaceOps, Kind, writeTruncatedStart}
+use Rattle.layout.specs.Layout.{writeTruncatedEnd, writePaddedStart, writePaddedEnd, writePaddedCentered, writeIndented, Single, writeWrapped, writeReplaced, Job, withSecond}
+use Rattle.layout.specs.Layout.{alone, singleOps, Call, resultItems, linesLeft, secondFault, refusal, after, run, ownFault, faultsOf, resultOf}
 use Rattle.layout.specs.Theorem.{SecondOk, Proper, strippedJob, stripped, again, NoneRefused}
 use Rattle.layout.specs.Wrap.{Line, wrapLines, lineNumbers}
 use Rattle.layout.specs.declared.Replacement.{Replacement}
@@ -56,7 +58,14 @@ data-none (raw t ∷ is) h = data-none is h
 
 data-repeated : (n : ℕ) (d : Bytes) (is : List Item) → Flat d is → dataOf (repeatPieces n [] is) ≡ dataOf (copies n d)
 data-repeated n d is f =
-    rw (repeat-flat n d is f, data-append (f .opening) (copies n d ++ f .closing), data-append (copies n d) (f .closing), data-none (f .opening) (f .no-opening), data-none (f .closing) (f .no-closing)) (append-nil (dataOf (copies n d)))
+    rw (
+      repeat-flat n d is f,
+      data-append (f .opening) (copies n d ++ f .closing),
+      data-append (copies n d) (f .closing),
+      data-none (f .opening) (f .no-opening),
+      data-none
+          (f .closing) (f .no-closing),
+    ) (append-nil (dataOf (copies n d)))
 
 data-padding : (n : ℕ) (d : Bytes) (is : List Item) → Flat d is → dataOf (padding n is) ≡ dataOf (copies n d)
 data-padding zero d is f = refl
@@ -92,7 +101,14 @@ result-data (withSecond writePaddedEnd m f) r g =
     rw (data-append (items r) (padding (fillCount m (r .dataBytes)) (items f)), data-padding (fillCount m (r .dataBytes)) (f .dataBytes) (items f) (flat f (g .1 refl)), data-items r)
 result-data (withSecond writePaddedCentered m f) r g =
     let n : ℕ = fillCount m (r .dataBytes) in
-    rw (data-append (padding (n / 2) (items f)) (items r ++ padding (n - n / 2) (items f)), data-append (items r) (padding (n - n / 2) (items f)), data-padding (n / 2) (f .dataBytes) (items f) (flat f (g .1 refl)), data-padding (n - n / 2) (f .dataBytes) (items f) (flat f (g .1 refl)), data-items r)
+    rw (
+      data-append (padding (n / 2) (items f)) (items r ++ padding (n - n / 2) (items f)),
+      data-append (items r) (padding (n - n / 2) (items f)),
+      data-padding (n / 2)
+          (f .dataBytes) (items f) (flat f (g .1 refl)),
+      data-padding (n - n / 2) (f .dataBytes) (items f) (flat f (g .1 refl)),
+      data-items r,
+    )
 result-data (withSecond writeIndented m p) r g =
     edited (indentOps (items p) true (r .dataBytes)) r ∙ indent-data (items p) (byteItems (p .dataBytes)) true (r .dataBytes) (r .dataBytes) (data-items p ∙ sym (data-bytes (p .dataBytes)))
 result-data (alone s) r g = edited (singleOps s (r .dataBytes)) r
@@ -228,16 +244,20 @@ bare-result (withSecond writeTruncatedStart m e) r h =
     let x : List Item = edit (cutStart (trimmedStartPos m (strip e .dataBytes))) (items (strip e)) in
     let y : List Item = edit (cutStart (trimmedStartPos (m - textWidth (strip e .dataBytes)) (r .dataBytes))) (items r) in
     bare-cond (ltb m (textWidth (r .dataBytes))) (x ++ y) (edit (cutStart (zeroWidthLen (r .dataBytes))) (items r))
-    (bare-append x y (bare-edit (cutStart (trimmedStartPos m (strip e .dataBytes))) (items (strip e)) tt (bare-strip e)) (bare-edit (cutStart (trimmedStartPos (m - textWidth (strip e .dataBytes)) (r .dataBytes))) (items r) tt h))
+    (bare-append x y (bare-edit (cutStart (trimmedStartPos m (strip e .dataBytes))) (items (strip e)) tt (bare-strip e))
+    (bare-edit (cutStart (trimmedStartPos (m - textWidth (strip e .dataBytes)) (r .dataBytes))) (items r) tt h))
     (bare-edit (cutStart (zeroWidthLen (r .dataBytes))) (items r) tt h)
 bare-result (withSecond writeTruncatedEnd m e) r h =
     let x : List Item = edit (cutEnd (truncateEndPos (m - textWidth (strip e .dataBytes)) (r .dataBytes)) (r .dataBytes)) (items r) in
     let y : List Item = edit (cutEnd (truncateEndPos m (strip e .dataBytes)) (strip e .dataBytes)) (items (strip e)) in
     bare-cond (ltb m (textWidth (r .dataBytes))) (x ++ y) (items r)
-    (bare-append x y (bare-edit (cutEnd (truncateEndPos (m - textWidth (strip e .dataBytes)) (r .dataBytes)) (r .dataBytes)) (items r) tt h) (bare-edit (cutEnd (truncateEndPos m (strip e .dataBytes)) (strip e .dataBytes)) (items (strip e)) tt (bare-strip e)))
+    (bare-append x y (bare-edit (cutEnd (truncateEndPos (m - textWidth (strip e .dataBytes)) (r .dataBytes)) (r .dataBytes)) (items r) tt h)
+    (bare-edit (cutEnd (truncateEndPos m (strip e .dataBytes)) (strip e .dataBytes)) (items (strip e)) tt (bare-strip e)))
     h
-bare-result (withSecond writePaddedStart m f) r h = bare-append (padding (fillCount m (r .dataBytes)) (items (strip f))) (items r) (bare-padding (fillCount m (r .dataBytes)) (items (strip f)) (bare-strip f)) h
-bare-result (withSecond writePaddedEnd m f) r h = bare-append (items r) (padding (fillCount m (r .dataBytes)) (items (strip f))) h (bare-padding (fillCount m (r .dataBytes)) (items (strip f)) (bare-strip f))
+bare-result (withSecond writePaddedStart m f) r h = bare-append (padding (fillCount m (r .dataBytes)) (items (strip f))) (items r)
+    (bare-padding (fillCount m (r .dataBytes)) (items (strip f)) (bare-strip f)) h
+bare-result (withSecond writePaddedEnd m f) r h = bare-append (items r) (padding (fillCount m (r .dataBytes)) (items (strip f))) h
+    (bare-padding (fillCount m (r .dataBytes)) (items (strip f)) (bare-strip f))
 bare-result (withSecond writePaddedCentered m f) r h =
     let n : ℕ = fillCount m (r .dataBytes) in
     bare-append (padding (n / 2) (items (strip f))) (items r ++ padding (n - n / 2) (items (strip f))) (bare-padding (n / 2) (items (strip f)) (bare-strip f))
@@ -311,7 +331,12 @@ module _ (c : Call) (r r′ : Recording) (s : Shadow r r′) (g : SecondOk (c .j
   unfolding encode
   shadow-result =
       let bare = bare-result (c .job) r′ (bare-items r′ (s .entryNumbers)) in
-      record { dataBytes = same-data (c .job) r r′ g (s .dataBytes); entryNumbers = ap numbersOf (bare-entries 0 0 (resultItems (strippedJob (c .job)) r′) bare); text = bare-text (resultItems (strippedJob (c .job)) r′) bare }
+      record {
+        dataBytes = same-data (c .job) r r′ g (s .dataBytes);
+        entryNumbers = ap numbersOf (bare-entries 0 0 (resultItems (strippedJob (c .job)) r′) bare);
+        text = bare-text
+            (resultItems (strippedJob (c .job)) r′) bare;
+      }
 
   pub not-refused : refusal (stripped c) r′ ≡ 0
   not-refused = grant-call (stripped c) r′ (parts (granted-call c r z))
@@ -326,7 +351,8 @@ module _ (c : Call) (r r′ : Recording) (s : Shadow r r′) (g : SecondOk (c .j
             plain = unfold faultsOf in refl;
             own = unfold faultsOf in own-strip (c .job) r r′ (s .dataBytes) (G .own);
             limit = unfold resultOf in limit-strip (encode (resultItems (c .job) r)) (encode (resultItems (strippedJob (c .job)) r′)) shadow-result (G .limit);
-            room = unfold resultOf in room-strip (c .room) (resultOf (c .job) r) (resultOf (strippedJob (c .job)) r′) shadow-result (ap lineNumbers (lines-strip (c .job) r r′ (s .dataBytes))) (G .room);
+            room = unfold resultOf in room-strip (c .room) (resultOf (c .job) r) (resultOf (strippedJob (c .job)) r′) shadow-result
+                (ap lineNumbers (lines-strip (c .job) r r′ (s .dataBytes))) (G .room);
           }
 
   pub shadow-after : Shadow (after c r) (after (stripped c) r′)

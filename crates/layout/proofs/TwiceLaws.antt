@@ -16,7 +16,8 @@ use Rattle.recording.specs.Edit.{labelsAt}
 use Rattle.recording.specs.Recording.{isNil, Bytes}
 use Rattle.recording.proofs.Lists.{AllOf, all-left, all-right, all-append}
 use Rattle.layout.specs.Plain.{stretch, labelsOf, wrapped}
-use Rattle.layout.specs.Wrap.{ontoFirst, groups, splitLines, Word, ByteWord, byteWord, byteWords, wordsOf, splitWords, splitWordsAtWidth, fitsLine, fullWidth, firstFit, Line, lineOf, shownLen, wholeLen, groupLines, wrappedLine, linesFrom, wrapLines}
+use Rattle.layout.specs.Wrap.{ontoFirst, groups, splitLines, Word, ByteWord, byteWord, byteWords, wordsOf, splitWords, splitWordsAtWidth, fitsLine, fullWidth, firstFit, Line}
+use Rattle.layout.specs.Wrap.{lineOf, shownLen, wholeLen, groupLines, wrappedLine, linesFrom, wrapLines}
 use Rattle.layout.proofs.BreakLaws.{WordOk, Spaced, breaking-chain, breaking-pieces, fit-spaced}
 use Rattle.layout.proofs.ByteWordLaws.{ChainFrom, Chain, NoNewline, RunOk, Next, lines-none, runs-ok, runs-chain, runs-unrun}
 use Rattle.layout.proofs.GroupLaws.{concat, all-concat, groups-concat, Joined, JoinedAll, groups-joined, joined-groups, groups-some}
@@ -138,7 +139,8 @@ abbrev texts : List (List Word) → List Bytes
 texts [] = []
 texts (g ∷ gs) = text g ∷ texts gs
 
-stable-groups : (w : ℕ) (b : Bool) (gs : List (List Word)) → AllOf (AllOf (WordOk (b && ltb 0 w) w)) gs → AllOf (Chain Spaced) gs → AllOf (JoinedAll (fitsLine w) fullWidth) gs → AllOf (Stable w b) (texts gs)
+stable-groups : (w : ℕ) (b : Bool) (gs : List (List Word)) → AllOf (AllOf (WordOk (b && ltb 0 w) w)) gs → AllOf (Chain Spaced) gs → AllOf (JoinedAll (fitsLine w) fullWidth) gs
+    → AllOf (Stable w b) (texts gs)
 stable-groups w b [] o c j = tt
 stable-groups w b (g ∷ gs) o c j = (
   stable-closed w b (closed g) (closed-ok (b && ltb 0 w) w g (o .0)) (closed-chain g (c .0)) (closed-joinedAll w g (j .0)) (shown-closed g ∙ sym (length-text g)),
@@ -269,7 +271,11 @@ cuts-all w b d at (l ∷ m ∷ ls) h =
     let k : (at + length l) + 1 ≡ suc (at + length l) = omega arith in
     rw (← k, ← drop-drop 1 (at + length l) d, ← drop-drop (length l) at d, h, drop-at l (0x0A ∷ joinLines (m ∷ ls)) (length l) refl) in
     cuts-append d (groupLines at (wrappedLine w b l)) (linesFrom w b (suc (at + length l)) (m ∷ ls))
-    ∙ rw (cuts-spans d at (wrappedLine w b l) (0x0A ∷ joinLines (m ∷ ls)) (h ∙ ap (λ (x : Bytes). x ++ 0x0A ∷ joinLines (m ∷ ls)) (sym (full-fitted w b l))), cuts-all w b d (suc (at + length l)) (m ∷ ls) n)
+    ∙ rw (
+      cuts-spans d at (wrappedLine w b l) (0x0A ∷ joinLines (m ∷ ls)) (h ∙ ap (λ (x : Bytes). x ++ 0x0A ∷ joinLines (m ∷ ls)) (sym (full-fitted w b l))),
+      cuts-all w b d
+          (suc (at + length l)) (m ∷ ls) n,
+    )
 
 pub wrapped-values : (w : ℕ) (b : Bool) (cs : List Coloured) → values (wrapped (wrapLines w b (values cs)) cs) ≡ joinLines (textsOf w b (splitLines (values cs)))
 unfolding wrapLines
@@ -309,9 +315,11 @@ cover-step : (at : ℕ) (t : Bytes) (j : Bytes) (cs z : List Coloured) (s : Spli
 cover-step at t j cs z s f =
     let e : (at + length t) - at ≡ length t = omega arith in
     let k : (at + length t) + 1 ≡ suc (at + length t) = omega arith in
-    let d : drop (at + length t) cs ≡ s .mark ∷ s .tail = sym (drop-drop (length t) at cs) ∙ ap (λ (x : List Coloured). drop (length t) x) (s .rest-of) ∙ drop-at (s .head) (s .mark ∷ s .tail) (length t) (s .long) in
+    let d : drop (at + length t) cs ≡ s .mark ∷ s .tail = sym (drop-drop (length t) at cs) ∙ ap (λ (x : List Coloured). drop (length t) x) (s .rest-of)
+    ∙ drop-at (s .head) (s .mark ∷ s .tail) (length t) (s .long) in
     let d′ : drop (suc (at + length t)) cs ≡ s .tail = ap (λ (n : ℕ). drop n cs) (sym k) ∙ sym (drop-drop 1 (at + length t) cs) ∙ ap (λ (x : List Coloured). drop 1 x) d in
-    let e₁ : stretch at (at + length t) cs ≡ s .head = ap (λ (n : ℕ). take n (drop at cs)) e ∙ ap (λ (x : List Coloured). take (length t) x) (s .rest-of) ∙ take-at (s .head) (s .mark ∷ s .tail) (length t) (s .long) in
+    let e₁ : stretch at (at + length t) cs ≡ s .head = ap (λ (n : ℕ). take n (drop at cs)) e ∙ ap (λ (x : List Coloured). take (length t) x) (s .rest-of)
+    ∙ take-at (s .head) (s .mark ∷ s .tail) (length t) (s .long) in
     let e₂ : _≡_ {A = Coloured} (record { val = 0x0A; labels = labelsOf (at + length t) cs }) (s .mark) =
     ap (λ (x : List Coloured). record { val = 0x0A; labels = labelsAt x }) d ∙ ap {B = Coloured} (λ (v : ℕ). record { val = v; labels = s .mark .labels }) (sym (s .newline)) in
     let e₃ : z ≡ s .tail = f (ap values d′ ∙ s .rest) ∙ d′ in
@@ -330,7 +338,8 @@ some-texts : (gs : List (List Word)) → length (texts gs) ≡ length gs
 some-texts [] = refl
 some-texts (g ∷ gs) = ap suc (some-texts gs)
 
-wrapped-cover : (w : ℕ) (b : Bool) (ts : List Bytes) (cs : List Coloured) → AllOf (Stable w b) ts → AllOf (AllOf NoNewline) ts → 0 < length ts → values cs ≡ joinLines ts → wrapped (wrapLines w b (values cs)) cs ≡ cs
+wrapped-cover : (w : ℕ) (b : Bool) (ts : List Bytes) (cs : List Coloured) → AllOf (Stable w b) ts → AllOf (AllOf NoNewline) ts → 0 < length ts → values cs ≡ joinLines ts
+    → wrapped (wrapLines w b (values cs)) cs ≡ cs
 unfolding wrapLines
 wrapped-cover w b [] cs o q z h = absurd (omega arith)
 wrapped-cover w b (t ∷ ts) cs o q z h =
@@ -346,5 +355,6 @@ pub wrapped-twice : (w : ℕ) (b : Bool) (cs : List Coloured)
     → wrapped (wrapLines w b (values (wrapped (wrapLines w b (values cs)) cs))) (wrapped (wrapLines w b (values cs)) cs) ≡ wrapped (wrapLines w b (values cs)) cs
 wrapped-twice w b cs =
     let ls : List Bytes = splitLines (values cs) in
-    wrapped-cover w b (textsOf w b ls) (wrapped (wrapLines w b (values cs)) cs) (stable-all w b ls (lines-none (values cs))) (none-all w b ls (lines-none (values cs))) (texts-some w b ls (some-lines (values cs)))
+    wrapped-cover w b (textsOf w b ls) (wrapped (wrapLines w b (values cs)) cs) (stable-all w b ls (lines-none (values cs))) (none-all w b ls (lines-none (values cs)))
+    (texts-some w b ls (some-lines (values cs)))
     (wrapped-values w b cs)

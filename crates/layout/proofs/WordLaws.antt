@@ -10,7 +10,8 @@ use borrow.Author.Tests.{eqb-true}
 use Rattle.chars.specs.Chars.{Character, bytesOf, wide}
 use Rattle.chars.proofs.CharsLaws.{bytes-chars, bytes-append}
 use Rattle.recording.specs.Recording.{isNil}
-use Rattle.layout.specs.Wrap.{ontoFirst, groups, splitLines, Word, ByteWord, byteWord, spaceBefore, byteBefore, byteWords, wordsOf, inHead, headsAsWords, splitWord, splitWords, splitWordsAtWidth, fitsLine, fullWidth, firstFit, Line, shownLen, wholeLen, groupLines, wrappedLine, linesFrom, wrapLines}
+use Rattle.layout.specs.Wrap.{ontoFirst, groups, splitLines, Word, ByteWord, byteWord, spaceBefore, byteBefore, byteWords, wordsOf, inHead, headsAsWords, splitWord}
+use Rattle.layout.specs.Wrap.{splitWords, splitWordsAtWidth, fitsLine, fullWidth, firstFit, Line, shownLen, wholeLen, groupLines, wrappedLine, linesFrom, wrapLines}
 use Rattle.layout.proofs.GroupLaws.{concat, groups-concat, groups-some, onto-some}
 use Rattle.layout.proofs.StepLaws.{Ordered}
 
@@ -143,7 +144,13 @@ pub some-all : (w : ℕ) (b : Bool) (at : ℕ) (ls : List (List ℕ)) → 0 < le
 unfolding wrappedLine firstFit
 some-all w b at [] h = h
 some-all w b at (l ∷ ls) h =
-    omega (arith, length-append (groupLines at (wrappedLine w b l)) (linesFrom w b (suc (at + length l)) ls), some-spans at (wrappedLine w b l), groups-some (fitsLine w) fullWidth (splitWordsAtWidth w b (wordsOf (byteWords l))))
+    omega (
+      arith,
+      length-append (groupLines at (wrappedLine w b l)) (linesFrom w b (suc (at + length l)) ls),
+      some-spans at (wrappedLine w b l),
+      groups-some (fitsLine w) fullWidth
+          (splitWordsAtWidth w b (wordsOf (byteWords l))),
+    )
 
 pub wrap-ordered : (w : ℕ) (b : Bool) (d : List ℕ) → Ordered 0 (wrapLines w b d) × (0 < length (wrapLines w b d))
 unfolding wrapLines

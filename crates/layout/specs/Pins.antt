@@ -193,41 +193,66 @@ pins =
     -- wrap: 0A at both ends
     row (linesOf 3 false (0x0A ∷ 0x61 ∷ 0x62 ∷ 0x0A ∷ [])) (lines (lineOf 0 0 ∷ lineOf 1 3 ∷ lineOf 4 4 ∷ [])) ∷
     -- start cutter: leading zero-width characters are removed also when nothing was cut
-    row (call (truncateStart 4 (recording [] [] [])) roomy (recording (0xCC ∷ 0x81 ∷ 0x61 ∷ []) [] [])) (outcomeOf (done (record { recording = recording (0x61 ∷ []) [] []; lines = []; number = 1 }))) ∷
+    row (call (truncateStart 4 (recording [] [] [])) roomy (recording (0xCC ∷ 0x81 ∷ 0x61 ∷ []) [] []))
+    (outcomeOf (done (record { recording = recording (0x61 ∷ []) [] []; lines = []; number = 1 }))) ∷
     -- start cutter: and from what was cut
-    row (call (truncateStart 1 (recording [] [] [])) roomy (recording (0x61 ∷ 0xCC ∷ 0x81 ∷ 0x62 ∷ []) [] [])) (outcomeOf (done (record { recording = recording (0x62 ∷ []) [] []; lines = []; number = 1 }))) ∷
+    row (call (truncateStart 1 (recording [] [] [])) roomy (recording (0x61 ∷ 0xCC ∷ 0x81 ∷ 0x62 ∷ []) [] []))
+    (outcomeOf (done (record { recording = recording (0x62 ∷ []) [] []; lines = []; number = 1 }))) ∷
     -- end cutter: zero-width characters before the cut stay
-    row (call (truncateEnd 0 (recording [] [] [])) roomy (recording (0xCC ∷ 0x81 ∷ 0x61 ∷ []) [] [])) (outcomeOf (done (record { recording = recording (0xCC ∷ 0x81 ∷ []) [] []; lines = []; number = 0 }))) ∷
+    row (call (truncateEnd 0 (recording [] [] [])) roomy (recording (0xCC ∷ 0x81 ∷ 0x61 ∷ []) [] []))
+    (outcomeOf (done (record { recording = recording (0xCC ∷ 0x81 ∷ []) [] []; lines = []; number = 0 }))) ∷
     -- end cutter: not cut, no ellipsis and none of its entries, the width of the content
-    row (call (truncateEnd 4 (recording (0x2E ∷ []) (0 ∷ 2 ∷ 0 ∷ 1 ∷ []) (0x1B ∷ []))) roomy (recording (0x61 ∷ 0x62 ∷ []) [] [])) (outcomeOf (done (record { recording = recording (0x61 ∷ 0x62 ∷ []) [] []; lines = []; number = 2 }))) ∷
+    row (call (truncateEnd 4 (recording (0x2E ∷ []) (0 ∷ 2 ∷ 0 ∷ 1 ∷ []) (0x1B ∷ []))) roomy (recording (0x61 ∷ 0x62 ∷ []) [] []))
+    (outcomeOf (done (record { recording = recording (0x61 ∷ 0x62 ∷ []) [] []; lines = []; number = 2 }))) ∷
     -- end cutter: the ellipsis is cut to max, the content to 0
-    row (call (truncateEnd 2 (recording (0x2E ∷ 0x2E ∷ 0x2E ∷ []) [] [])) roomy (recording (0x61 ∷ 0x62 ∷ 0x63 ∷ []) [] [])) (outcomeOf (done (record { recording = recording (0x2E ∷ 0x2E ∷ []) [] []; lines = []; number = 2 }))) ∷
+    row (call (truncateEnd 2 (recording (0x2E ∷ 0x2E ∷ 0x2E ∷ []) [] [])) roomy (recording (0x61 ∷ 0x62 ∷ 0x63 ∷ []) [] []))
+    (outcomeOf (done (record { recording = recording (0x2E ∷ 0x2E ∷ []) [] []; lines = []; number = 2 }))) ∷
     -- start cutter: an ellipsis keeps its tail
-    row (call (truncateStart 2 (recording (0x78 ∷ 0x79 ∷ 0x7A ∷ []) [] [])) roomy (recording (0x61 ∷ 0x62 ∷ 0x63 ∷ []) [] [])) (outcomeOf (done (record { recording = recording (0x79 ∷ 0x7A ∷ []) [] []; lines = []; number = 2 }))) ∷
+    row (call (truncateStart 2 (recording (0x78 ∷ 0x79 ∷ 0x7A ∷ []) [] [])) roomy (recording (0x61 ∷ 0x62 ∷ 0x63 ∷ []) [] []))
+    (outcomeOf (done (record { recording = recording (0x79 ∷ 0x7A ∷ []) [] []; lines = []; number = 2 }))) ∷
     -- start cutter: a wide character that does not fit goes whole
-    row (call (truncateStart 2 (recording (0x2E ∷ []) [] [])) roomy (recording (0xE6 ∷ 0x9C ∷ 0xA8 ∷ 0xE6 ∷ 0x9C ∷ 0xA8 ∷ []) [] [])) (outcomeOf (done (record { recording = recording (0x2E ∷ []) [] []; lines = []; number = 1 }))) ∷
+    row (call (truncateStart 2 (recording (0x2E ∷ []) [] [])) roomy (recording (0xE6 ∷ 0x9C ∷ 0xA8 ∷ 0xE6 ∷ 0x9C ∷ 0xA8 ∷ []) [] []))
+    (outcomeOf (done (record { recording = recording (0x2E ∷ []) [] []; lines = []; number = 1 }))) ∷
     -- centred padding with count 1: all of it on the right, entries too
-    row (call (padCentered 3 (recording (0x2E ∷ []) (0 ∷ 0 ∷ 0 ∷ 1 ∷ 1 ∷ 1 ∷ 0 ∷ 0 ∷ []) (0x66 ∷ []))) roomy (recording (0x61 ∷ 0x62 ∷ []) [] [])) (outcomeOf (done (record { recording = recording (0x61 ∷ 0x62 ∷ 0x2E ∷ []) (2 ∷ 0 ∷ 0 ∷ 1 ∷ 3 ∷ 1 ∷ 0 ∷ 0 ∷ []) (0x66 ∷ []); lines = []; number = 0 }))) ∷
+    row (call (padCentered 3 (recording (0x2E ∷ []) (0 ∷ 0 ∷ 0 ∷ 1 ∷ 1 ∷ 1 ∷ 0 ∷ 0 ∷ []) (0x66 ∷ []))) roomy (recording (0x61 ∷ 0x62 ∷ []) [] []))
+    (outcomeOf (done (record { recording = recording (0x61 ∷ 0x62 ∷ 0x2E ∷ []) (2 ∷ 0 ∷ 0 ∷ 1 ∷ 3 ∷ 1 ∷ 0 ∷ 0 ∷ []) (0x66 ∷ []); lines = []; number = 0 }))) ∷
     -- padding with count 0: no entry of the fill
-    row (call (padStart 2 (recording (0x2E ∷ []) (0 ∷ 0 ∷ 0 ∷ 1 ∷ 1 ∷ 1 ∷ 0 ∷ 0 ∷ []) (0x66 ∷ []))) roomy (recording (0x61 ∷ 0x62 ∷ []) [] [])) (outcomeOf (done (record { recording = recording (0x61 ∷ 0x62 ∷ []) [] []; lines = []; number = 0 }))) ∷
+    row (call (padStart 2 (recording (0x2E ∷ []) (0 ∷ 0 ∷ 0 ∷ 1 ∷ 1 ∷ 1 ∷ 0 ∷ 0 ∷ []) (0x66 ∷ []))) roomy (recording (0x61 ∷ 0x62 ∷ []) [] []))
+    (outcomeOf (done (record { recording = recording (0x61 ∷ 0x62 ∷ []) [] []; lines = []; number = 0 }))) ∷
     -- padding: a fill of two pieces, twice, each piece before the next
-    row (call (padStart 4 (recording (0x61 ∷ 0x62 ∷ []) (1 ∷ 2 ∷ 0 ∷ 1 ∷ []) (0x1B ∷ []))) roomy (recording (0x66 ∷ 0x69 ∷ []) [] [])) (outcomeOf (done (record { recording = recording (0x61 ∷ 0x61 ∷ 0x62 ∷ 0x62 ∷ 0x66 ∷ 0x69 ∷ []) (2 ∷ 2 ∷ 0 ∷ 1 ∷ []) (0x1B ∷ []); lines = []; number = 0 }))) ∷
+    row (call (padStart 4 (recording (0x61 ∷ 0x62 ∷ []) (1 ∷ 2 ∷ 0 ∷ 1 ∷ []) (0x1B ∷ []))) roomy (recording (0x66 ∷ 0x69 ∷ []) [] []))
+    (outcomeOf (done (record { recording = recording (0x61 ∷ 0x61 ∷ 0x62 ∷ 0x62 ∷ 0x66 ∷ 0x69 ∷ []) (2 ∷ 2 ∷ 0 ∷ 1 ∷ []) (0x1B ∷ []); lines = []; number = 0 }))) ∷
     -- padding: a wide fill counts by its times, not by its width
-    row (call (padEnd 2 (recording (0xE6 ∷ 0x9C ∷ 0xA8 ∷ []) [] [])) roomy (recording [] [] [])) (outcomeOf (done (record { recording = recording (0xE6 ∷ 0x9C ∷ 0xA8 ∷ 0xE6 ∷ 0x9C ∷ 0xA8 ∷ []) [] []; lines = []; number = 0 }))) ∷
+    row (call (padEnd 2 (recording (0xE6 ∷ 0x9C ∷ 0xA8 ∷ []) [] [])) roomy (recording [] [] []))
+    (outcomeOf (done (record { recording = recording (0xE6 ∷ 0x9C ∷ 0xA8 ∷ 0xE6 ∷ 0x9C ∷ 0xA8 ∷ []) [] []; lines = []; number = 0 }))) ∷
     -- indent: the last line without 0A, an empty line, nothing after the last 0A
-    row (call (indent (recording (0x3E ∷ 0x20 ∷ []) [] [])) roomy (recording (0x61 ∷ 0x0A ∷ 0x0A ∷ 0x62 ∷ 0x0A ∷ []) [] [])) (outcomeOf (done (record { recording = recording (0x3E ∷ 0x20 ∷ 0x61 ∷ 0x0A ∷ 0x0A ∷ 0x3E ∷ 0x20 ∷ 0x62 ∷ 0x0A ∷ []) [] []; lines = []; number = 0 }))) ∷
+    row (call (indent (recording (0x3E ∷ 0x20 ∷ []) [] [])) roomy (recording (0x61 ∷ 0x0A ∷ 0x0A ∷ 0x62 ∷ 0x0A ∷ []) [] []))
+    (outcomeOf (done (record { recording = recording (0x3E ∷ 0x20 ∷ 0x61 ∷ 0x0A ∷ 0x0A ∷ 0x3E ∷ 0x20 ∷ 0x62 ∷ 0x0A ∷ []) [] []; lines = []; number = 0 }))) ∷
     -- indent: a line of spaces is not empty
-    row (call (indent (recording (0x3E ∷ []) [] [])) roomy (recording (0x20 ∷ 0x0A ∷ []) [] [])) (outcomeOf (done (record { recording = recording (0x3E ∷ 0x20 ∷ 0x0A ∷ []) [] []; lines = []; number = 0 }))) ∷
+    row (call (indent (recording (0x3E ∷ []) [] [])) roomy (recording (0x20 ∷ 0x0A ∷ []) [] []))
+    (outcomeOf (done (record { recording = recording (0x3E ∷ 0x20 ∷ 0x0A ∷ []) [] []; lines = []; number = 0 }))) ∷
     -- indent: entries at the line start come before the prefix
-    row (call (indent (recording (0x3E ∷ 0x20 ∷ []) [] [])) roomy (recording (0x61 ∷ 0x0A ∷ 0x62 ∷ 0x0A ∷ []) (0 ∷ 0 ∷ 0 ∷ 1 ∷ 2 ∷ 1 ∷ 0 ∷ 0 ∷ 2 ∷ 2 ∷ 1 ∷ 2 ∷ []) (0x4C ∷ 0x07 ∷ 0x07 ∷ []))) (outcomeOf (done (record { recording = recording (0x3E ∷ 0x20 ∷ 0x61 ∷ 0x0A ∷ 0x3E ∷ 0x20 ∷ 0x62 ∷ 0x0A ∷ []) (0 ∷ 0 ∷ 0 ∷ 1 ∷ 4 ∷ 1 ∷ 0 ∷ 0 ∷ 4 ∷ 2 ∷ 1 ∷ 2 ∷ []) (0x4C ∷ 0x07 ∷ 0x07 ∷ []); lines = []; number = 0 }))) ∷
+    row (call (indent (recording (0x3E ∷ 0x20 ∷ []) [] [])) roomy
+    (recording (0x61 ∷ 0x0A ∷ 0x62 ∷ 0x0A ∷ []) (0 ∷ 0 ∷ 0 ∷ 1 ∷ 2 ∷ 1 ∷ 0 ∷ 0 ∷ 2 ∷ 2 ∷ 1 ∷ 2 ∷ []) (0x4C ∷ 0x07 ∷ 0x07 ∷ [])))
+    (outcomeOf (done (record {
+      recording = recording (0x3E ∷ 0x20 ∷ 0x61 ∷ 0x0A ∷ 0x3E ∷ 0x20 ∷ 0x62 ∷ 0x0A ∷ []) (0 ∷ 0 ∷ 0 ∷ 1 ∷ 4 ∷ 1 ∷ 0 ∷ 0 ∷ 4 ∷ 2 ∷ 1 ∷ 2 ∷ [])
+          (0x4C ∷ 0x07 ∷ 0x07 ∷ []);
+      lines = [];
+      number = 0;
+    }))) ∷
     -- wrap: an entry in dropped white space comes after the 0A
-    row (call (wrap 2 false) roomy (recording (0x61 ∷ 0x62 ∷ 0x20 ∷ 0x20 ∷ 0x63 ∷ 0x64 ∷ []) (3 ∷ 2 ∷ 0 ∷ 1 ∷ []) (0x1B ∷ []))) (outcomeOf (done (record { recording = recording (0x61 ∷ 0x62 ∷ 0x0A ∷ 0x63 ∷ 0x64 ∷ []) (3 ∷ 2 ∷ 0 ∷ 1 ∷ []) (0x1B ∷ []); lines = (0 ∷ 2 ∷ 4 ∷ 6 ∷ []); number = 2 }))) ∷
+    row (call (wrap 2 false) roomy (recording (0x61 ∷ 0x62 ∷ 0x20 ∷ 0x20 ∷ 0x63 ∷ 0x64 ∷ []) (3 ∷ 2 ∷ 0 ∷ 1 ∷ []) (0x1B ∷ [])))
+    (outcomeOf (done (record { recording = recording (0x61 ∷ 0x62 ∷ 0x0A ∷ 0x63 ∷ 0x64 ∷ []) (3 ∷ 2 ∷ 0 ∷ 1 ∷ []) (0x1B ∷ []); lines = (0 ∷ 2 ∷ 4 ∷ 6 ∷ []); number = 2 }))) ∷
     -- wrap: empty data writes no byte and leaves its entries and one line
-    row (call (wrap 2 false) roomy (recording [] (0 ∷ 2 ∷ 0 ∷ 1 ∷ []) (0x1B ∷ []))) (outcomeOf (done (record { recording = recording [] (0 ∷ 2 ∷ 0 ∷ 1 ∷ []) (0x1B ∷ []); lines = (0 ∷ 0 ∷ []); number = 1 }))) ∷
+    row (call (wrap 2 false) roomy (recording [] (0 ∷ 2 ∷ 0 ∷ 1 ∷ []) (0x1B ∷ [])))
+    (outcomeOf (done (record { recording = recording [] (0 ∷ 2 ∷ 0 ∷ 1 ∷ []) (0x1B ∷ []); lines = (0 ∷ 0 ∷ []); number = 1 }))) ∷
     -- replace: entries at start before the new bytes, later ones after; records at one place in list order
-    row (call (replace (replacement 1 1 0 1 ∷ replacement 1 2 1 2 ∷ []) (0x58 ∷ 0x59 ∷ [])) roomy (recording (0x61 ∷ 0x62 ∷ 0x63 ∷ []) (1 ∷ 0 ∷ 0 ∷ 1 ∷ 2 ∷ 1 ∷ 0 ∷ 0 ∷ []) (0x4C ∷ []))) (outcomeOf (done (record { recording = recording (0x61 ∷ 0x58 ∷ 0x59 ∷ 0x63 ∷ []) (1 ∷ 0 ∷ 0 ∷ 1 ∷ 3 ∷ 1 ∷ 0 ∷ 0 ∷ []) (0x4C ∷ []); lines = []; number = 0 }))) ∷
+    row (call (replace (replacement 1 1 0 1 ∷ replacement 1 2 1 2 ∷ []) (0x58 ∷ 0x59 ∷ [])) roomy
+    (recording (0x61 ∷ 0x62 ∷ 0x63 ∷ []) (1 ∷ 0 ∷ 0 ∷ 1 ∷ 2 ∷ 1 ∷ 0 ∷ 0 ∷ []) (0x4C ∷ [])))
+    (outcomeOf (done (record { recording = recording (0x61 ∷ 0x58 ∷ 0x59 ∷ 0x63 ∷ []) (1 ∷ 0 ∷ 0 ∷ 1 ∷ 3 ∷ 1 ∷ 0 ∷ 0 ∷ []) (0x4C ∷ []); lines = []; number = 0 }))) ∷
     -- texts are copied in entry order from 0, unused text goes
-    row (call (wrap 9 false) roomy (recording [] (0 ∷ 0 ∷ 2 ∷ 1 ∷ 0 ∷ 0 ∷ 1 ∷ 1 ∷ []) (0x78 ∷ 0x79 ∷ 0x7A ∷ []))) (outcomeOf (done (record { recording = recording [] (0 ∷ 0 ∷ 0 ∷ 1 ∷ 0 ∷ 0 ∷ 1 ∷ 1 ∷ []) (0x7A ∷ 0x79 ∷ []); lines = (0 ∷ 0 ∷ []); number = 1 }))) ∷
+    row (call (wrap 9 false) roomy (recording [] (0 ∷ 0 ∷ 2 ∷ 1 ∷ 0 ∷ 0 ∷ 1 ∷ 1 ∷ []) (0x78 ∷ 0x79 ∷ 0x7A ∷ [])))
+    (outcomeOf (done (record { recording = recording [] (0 ∷ 0 ∷ 0 ∷ 1 ∷ 0 ∷ 0 ∷ 1 ∷ 1 ∷ []) (0x7A ∷ 0x79 ∷ []); lines = (0 ∷ 0 ∷ []); number = 1 }))) ∷
     -- 2: entry numbers not a multiple of 4
     row (call (wrap 9 false) roomy (recording [] (0 ∷ 1 ∷ 0 ∷ []) [])) (outcomeOf (refused 2)) ∷
     -- 2: entry numbers over 16,384
@@ -275,7 +300,8 @@ pins =
     -- 24: line list, two numbers a line
     row (call (wrap 9 false) (room 1 4 1 1) (recording (0x61 ∷ []) (0 ∷ 0 ∷ 0 ∷ 1 ∷ []) (0x78 ∷ []))) (outcomeOf (refused 24)) ∷
     -- each buffer exactly full
-    row (call (wrap 9 false) (room 1 4 1 2) (recording (0x61 ∷ []) (0 ∷ 0 ∷ 0 ∷ 1 ∷ []) (0x78 ∷ []))) (outcomeOf (done (record { recording = recording (0x61 ∷ []) (0 ∷ 0 ∷ 0 ∷ 1 ∷ []) (0x78 ∷ []); lines = (0 ∷ 1 ∷ []); number = 1 }))) ∷
+    row (call (wrap 9 false) (room 1 4 1 2) (recording (0x61 ∷ []) (0 ∷ 0 ∷ 0 ∷ 1 ∷ []) (0x78 ∷ [])))
+    (outcomeOf (done (record { recording = recording (0x61 ∷ []) (0 ∷ 0 ∷ 0 ∷ 1 ∷ []) (0x78 ∷ []); lines = (0 ∷ 1 ∷ []); number = 1 }))) ∷
     -- 21: before 22, 23 and 24
     row (call (wrap 9 false) (room 0 0 0 0) (recording (0x61 ∷ []) (0 ∷ 0 ∷ 0 ∷ 1 ∷ []) (0x78 ∷ []))) (outcomeOf (refused 21)) ∷
     -- 3: 3 before 4, in one entry
@@ -305,8 +331,10 @@ pins =
     row (colouredSteps ticket c16) (colours ticketColours) ∷
     row (strippedRun ticket c16) (numbers (0x3E ∷ 0x20 ∷ 0x2E ∷ [])) ∷
     -- the theorem's hypotheses are needed. A fill with an entry inside, twice: piece by piece it is `aabb`, and the plain step would make `abab`
-    row (colouredRun (record { job = padEnd 2 inside; room = roomy } ∷ []) (recording [] [] [])) (colours (under 0x61 [] ∷ under 0x61 [] ∷ under 0x62 ((0x66 ∷ []) ∷ []) ∷ under 0x62 ((0x66 ∷ []) ∷ []) ∷ [])) ∷
-    row (colouredSteps (record { job = padEnd 2 inside; room = roomy } ∷ []) (recording [] [] [])) (colours (under 0x61 [] ∷ under 0x62 ((0x66 ∷ []) ∷ []) ∷ under 0x61 [] ∷ under 0x62 ((0x66 ∷ []) ∷ []) ∷ [])) ∷
+    row (colouredRun (record { job = padEnd 2 inside; room = roomy } ∷ []) (recording [] [] []))
+    (colours (under 0x61 [] ∷ under 0x61 [] ∷ under 0x62 ((0x66 ∷ []) ∷ []) ∷ under 0x62 ((0x66 ∷ []) ∷ []) ∷ [])) ∷
+    row (colouredSteps (record { job = padEnd 2 inside; room = roomy } ∷ []) (recording [] [] []))
+    (colours (under 0x61 [] ∷ under 0x62 ((0x66 ∷ []) ∷ []) ∷ under 0x61 [] ∷ under 0x62 ((0x66 ∷ []) ∷ []) ∷ [])) ∷
     -- an ellipsis whose label stays open: what follows it is under that label, and in the plain step it is not
     row (colouredRun (record { job = truncateStart 2 unclosed; room = roomy } ∷ []) c16) (colours (under 0x2E ((0x66 ∷ []) ∷ []) ∷ under 0x64 ((0x66 ∷ []) ∷ []) ∷ [])) ∷
     row (colouredSteps (record { job = truncateStart 2 unclosed; room = roomy } ∷ []) c16) (colours (under 0x2E ((0x66 ∷ []) ∷ []) ∷ under 0x64 [] ∷ [])) ∷

@@ -12,7 +12,8 @@ use Rattle.recording.specs.Coloured.{Coloured, coloured, values}
 use Rattle.recording.specs.Edit.{labelsAt, under}
 use Rattle.layout.specs.declared.Replacement.{Replacement}
 use Rattle.layout.specs.Wrap.{Line, wrapLines}
-use Rattle.layout.specs.Layout.{trimmedStartPos, fillCount, Kind, writeTruncatedStart, writeTruncatedEnd, writePaddedStart, writePaddedEnd, writePaddedCentered, writeIndented, Single, writeWrapped, writeReplaced, Job, withSecond, alone, Call, refusal, after}
+use Rattle.layout.specs.Layout.{trimmedStartPos, fillCount, Kind, writeTruncatedStart, writeTruncatedEnd, writePaddedStart, writePaddedEnd, writePaddedCentered}
+use Rattle.layout.specs.Layout.{writeIndented, Single, writeWrapped, writeReplaced, Job, withSecond, alone, Call, refusal, after}
 
 -- what the steps are told of a call: of a refused one only that; of any other its name, numbers, breaking, replacement records and text, and its second recording as coloured bytes
 pub data Told : Type 0 where

@@ -8,7 +8,8 @@ use lib.Dec.{eqb}
 use Rattle.recording.specs.Recording.{Recording, strip}
 use Rattle.recording.specs.Coloured.{coloured, balanced, noneInside}
 use Rattle.recording.specs.Outcome.{Room}
-use Rattle.layout.specs.Layout.{Kind, writeTruncatedStart, writeTruncatedEnd, writePaddedStart, writePaddedEnd, writePaddedCentered, writeIndented, Job, withSecond, alone, wrap, Call, refusal, after, run}
+use Rattle.layout.specs.Layout.{Kind, writeTruncatedStart, writeTruncatedEnd, writePaddedStart, writePaddedEnd, writePaddedCentered, writeIndented, Job, withSecond, alone}
+use Rattle.layout.specs.Layout.{wrap, Call, refusal, after, run}
 use Rattle.layout.specs.Plain.{steps, told}
 
 -- ── what is asked

@@ -80,7 +80,8 @@ unfolding lineText wordText
 word-line [] = refl
 word-line (x ∷ d) = go (eqb x 0x0A) refl (eqb x 0x20) refl (word-line d)
   where
-    go : (t : Bool) → eqb x 0x0A ≡ t → (s : Bool) → eqb x 0x20 ≡ s → wordText (lineText d) ≡ wordText d → wordText (cond (eqb x 0x0A) [] (x ∷ lineText d)) ≡ cond (eqb x 0x20 || eqb x 0x0A) [] (x ∷ wordText d)
+    go : (t : Bool) → eqb x 0x0A ≡ t → (s : Bool) → eqb x 0x20 ≡ s → wordText (lineText d) ≡ wordText d
+        → wordText (cond (eqb x 0x0A) [] (x ∷ lineText d)) ≡ cond (eqb x 0x20 || eqb x 0x0A) [] (x ∷ wordText d)
     go true e true e′ h = rw (e, e′)
     go true e false e′ h = rw (e, e′)
     go false e true e′ h = simp (e, e′)
@@ -105,14 +106,16 @@ space-le (x ∷ d) = go (eqb x 0x20) (space-le d)
     go false h = omega arith
 
 -- what comes after the word at the front: nothing, or a stop
-word-rest : (l : List ℕ) → AllOf NoNewline l → (wordText l ++ drop (length (wordText l)) l ≡ l) × AllOf Inner (wordText l) × ((drop (length (wordText l)) l ≡ []) ⊎ (0 < spaceLen (drop (length (wordText l)) l)))
+word-rest : (l : List ℕ) → AllOf NoNewline l → (wordText l ++ drop (length (wordText l)) l ≡ l) × AllOf Inner (wordText l)
+    × ((drop (length (wordText l)) l ≡ []) ⊎ (0 < spaceLen (drop (length (wordText l)) l)))
 unfolding wordText spaceLen
 word-rest [] h = (refl, tt, inl refl)
 word-rest (x ∷ l) h = go (eqb x 0x20) refl (word-rest l (h .1))
   where
     go : (t : Bool) → eqb x 0x20 ≡ t
         → (wordText l ++ drop (length (wordText l)) l ≡ l) × AllOf Inner (wordText l) × ((drop (length (wordText l)) l ≡ []) ⊎ (0 < spaceLen (drop (length (wordText l)) l)))
-        → (wordText (x ∷ l) ++ drop (length (wordText (x ∷ l))) (x ∷ l) ≡ x ∷ l) × AllOf Inner (wordText (x ∷ l)) × ((drop (length (wordText (x ∷ l))) (x ∷ l) ≡ []) ⊎ (0 < spaceLen (drop (length (wordText (x ∷ l))) (x ∷ l))))
+        → (wordText (x ∷ l) ++ drop (length (wordText (x ∷ l))) (x ∷ l) ≡ x ∷ l) × AllOf Inner (wordText (x ∷ l))
+        × ((drop (length (wordText (x ∷ l))) (x ∷ l) ≡ []) ⊎ (0 < spaceLen (drop (length (wordText (x ∷ l))) (x ∷ l))))
     go true e k =
         let n : wordText (x ∷ l) ≡ [] = rw e in
         let p : spaceLen (x ∷ l) ≡ suc (spaceLen l) = rw e in
@@ -234,7 +237,8 @@ long m t g y c cs e i s o = go (afterHead m (c ∷ cs)) refl
         let all : h ≡ c ∷ cs = sym (append-nil h) ∙ ap (λ (r : List Character). h ++ r) (sym q) ∙ head-split m (c ∷ cs) in
         let byteItems : bytesOf h ≡ t = ap bytesOf (all ∙ sym e) ∙ bytes-chars t in
         goes m (t ++ (spaces g ++ y)) h (spaces g ++ y) y g (ap (λ (b : List ℕ). b ++ (spaces g ++ y)) (sym byteItems)) (spaces-len g y s) (spaces-drop g y)
-        (words m t g y c cs e i s o ∙ ap (λ (k : List (List Character)). headsAsWords g k ++ splitWords m (wordsOf (byteWords y))) (heads-cons m c cs ∙ ap (λ (r : List Character). h ∷ restHeads m r) q))
+        (words m t g y c cs e i s o ∙ ap (λ (k : List (List Character)). headsAsWords g k ++ splitWords m (wordsOf (byteWords y)))
+        (heads-cons m c cs ∙ ap (λ (r : List Character). h ∷ restHeads m r) q))
     go (d ∷ ds) q =
         let h = headOf m (c ∷ cs) in
         let u = bytesOf (d ∷ ds) in

@@ -111,7 +111,8 @@ module _ (t : List ℕ) (i : ℕ) (g : Seen) (e : g ≡ seenOf (chars (drop i t)
 
   -- it is within m
   pub kept-more : g .len ≢ 0 → (m : ℕ) → g .width ≤ m
-      → (truncateEndPos m (drop i t) ≡ g .len + truncateEndPos (m - g .width) (drop (i + g .len) t)) × (truncateEndWidth m (drop i t) ≡ g .width + truncateEndWidth (m - g .width) (drop (i + g .len) t))
+      → (truncateEndPos m (drop i t) ≡ g .len + truncateEndPos (m - g .width) (drop (i + g .len) t))
+      × (truncateEndWidth m (drop i t) ≡ g .width + truncateEndWidth (m - g .width) (drop (i + g .len) t))
   unfolding truncateEndPos truncateEndWidth
   kept-more z m h = let more = seen-more z in folds.kept-more t i (g .len) (g .width) more (seen-len more) (seen-width more) m h
 
@@ -211,7 +212,8 @@ after-word end here (x ∷ s) h e = rw (ne-eqb x 0x0A e)
 
 -- ── the head that the search and the case of place 0 give
 head-by : (m : ℕ) (d : List ℕ) (cut width : ℕ) (cs : List Character) → chars (wordText d) ≡ cs → cut ≡ length (bytesOf (keptWithin m cs)) → width ≡ widthOf (keptWithin m cs)
-    → (pickHead (eqb cut 0) (oneHead d) (record { len = cut; width = width }) .len ≡ length (bytesOf (headOf m cs))) × (pickHead (eqb cut 0) (oneHead d) (record { len = cut; width = width }) .width ≡ widthOf (headOf m cs))
+    → (pickHead (eqb cut 0) (oneHead d) (record { len = cut; width = width }) .len ≡ length (bytesOf (headOf m cs)))
+    × (pickHead (eqb cut 0) (oneHead d) (record { len = cut; width = width }) .width ≡ widthOf (headOf m cs))
 unfolding oneHead headOf oneChar
 head-by m d cut width [] k e f = rw (e, k) (refl, refl)
 head-by m d cut width (c ∷ cs) k e f = go (leb (wide c) m) refl
@@ -290,7 +292,17 @@ pub record State (d : List ℕ) (at w : ℕ) (b : Bool) (word : List ℕ) (here 
 
 pub state-start : (d : List ℕ) (at w : ℕ) (b : Bool) → at ≤ length d → State d at w b (take (length d - at) (drop at d)) at at 0 true
 state-start d at w b h =
-    record { is = part-to-end d at; within = h; past = omega arith; low = omega arith; high = omega arith; small = omega arith; some = λ e. absurd (false≢true (sym e)); lines = rw (part-to-end d at) (rest-start w b at (drop at d)) }
+    record {
+      is = part-to-end d at;
+      within = h;
+      past = omega arith;
+      low = omega arith;
+      high = omega arith;
+      small = omega arith;
+      some = λ e. absurd (false≢true (sym e));
+      lines = rw
+          (part-to-end d at) (rest-start w b at (drop at d));
+    }
 
 module _ (d : List ℕ) (at w : ℕ) (b : Bool) (word : List ℕ) (here stop run : ℕ) (first : Bool) (S : State d at w b word here stop run first) where
   pub left-len : here + length word ≡ length d
@@ -331,10 +343,12 @@ module _ (d : List ℕ) (at w : ℕ) (b : Bool) (word : List ℕ) (here stop run
 
 -- what `next_line` promises of its answer
 abbrev pub Promise : List ℕ → ℕ → ℕ → Bool → Next → Type 0
-Promise d at w b r = (restLines w b at (drop at d) ≡ lineOf at (r .end) ∷ following w b d r) × ((at ≤ r .end) × (r .end ≤ length d) × (r .next ≤ length d) × (r .more ≡ true → (at < r .next) × (r .end ≤ r .next)))
+Promise d at w b r = (restLines w b at (drop at d) ≡ lineOf at (r .end) ∷ following w b d r)
+    × ((at ≤ r .end) × (r .end ≤ length d) × (r .next ≤ length d) × (r .more ≡ true → (at < r .next) × (r .end ≤ r .next)))
 
 -- the line of the data ends here
-pub state-end : (d : List ℕ) (at w : ℕ) (b : Bool) (word : List ℕ) (here stop run : ℕ) (first : Bool) → State d at w b word here stop run first → inLine word ≡ false → Promise d at w b (afterLine stop here word)
+pub state-end : (d : List ℕ) (at w : ℕ) (b : Bool) (word : List ℕ) (here stop run : ℕ) (first : Bool) → State d at w b word here stop run first → inLine word ≡ false
+    → Promise d at w b (afterLine stop here word)
 unfolding afterLine following inLine
 state-end d at w b [] here stop run first S i = (S .lines ∙ going-last w b first at stop here run, (S .low, omega (arith, S .high, S .within), omega arith, λ e. absurd (false≢true e)))
 state-end d at w b (x ∷ word) here stop run first S i = go (eqb x 0x0A) refl i
@@ -356,7 +370,8 @@ after-in end here (x ∷ s) h = go (eqb x 0x0A) h
     go false k = refl
 
 -- the next head does not fit
-pub state-new : (d : List ℕ) (at w : ℕ) (b : Bool) (word : List ℕ) (here stop run : ℕ) (first : Bool) → State d at w b word here stop run first → (n width : ℕ) → 2 * length d ≤ unreached → inLine word ≡ true
+pub state-new : (d : List ℕ) (at w : ℕ) (b : Bool) (word : List ℕ) (here stop run : ℕ) (first : Bool) → State d at w b word here stop run first → (n width : ℕ)
+    → 2 * length d ≤ unreached → inLine word ≡ true
     → n ≡ headLen (limitOf w b) word → width ≡ headWidth (limitOf w b) word → (first || leb (run + width) w) ≡ false → Promise d at w b (afterLine stop here word)
 unfolding following
 state-new d at w b word here stop run true S n width s i en ew f = absurd (false≢true (sym f))
@@ -380,7 +395,8 @@ not-fit : (first : Bool) (run part width w : ℕ) → (first || leb (run + part)
 not-fit true run part width w e h = e
 not-fit false run part width w e h = lt-leb (run + width) w (omega (arith, leb-false (run + part) w e))
 
-pub state-early : (d : List ℕ) (at w : ℕ) (b : Bool) (word : List ℕ) (here stop run : ℕ) (first : Bool) → State d at w b word here stop run first → (m part : ℕ) → m ≡ limitOf w b → 2 * length d ≤ unreached
+pub state-early : (d : List ℕ) (at w : ℕ) (b : Bool) (word : List ℕ) (here stop run : ℕ) (first : Bool) → State d at w b word here stop run first → (m part : ℕ) → m ≡ limitOf w b
+    → 2 * length d ≤ unreached
     → inLine word ≡ true → 0 < truncateEndPos m (wordText word) → part ≤ truncateEndWidth m (wordText word) → (first || leb (run + part) w) ≡ false → Promise d at w b (afterLine stop here word)
 state-early d at w b word here stop run first S m part e s i p q f =
     let h : part ≤ headWidth (limitOf w b) word = rw e at (rw (fit-head m word p) at q) in

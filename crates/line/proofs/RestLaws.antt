@@ -9,7 +9,8 @@ use lib.Dec.{leb, ltb, eqb}
 use lib.ListN.{length, drop, length-append, length-drop}
 use Rattle.chars.specs.Chars.{Character, chars, bytesOf, widthOf}
 use Rattle.chars.proofs.CharsLaws.{bytes-chars, bytes-append, Valid, valid-chars, valid-prefix, width-bound}
-use Rattle.layout.specs.Wrap.{ontoFirst, groupsFrom, groups, splitLines, Word, ByteWord, byteWords, wordsOf, splitWords, splitWordsAtWidth, fitsLine, fullWidth, firstFit, Line, lineOf, wordLen, shownLen, wholeLen, groupLines, wrappedLine, linesFrom, wrapLines}
+use Rattle.layout.specs.Wrap.{ontoFirst, groupsFrom, groups, splitLines, Word, ByteWord, byteWords, wordsOf, splitWords, splitWordsAtWidth, fitsLine, fullWidth, firstFit, Line}
+use Rattle.layout.specs.Wrap.{lineOf, wordLen, shownLen, wholeLen, groupLines, wrappedLine, linesFrom, wrapLines}
 use Rattle.layout.proofs.GroupLaws.{from-join, from-new}
 use Rattle.layout.proofs.WordLaws.{spaces, length-spaces, joinWords, unrun-runs}
 use Rattle.layout.proofs.WordingLaws.{narrow}
@@ -62,16 +63,31 @@ placed-spans w [] us at run = rw (append-nil us)
 placed-spans w (v ∷ vs) us at run = go (fitsLine w run v) refl (placed-spans w vs (us ++ (v ∷ [])) at (run + fullWidth v)) (placed-spans w vs (v ∷ []) (at + wholeLen us) (fullWidth v))
   where
     go : (t : Bool) → fitsLine w run v ≡ t
-        → groupLines at (onto (us ++ (v ∷ [])) (groupsFrom (fitsLine w) fullWidth (run + fullWidth v) vs)) ≡ placed w false at (at + shownLen (us ++ (v ∷ []))) (at + wholeLen (us ++ (v ∷ []))) (run + fullWidth v) vs
-        → groupLines (at + wholeLen us) (onto (v ∷ []) (groupsFrom (fitsLine w) fullWidth (fullWidth v) vs)) ≡ placed w false (at + wholeLen us) ((at + wholeLen us) + shownLen (v ∷ [])) ((at + wholeLen us) + wholeLen (v ∷ [])) (fullWidth v) vs
+        → groupLines at (onto (us ++ (v ∷ [])) (groupsFrom (fitsLine w) fullWidth (run + fullWidth v) vs)) ≡ placed w false at (at + shownLen (us ++ (v ∷ [])))
+        (at + wholeLen (us ++ (v ∷ []))) (run + fullWidth v) vs
+        → groupLines (at + wholeLen us) (onto (v ∷ []) (groupsFrom (fitsLine w) fullWidth (fullWidth v) vs)) ≡ placed w false (at + wholeLen us)
+        ((at + wholeLen us) + shownLen (v ∷ [])) ((at + wholeLen us) + wholeLen (v ∷ [])) (fullWidth v) vs
         → groupLines at (onto us (groupsFrom (fitsLine w) fullWidth run (v ∷ vs))) ≡ placed w false at (at + shownLen us) (at + wholeLen us) run (v ∷ vs)
     go true e h k =
-        rw (from-join (fitsLine w) fullWidth run v vs e, onto-more us v (groupsFrom (fitsLine w) fullWidth (run + fullWidth v) vs), placed-join w false at (at + shownLen us) (at + wholeLen us) run v vs e)
-        (h ∙ placed-at w at (at + shownLen (us ++ (v ∷ []))) (at + wholeLen us + wordLen v) (at + wholeLen (us ++ (v ∷ []))) (at + wholeLen us + wordLen v + v .space) (run + fullWidth v) vs (omega (arith, shown-more us v)) (omega (arith, whole-more us v)))
+        rw (
+          from-join (fitsLine w) fullWidth run v vs e,
+          onto-more us v (groupsFrom (fitsLine w) fullWidth (run + fullWidth v) vs),
+          placed-join w false at (at + shownLen us)
+              (at + wholeLen us) run v vs e,
+        )
+        (h ∙ placed-at w at (at + shownLen (us ++ (v ∷ []))) (at + wholeLen us + wordLen v) (at + wholeLen (us ++ (v ∷ []))) (at + wholeLen us + wordLen v + v .space)
+        (run + fullWidth v) vs (omega (arith, shown-more us v)) (omega (arith, whole-more us v)))
     go false e h k =
-        rw (from-new (fitsLine w) fullWidth run v vs e, placed-new w false at (at + shownLen us) (at + wholeLen us) run v vs e, append-nil us, onto-one v (groupsFrom (fitsLine w) fullWidth (fullWidth v) vs))
+        rw (
+          from-new (fitsLine w) fullWidth run v vs e,
+          placed-new w false at (at + shownLen us) (at + wholeLen us) run v vs e,
+          append-nil us,
+          onto-one v
+              (groupsFrom (fitsLine w) fullWidth (fullWidth v) vs),
+        )
         (ap (λ (l : List Line). lineOf at (at + shownLen us) ∷ l)
-        (k ∙ placed-at w (at + wholeLen us) ((at + wholeLen us) + shownLen (v ∷ [])) (at + wholeLen us + wordLen v) ((at + wholeLen us) + wholeLen (v ∷ [])) (at + wholeLen us + wordLen v + v .space) (fullWidth v) vs (omega arith) (omega arith)))
+        (k ∙ placed-at w (at + wholeLen us) ((at + wholeLen us) + shownLen (v ∷ [])) (at + wholeLen us + wordLen v) ((at + wholeLen us) + wholeLen (v ∷ []))
+        (at + wholeLen us + wordLen v + v .space) (fullWidth v) vs (omega arith) (omega arith)))
 
 placed-first : (w : ℕ) (vs : List Word) (at : ℕ) → groupLines at (groups (fitsLine w) fullWidth vs) ≡ placed w true at at at 0 vs
 unfolding placed
@@ -79,12 +95,14 @@ placed-first w [] at = let e : at + 0 ≡ at = omega arith in rw e
 placed-first w (v ∷ vs) at =
     let z : 0 + fullWidth v ≡ fullWidth v = omega arith in
     rw (onto-one v (groupsFrom (fitsLine w) fullWidth (fullWidth v) vs), z)
-    (placed-spans w vs (v ∷ []) at (fullWidth v) ∙ placed-at w at (at + shownLen (v ∷ [])) (at + wordLen v) (at + wholeLen (v ∷ [])) (at + wordLen v + v .space) (fullWidth v) vs (omega arith) (omega arith))
+    (placed-spans w vs (v ∷ []) at (fullWidth v) ∙ placed-at w at (at + shownLen (v ∷ [])) (at + wordLen v) (at + wholeLen (v ∷ [])) (at + wordLen v + v .space) (fullWidth v) vs
+    (omega arith) (omega arith))
 
 -- where a line may start
 pub rest-start : (w : ℕ) (b : Bool) (at : ℕ) (d : List ℕ) → restLines w b at d ≡ going w b true at at at 0 d
 unfolding restLines going wrappedLine firstFit
-rest-start w b at d = rw (lines-split d) (ap (λ (l : List Line). l ++ linesFrom w b (suc (at + length (lineText d))) (laterLines d)) (placed-first w (splitWordsAtWidth w b (wordsOf (byteWords (lineText d)))) at))
+rest-start w b at d = rw (lines-split d) (ap (λ (l : List Line). l ++ linesFrom w b (suc (at + length (lineText d))) (laterLines d))
+    (placed-first w (splitWordsAtWidth w b (wordsOf (byteWords (lineText d)))) at))
 
 -- the end of the data, and the end of a line of the data
 pub going-last : (w : ℕ) (b first : Bool) (at end here run : ℕ) → going w b first at end here run [] ≡ lineOf at end ∷ []
@@ -110,7 +128,8 @@ runs-narrow : (m : ℕ) (rs : List ByteWord) → 2 * length (joinWords rs) ≤ m
 runs-narrow m [] h = refl
 runs-narrow m (r ∷ rs) h =
     let l : length (joinWords (r ∷ rs)) ≡ length (r .text) + (r .gap + length (joinWords rs)) =
-    length-append (r .text) (spaces (r .gap) ++ joinWords rs) ∙ ap (λ (n : ℕ). length (r .text) + n) (length-append (spaces (r .gap)) (joinWords rs) ∙ ap (λ (n : ℕ). n + length (joinWords rs)) (length-spaces (r .gap))) in
+    length-append (r .text) (spaces (r .gap) ++ joinWords rs) ∙ ap (λ (n : ℕ). length (r .text) + n)
+    (length-append (spaces (r .gap)) (joinWords rs) ∙ ap (λ (n : ℕ). n + length (joinWords rs)) (length-spaces (r .gap))) in
     let k : widthOf (chars (r .text)) ≤ m = omega (arith, width-bound (chars (r .text)) (valid-chars (r .text)), ap length (bytes-chars (r .text)), l) in
     rw (narrow m (chars (r .text)) k, runs-narrow m rs (omega (arith, l)))
 
@@ -137,7 +156,8 @@ head-valid m t = valid-prefix (headOf m (chars t)) (afterHead m (chars t)) (rw (
 
 head-le : (m : ℕ) (t : List ℕ) → length (bytesOf (headOf m (chars t))) ≤ length t
 head-le m t =
-    let e : bytesOf (headOf m (chars t)) ++ bytesOf (afterHead m (chars t)) ≡ t = sym (bytes-append (headOf m (chars t)) (afterHead m (chars t))) ∙ ap bytesOf (head-split m (chars t)) ∙ bytes-chars t in
+    let e : bytesOf (headOf m (chars t)) ++ bytesOf (afterHead m (chars t)) ≡ t = sym (bytes-append (headOf m (chars t)) (afterHead m (chars t)))
+    ∙ ap bytesOf (head-split m (chars t)) ∙ bytes-chars t in
     omega (arith, ap length e, length-append (bytesOf (headOf m (chars t))) (bytesOf (afterHead m (chars t))))
 
 pub head-width : (m : ℕ) (d : List ℕ) → headWidth m d ≤ 2 * headLen m d
@@ -150,7 +170,15 @@ head-in m d = omega (arith, head-le m (wordText d), word-le (lineText d), ap len
 
 pub gap-in : (m : ℕ) (d : List ℕ) → headLen m d + spaceLen (drop (headLen m d) d) ≤ length (lineText d)
 gap-in m d =
-    omega (arith, head-in m d, ap length (text-drop (headLen m d) d (head-in m d)), length-drop (headLen m d) (lineText d), space-line (drop (headLen m d) d), space-le (lineText (drop (headLen m d) d)))
+    omega (
+      arith,
+      head-in m d,
+      ap length (text-drop (headLen m d) d (head-in m d)),
+      length-drop (headLen m d) (lineText d),
+      space-line (drop (headLen m d) d),
+      space-le
+          (lineText (drop (headLen m d) d)),
+    )
 
 -- a word that is not empty has a head that is not empty
 heads-some : (m : ℕ) (t : List ℕ) → 0 < length t → (cs : List Character) → chars t ≡ cs → 0 < length (bytesOf (headOf m (chars t)))
@@ -203,7 +231,8 @@ heads-at w b d s p =
     ∙ ap (λ (r : List Word). (record { body = firstHead m d; space = k }) ∷ r) (sym (breaking-limit w b (lineText (drop (n + k) d)) (omega (arith, text-le (drop (n + k) d), length-drop (n + k) d))))
 
 -- n, width and k are the first head's length, its width, and the bytes 20 after it
-module _ (w : ℕ) (b : Bool) (at end here run : ℕ) (d : List ℕ) (n width k : ℕ) (s : 2 * length d ≤ unreached) (p : 0 < length (lineText d)) (en : n ≡ headLen (limitOf w b) d) (ew : width ≡ headWidth (limitOf w b) d)
+module _ (w : ℕ) (b : Bool) (at end here run : ℕ) (d : List ℕ) (n width k : ℕ) (s : 2 * length d ≤ unreached) (p : 0 < length (lineText d)) (en : n ≡ headLen (limitOf w b) d)
+    (ew : width ≡ headWidth (limitOf w b) d)
     (ek : k ≡ spaceLen (drop n d)) where
   abbrev head : Word
   head = record { body = firstHead (limitOf w b) d; space = k }
@@ -226,7 +255,8 @@ module _ (w : ℕ) (b : Bool) (at end here run : ℕ) (d : List ℕ) (n width k 
   pub going-step : (first : Bool) → (first || leb (run + width) w) ≡ true → going w b first at end here run d ≡ going w b false at (here + n) (here + n + k) (run + width + k) (drop (n + k) d)
   unfolding going
   going-step first f =
-      let a : suc (here + length (lineText d)) ≡ suc ((here + n + k) + length (lineText (drop (n + k) d))) = omega (arith, in-now, ap length (text-drop (n + k) d in-now), length-drop (n + k) (lineText d)) in
+      let a : suc (here + length (lineText d)) ≡ suc ((here + n + k) + length (lineText (drop (n + k) d))) = omega
+      (arith, in-now, ap length (text-drop (n + k) d in-now), length-drop (n + k) (lineText d)) in
       let t : run + fullWidth head ≡ run + width + k = omega (arith, width-now) in
       let j = placed-join w first at end here run head (splitWordsAtWidth w b (wordsOf (byteWords (lineText (drop (n + k) d))))) (rw width-now f) in
       rw (heads-now, later-drop (n + k) d in-now, ← a) (ap (λ (l : List Line). l ++ linesFrom w b (suc (here + length (lineText d))) (laterLines d)) (rw (t, len-now) at j))
@@ -239,4 +269,5 @@ module _ (w : ℕ) (b : Bool) (at end here run : ℕ) (d : List ℕ) (n width k 
       let z : 0 + fullWidth head ≡ fullWidth head = omega arith in
       let o = placed-join w true here here here 0 head vs refl in
       rw (rest-start w b here d, heads-now)
-      (ap (λ (l : List Line). l ++ linesFrom w b (suc (here + length (lineText d))) (laterLines d)) (placed-new w false at end here run head vs (rw width-now f) ∙ ap (λ (l : List Line). lineOf at end ∷ l) (sym (rw z at o))))
+      (ap (λ (l : List Line). l ++ linesFrom w b (suc (here + length (lineText d))) (laterLines d))
+      (placed-new w false at end here run head vs (rw width-now f) ∙ ap (λ (l : List Line). lineOf at end ∷ l) (sym (rw z at o))))

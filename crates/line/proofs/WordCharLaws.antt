@@ -53,8 +53,10 @@ matched-word (c ∷ cs) (x ∷ r) h =
     let k = and-both (leb 0x80 (c .low)) (allHigh cs) h in
     go (endsWord x) refl (within (c .low) (c .high) x) refl (leb→le 0x80 (c .low) (k .0)) (matched-word cs r (k .1))
   where
-    go : (s : Bool) → endsWord x ≡ s → (t : Bool) → within (c .low) (c .high) x ≡ t → 0x80 ≤ c .low → (matched cs (wordText r) ≡ matched cs r) × (take (matched cs r) (wordText r) ≡ take (matched cs r) r)
-        → (matched (c ∷ cs) (cond s [] (x ∷ wordText r)) ≡ cond t (suc (matched cs r)) 0) × (take (cond t (suc (matched cs r)) 0) (cond s [] (x ∷ wordText r)) ≡ take (cond t (suc (matched cs r)) 0) (x ∷ r))
+    go : (s : Bool) → endsWord x ≡ s → (t : Bool) → within (c .low) (c .high) x ≡ t → 0x80 ≤ c .low → (matched cs (wordText r) ≡ matched cs r)
+        × (take (matched cs r) (wordText r) ≡ take (matched cs r) r)
+        → (matched (c ∷ cs) (cond s [] (x ∷ wordText r)) ≡ cond t (suc (matched cs r)) 0) ×
+        (take (cond t (suc (matched cs r)) 0) (cond s [] (x ∷ wordText r)) ≡ take (cond t (suc (matched cs r)) 0) (x ∷ r))
     go true e true f l g = absurd (false≢true (sym (rw (lt-leb (c .low) x (omega (arith, end-low x e)))) ∙ f))
     go true e false f l g = (refl, refl)
     go false e true f l g = (rw (f, g .0), ap (λ (l : List ℕ). x ∷ l) (g .1))
@@ -75,6 +77,7 @@ word-drop zero s h = refl
 word-drop (suc i) [] h = absurd (omega arith)
 word-drop (suc i) (x ∷ s) h = go (endsWord x) h (λ k. word-drop i s k)
   where
-    go : (t : Bool) → suc i ≤ length (cond t [] (x ∷ wordText s)) → (i ≤ length (wordText s) → drop i (wordText s) ≡ wordText (drop i s)) → drop (suc i) (cond t [] (x ∷ wordText s)) ≡ wordText (drop i s)
+    go : (t : Bool) → suc i ≤ length (cond t [] (x ∷ wordText s)) → (i ≤ length (wordText s) → drop i (wordText s) ≡ wordText (drop i s))
+        → drop (suc i) (cond t [] (x ∷ wordText s)) ≡ wordText (drop i s)
     go true k f = absurd (omega arith)
     go false k f = f (omega arith)

@@ -82,7 +82,14 @@ module _ (s : Single) (ds ns ts : List ℕ) (b : Lent) where
             leaves = refl;
             data-size = ed ∙ sym (ap length (edit-data (singleOps s ds) (items content)) ∙ ap (λ (x : Bytes). length (editData (singleOps s ds) x)) (data-items content));
             entry-size =
-                omega (arith, count-numbers (items content) 0 0, numbers-items ds ns ts (quads-of ds ns ts passed), edit-count (singleOps s ds) (items content), no-puts (singleOps s ds) (bare-single s ds) .0);
+                omega (
+                  arith,
+                  count-numbers (items content) 0 0,
+                  numbers-items ds ns ts (quads-of ds ns ts passed),
+                  edit-count (singleOps s ds) (items content),
+                  no-puts
+                      (singleOps s ds) (bare-single s ds) .0,
+                );
             text-size = omega (arith, counted, edit-text (singleOps s ds) (items content), no-puts (singleOps s ds) (bare-single s ds) .1);
             line-size = el;
           }

@@ -228,5 +228,13 @@ module _ (r q : Recording) (a : Checked) (ea : faultOf a ≡ recordingFault r) w
 
     pub both-fine : (m : ℕ) → b ≡ Fine m → Counted b (length (textOf (items q))) → Within b 268435456 → BothChecked (both.Fine (record { content = n; second = m })) r q
     unfolding BothChecked
-    both-fine m h cb wb =
-        (no-first, (sym eb ∙ fine-zero b m h, (fine-count a n (length (textOf (items r))) e ca, (fine-count b m (length (textOf (items q))) h cb, (fine-within a n 268435456 e wa, fine-within b m 268435456 h wb)))))
+    both-fine m h cb wb = (
+      no-first,
+      (
+        sym eb ∙ fine-zero b m h,
+        (
+          fine-count a n (length (textOf (items r))) e ca,
+          (fine-count b m (length (textOf (items q))) h cb, (fine-within a n 268435456 e wa, fine-within b m 268435456 h wb)),
+        ),
+      ),
+    )

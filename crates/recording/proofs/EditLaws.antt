@@ -120,7 +120,18 @@ edit-law (keep n ∷ ops) s is h q =
 edit-law (skip n ∷ ops) s is h q =
     rw (coloured-append, coloured-entries, open-entries, edit-law ops (openAfter s (front n is)) (back n is) (bal-back s n is h) q, coloured-back)
 edit-law (put p ∷ ops) s is h q =
-    rw (coloured-append s (front 0 is) (p ++ edit ops (back 0 is)), coloured-append (openAfter s (front 0 is)) p (edit ops (back 0 is)), coloured-under [] (openAfter s (front 0 is)) p (q .0), open-under [] (openAfter s (front 0 is)) p (q .0), labels-front s is h, edit-law ops (openAfter s (front 0 is)) (back 0 is) (bal-back s 0 is h) (q .1), coloured-front s 0 is, coloured-back s 0 is)
+    rw (
+      coloured-append s (front 0 is) (p ++ edit ops (back 0 is)),
+      coloured-append (openAfter s (front 0 is)) p (edit ops (back 0 is)),
+      coloured-under []
+          (openAfter s (front 0 is)) p (q .0),
+      open-under [] (openAfter s (front 0 is)) p (q .0),
+      labels-front s is h,
+      edit-law ops (openAfter s (front 0 is)) (back 0 is)
+          (bal-back s 0 is h) (q .1),
+      coloured-front s 0 is,
+      coloured-back s 0 is,
+    )
 
 -- balance is kept
 pub bal-front : (n k : ℕ) (is x : List Item) → ((m : ℕ) → balancedFrom m (back k is) ≡ true → balancedFrom m x ≡ true) → balancedFrom n is ≡ true → balancedFrom n (front k is ++ x) ≡ true

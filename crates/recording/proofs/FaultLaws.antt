@@ -254,7 +254,16 @@ written (byte b ∷ is) last at used d pre l h e o = written is last (suc at) us
 written (push t ∷ is) last at used d pre l h e o =
     let k : used + length t ≤ length (pre ++ (t ++ textOf is)) = omega (arith, length-append pre (t ++ textOf is), length-append t (textOf is)) in
     let ih = written is at at (used + length t) d (pre ++ t) (omega arith) h (length-append pre t ∙ rw e) (o .1) in
-    rw (le-ltb at last l, le-ltb (length d) at (omega arith), le-ltb (length (pre ++ (t ++ textOf is))) (used + length t) k, part-at pre t (textOf is) used e, o .0, ← append-assoc pre t (textOf is), ih)
+    rw (
+      le-ltb at last l,
+      le-ltb (length d) at (omega arith),
+      le-ltb (length (pre ++ (t ++ textOf is))) (used + length t) k,
+      part-at pre t (textOf is) used e,
+      o .0,
+      ← append-assoc
+          pre t (textOf is),
+      ih,
+    )
 written (pop ∷ is) last at used d pre l h e o =
     let ih = written is at at used d pre (omega arith) h e (o .1) in
     rw (le-ltb at last l, le-ltb (length d) at (omega arith), le-ltb (length (pre ++ textOf is)) (0 + 0) (omega arith), ih)
@@ -296,4 +305,9 @@ readBack x b =
 
 pub read-back : (x : Result) (b : Lent) → readBack (done x) b ≡ x .recording
 unfolding returned lentAfter
-read-back x b = λ i. record { dataBytes = take-over (x .recording .dataBytes) (b .dataBytes) i; entryNumbers = take-over (x .recording .entryNumbers) (b .entryNumbers) i; text = take-over (x .recording .text) (b .text) i }
+read-back x b = λ i. record {
+  dataBytes = take-over (x .recording .dataBytes) (b .dataBytes) i;
+  entryNumbers = take-over (x .recording .entryNumbers) (b .entryNumbers) i;
+  text =
+      take-over (x .recording .text) (b .text) i;
+}

@@ -79,7 +79,13 @@ pub data-itemsFrom : (es : List Entry) (at : ℕ) (t d : Bytes) → dataOf (item
 data-itemsFrom [] at t d = data-bytes d
 data-itemsFrom (e ∷ es) at t d =
     let p : ℕ = e .position in
-    rw (data-append (byteItems (take (p - at) d)) (itemOf (e .kind) (partOf t e) ∷ itemsFrom p t (drop (p - at) d) es), data-entry (e .kind) (partOf t e) (itemsFrom p t (drop (p - at) d) es), data-bytes (take (p - at) d), data-itemsFrom es p t (drop (p - at) d))
+    rw (
+      data-append (byteItems (take (p - at) d)) (itemOf (e .kind) (partOf t e) ∷ itemsFrom p t (drop (p - at) d) es),
+      data-entry (e .kind) (partOf t e)
+          (itemsFrom p t (drop (p - at) d) es),
+      data-bytes (take (p - at) d),
+      data-itemsFrom es p t (drop (p - at) d),
+    )
     (take-append-drop (p - at) d)
 
 pub data-items : (r : Recording) → dataOf (items r) ≡ r .dataBytes

@@ -19,7 +19,8 @@ use Rattle.recording.specs.declared.Answer.{Answer}
 use Rattle.layout.specs.Wrap.{Line, lineNumbers, wrapLines}
 use Rattle.wrap_lines.specs.WrapBytes.{lentLines, wrapResult, wrapBytesOutcome}
 use Rattle.wrap_lines.proofs.WrapLaws.{outcome-done}
-use Rattle.sheet.specs.Sheet.{after, upTo, sheetLine, sheetLines, allDigits, valueFrom, noLeadingZero, smallDigits, isDecimal, decimalOr, isBreak, breakOf, isData, allHex, dataOf, widthField, breakField, dataField, goodLine}
+use Rattle.sheet.specs.Sheet.{after, upTo, sheetLine, sheetLines, allDigits, valueFrom, noLeadingZero, smallDigits, isDecimal, decimalOr, isBreak, breakOf, isData, allHex, dataOf}
+use Rattle.sheet.specs.Sheet.{widthField, breakField, dataField, goodLine}
 use Rattle.sheet.proofs.SheetLaws.{rest-next, line-next, up-to-take, after-drop}
 use Rattle.rows.specs.Rows.{decimalUpTo, decimal, rowText, badRow, lineRows, numberRows, rowsOf}
 
@@ -178,7 +179,8 @@ module _ (w : ℕ) (b : Bool) (d old : List ℕ) (few : length d ≤ dataLimit �
   unfolding returned
   line-count a e = ap (λ (x : Returned). x .number) (e ∙ ap returned enough)
 
-  pub line-list : (n : ℕ) (new : List ℕ) → n ≡ length (lineNumbers (wrapLines w b d)) → new ≡ lentAfter (wrapBytesOutcome w b d (length old)) (lentLines old) .lines → take n new ≡ lineNumbers (wrapLines w b d)
+  pub line-list : (n : ℕ) (new : List ℕ) → n ≡ length (lineNumbers (wrapLines w b d)) → new ≡ lentAfter (wrapBytesOutcome w b d (length old)) (lentLines old) .lines
+      → take n new ≡ lineNumbers (wrapLines w b d)
   unfolding lentAfter
   line-list n new e f = held n (lineNumbers (wrapLines w b d)) old new e (f ∙ ap (λ (x : Outcome). lentAfter x (lentLines old) .lines) enough)
 

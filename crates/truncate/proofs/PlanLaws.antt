@@ -170,7 +170,8 @@ module _ (ds ns ts ds₂ ns₂ ts₂ : List ℕ) (n₁ n₂ : ℕ) (f : Fine ds 
   unfolding startItems
   start-count =
       let c = edit-count (cutStart (p .content)) (items r) in
-      count-if (p .cut) (u ++ w) w (length ns) (length ns₂) (omega (arith, count-append u w, c, edit-count (cutStart (p .ellipsis)) (items e), f .entry-size, g .entry-size)) (omega (arith, c, f .entry-size))
+      count-if (p .cut) (u ++ w) w (length ns) (length ns₂) (omega (arith, count-append u w, c, edit-count (cutStart (p .ellipsis)) (items e), f .entry-size, g .entry-size))
+      (omega (arith, c, f .entry-size))
 
   start-text : plusIf (p .cut) n₁ n₂ ≡ length (textOf (startItems p (recording ds ns ts) (recording ds₂ ns₂ ts₂)))
   unfolding startItems

@@ -135,7 +135,9 @@ fn put_up_to(
     requires { ⌜ Sound (now content) (now entries) (now text) ⌝ }
     requires { ⌜ n ≤ length (now content) ⌝ }
     requires { ⌜ Fits (edit (cutEnd n (now content)) (items (recording (now content) (now entries) (now text)))) (out (now bytes) (now numbers) (now texts) c) ⌝ }
-    ensures { λ r. ⌜ out (now (bytes .exit)) (now (numbers .exit)) (now (texts .exit)) r ≡ add (edit (cutEnd n (now (content .entry))) (items (recording (now (content .entry)) (now (entries .entry)) (now (text .entry))))) (out (now (bytes .entry)) (now (numbers .entry)) (now (texts .entry)) c) ⌝ }
+    ensures { λ r. ⌜ out (now (bytes .exit)) (now (numbers .exit)) (now (texts .exit)) r ≡ add
+        (edit (cutEnd n (now (content .entry))) (items (recording (now (content .entry)) (now (entries .entry)) (now (text .entry)))))
+        (out (now (bytes .entry)) (now (numbers .entry)) (now (texts .entry)) c) ⌝ }
 {
     let from = Cursor {
         at: 0,
@@ -171,7 +173,8 @@ fn put_from(
     requires { ⌜ Sound (now content) (now entries) (now text) ⌝ }
     requires { ⌜ n ≤ length (now content) ⌝ }
     requires { ⌜ Fits (edit (cutStart n) (items (recording (now content) (now entries) (now text)))) (out (now bytes) (now numbers) (now texts) c) ⌝ }
-    ensures { λ r. ⌜ out (now (bytes .exit)) (now (numbers .exit)) (now (texts .exit)) r ≡ add (edit (cutStart n) (items (recording (now (content .entry)) (now (entries .entry)) (now (text .entry))))) (out (now (bytes .entry)) (now (numbers .entry)) (now (texts .entry)) c) ⌝ }
+    ensures { λ r. ⌜ out (now (bytes .exit)) (now (numbers .exit)) (now (texts .exit)) r ≡ add
+        (edit (cutStart n) (items (recording (now (content .entry)) (now (entries .entry)) (now (text .entry))))) (out (now (bytes .entry)) (now (numbers .entry)) (now (texts .entry)) c) ⌝ }
 {
     let from = Cursor {
         at: 0,
@@ -209,8 +212,11 @@ fn put_end(
     requires { ⌜ Sound (now content) (now entries) (now text) ⌝ }
     requires { ⌜ Sound (now ellipsis) (now «ellipsis_entries») (now «ellipsis_text») ⌝ }
     requires { ⌜ (p .content ≤ length (now content)) × (p .ellipsis ≤ length (now ellipsis)) ⌝ }
-    requires { ⌜ Fits (endItems p (recording (now content) (now entries) (now text)) (recording (now ellipsis) (now «ellipsis_entries») (now «ellipsis_text»))) (blank (now bytes) (now numbers) (now texts)) ⌝ }
-    ensures { λ r. ⌜ out (now (bytes .exit)) (now (numbers .exit)) (now (texts .exit)) r ≡ add (endItems p (recording (now (content .entry)) (now (entries .entry)) (now (text .entry))) (recording (now (ellipsis .entry)) (now («ellipsis_entries» .entry)) (now («ellipsis_text» .entry)))) (blank (now (bytes .entry)) (now (numbers .entry)) (now (texts .entry))) ⌝ }
+    requires { ⌜ Fits (endItems p (recording (now content) (now entries) (now text)) (recording (now ellipsis) (now «ellipsis_entries») (now «ellipsis_text»)))
+        (blank (now bytes) (now numbers) (now texts)) ⌝ }
+    ensures { λ r. ⌜ out (now (bytes .exit)) (now (numbers .exit)) (now (texts .exit)) r ≡ add
+        (endItems p (recording (now (content .entry)) (now (entries .entry)) (now (text .entry)))
+        (recording (now (ellipsis .entry)) (now («ellipsis_entries» .entry)) (now («ellipsis_text» .entry)))) (blank (now (bytes .entry)) (now (numbers .entry)) (now (texts .entry))) ⌝ }
 {
     let start = Cursor {
         at: 0,
@@ -260,8 +266,11 @@ fn put_start(
     requires { ⌜ Sound (now content) (now entries) (now text) ⌝ }
     requires { ⌜ Sound (now ellipsis) (now «ellipsis_entries») (now «ellipsis_text») ⌝ }
     requires { ⌜ (p .content ≤ length (now content)) × (p .ellipsis ≤ length (now ellipsis)) ⌝ }
-    requires { ⌜ Fits (startItems p (recording (now content) (now entries) (now text)) (recording (now ellipsis) (now «ellipsis_entries») (now «ellipsis_text»))) (blank (now bytes) (now numbers) (now texts)) ⌝ }
-    ensures { λ r. ⌜ out (now (bytes .exit)) (now (numbers .exit)) (now (texts .exit)) r ≡ add (startItems p (recording (now (content .entry)) (now (entries .entry)) (now (text .entry))) (recording (now (ellipsis .entry)) (now («ellipsis_entries» .entry)) (now («ellipsis_text» .entry)))) (blank (now (bytes .entry)) (now (numbers .entry)) (now (texts .entry))) ⌝ }
+    requires { ⌜ Fits (startItems p (recording (now content) (now entries) (now text)) (recording (now ellipsis) (now «ellipsis_entries») (now «ellipsis_text»)))
+        (blank (now bytes) (now numbers) (now texts)) ⌝ }
+    ensures { λ r. ⌜ out (now (bytes .exit)) (now (numbers .exit)) (now (texts .exit)) r ≡ add
+        (startItems p (recording (now (content .entry)) (now (entries .entry)) (now (text .entry)))
+        (recording (now (ellipsis .entry)) (now («ellipsis_entries» .entry)) (now («ellipsis_text» .entry)))) (blank (now (bytes .entry)) (now (numbers .entry)) (now (texts .entry))) ⌝ }
 {
     let start = Cursor {
         at: 0,

@@ -176,7 +176,8 @@ module _ (ds ns ts : List ℕ) (c : Cursor) (e : Entry) (q : entriesOf (drop (c 
         let p : List ℕ = part (c .at) (e .position) ds in
         let x : Item = itemAt ts e in
         let r : List Item = restAfter ds ns ts (c .k) e in
-        rw (left-turn, ← count) (front-bytes p (n - e .position) (x ∷ r) ∙ ap (λ (l : List Item). byteItems p ++ l) (front-entry (n - e .position) x r k) ∙ sym (append-assoc (byteItems p) (x ∷ []) (front (n - e .position) r)))
+        rw (left-turn, ← count) (front-bytes p (n - e .position) (x ∷ r) ∙ ap (λ (l : List Item). byteItems p ++ l) (front-entry (n - e .position) x r k)
+        ∙ sym (append-assoc (byteItems p) (x ∷ []) (front (n - e .position) r)))
 
     pub back-turn : back (n - c .at) (left ds ns ts c) ≡ back (n - e .position) (restAfter ds ns ts (c .k) e)
     back-turn =
@@ -316,7 +317,8 @@ module _ (sel : List Item → List Item) (sel-append : (a b : List Item) → sel
           record {
             done = s .done ++ t;
             wrote = eo ∙ ap (λ (x : Out). add t x) (s .wrote) ∙ add-append (s .done) t o₀ fits-done;
-            rest = append-assoc (s .done) t (sel (front (n - c′ .at) (left ds ns ts c′))) ∙ (λ i. s .done ++ (t ++ sel (front (n - ea i) (same i)))) ∙ ap (λ (x : List Item). s .done ++ x) (sym parted) ∙ s .rest;
+            rest = append-assoc (s .done) t (sel (front (n - c′ .at) (left ds ns ts c′))) ∙ (λ i. s .done ++ (t ++ sel (front (n - ea i) (same i))))
+                ∙ ap (λ (x : List Item). s .done ++ x) (sym parted) ∙ s .rest;
             behind = (λ i. back (n - ea i) (same i)) ∙ sym (back-turn ds ns ts c e q (ok .0) n near l (entry-is .kind)) ∙ s .behind;
             ready = record { within = omega (arith, ek, whole); valid = rw (ea, ek) (ok .3); short = s .ready .short };
             here = omega (arith, ea, near);
@@ -338,8 +340,14 @@ module _ (sel : List Item → List Item) (sel-append : (a b : List Item) → sel
     finish o′ c′ eo ea ek =
         let e : s .done ++ sel (byteItems (part (c .at) n ds)) ≡ sel (front (n - c₀ .at) (left ds ns ts c₀)) = rw front-last at (s .rest) in (
           eo ∙ ap (λ (x : Out). add (sel (byteItems (part (c .at) n ds))) x) (s .wrote) ∙ add-append (s .done) (sel (byteItems (part (c .at) n ds))) o₀ fits-done ∙ ap (λ (x : List Item). add x o₀) e,
-          (λ i. itemsFrom (ea i) ts (drop (ea i) ds) (entriesOf (drop (ek i) ns))) ∙ sym (back-stop (c .at) n (length ts) ds ts (s .here) l (entriesOf (drop (c .k) ns)) later (s .ready .valid)) ∙ s .behind,
-          record { within = omega (arith, ek, s .ready .within); valid = rw (ea, ek) (valid-there (c .at) n (length ts) ds ts (s .here) l (entriesOf (drop (c .k) ns)) later (s .ready .valid)); short = s .ready .short },
+          (λ i. itemsFrom (ea i) ts (drop (ea i) ds) (entriesOf (drop (ek i) ns))) ∙ sym
+              (back-stop (c .at) n (length ts) ds ts (s .here) l (entriesOf (drop (c .k) ns)) later (s .ready .valid)) ∙ s .behind,
+          record {
+            within = omega (arith, ek, s .ready .within);
+            valid = rw (ea, ek)
+                (valid-there (c .at) n (length ts) ds ts (s .here) l (entriesOf (drop (c .k) ns)) later (s .ready .valid));
+            short = s .ready .short;
+          },
         )
 
 -- ── the entries alone

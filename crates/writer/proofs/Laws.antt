@@ -74,7 +74,15 @@ unfolding overAt
 over-twice at a b old h =
     let l : length (take at old) ≡ at = length-take-le at old h in
     let m : length (take at old ++ a) ≡ at + length a = length-append (take at old) a ∙ ap (λ (n : ℕ). n + length a) l in
-    rw (← append-assoc (take at old) a (drop (length a) (drop at old)), take-at (take at old ++ a) (drop (length a) (drop at old)) (at + length a) m, drop-at (take at old ++ a) (drop (length a) (drop at old)) (at + length a) m, length-append a b, drop-drop, append-assoc)
+    rw (
+      ← append-assoc (take at old) a (drop (length a) (drop at old)),
+      take-at (take at old ++ a) (drop (length a) (drop at old)) (at + length a) m,
+      drop-at (take at old ++ a)
+          (drop (length a) (drop at old)) (at + length a) m,
+      length-append a b,
+      drop-drop,
+      append-assoc,
+    )
     (ap (λ (x : List ℕ). take at old ++ x) (sym (append-assoc a b (drop (length a + length b) (drop at old)))))
 
 pub same-out : (a b : Out) → a .dataBytes ≡ b .dataBytes → a .entryNumbers ≡ b .entryNumbers → a .text ≡ b .text → a .d ≡ b .d → a .e ≡ b .e → a .t ≡ b .t → a ≡ b

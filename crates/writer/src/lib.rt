@@ -128,7 +128,8 @@ pub fn keep(
     requires { ⌜ Ready (now content) (now entries) (now text) from ⌝ }
     requires { ⌜ (from .at ≤ n) × (n ≤ length (now content)) ⌝ }
     requires { ⌜ Fits (front (n - from .at) (left (now content) (now entries) (now text) from)) (out (now bytes) (now numbers) (now texts) from) ⌝ }
-    ensures { λ r. ⌜ out (now (bytes .exit)) (now (numbers .exit)) (now (texts .exit)) r ≡ add (front (n - from .at) (left (now (content .entry)) (now (entries .entry)) (now (text .entry)) from)) (out (now (bytes .entry)) (now (numbers .entry)) (now (texts .entry)) from) ⌝ }
+    ensures { λ r. ⌜ out (now (bytes .exit)) (now (numbers .exit)) (now (texts .exit)) r ≡ add
+        (front (n - from .at) (left (now (content .entry)) (now (entries .entry)) (now (text .entry)) from)) (out (now (bytes .entry)) (now (numbers .entry)) (now (texts .entry)) from) ⌝ }
     ensures { λ r. ⌜ left (now (content .entry)) (now (entries .entry)) (now (text .entry)) r ≡ back (n - from .at) (left (now (content .entry)) (now (entries .entry)) (now (text .entry)) from) ⌝ }
     ensures { λ r. ⌜ Ready (now (content .entry)) (now (entries .entry)) (now (text .entry)) r × (r .at ≡ n) ⌝ }
 {
@@ -165,7 +166,9 @@ pub fn skip(
     requires { ⌜ Ready (now content) (now entries) (now text) from ⌝ }
     requires { ⌜ (from .at ≤ n) × (n ≤ length (now content)) ⌝ }
     requires { ⌜ Fits (entriesOnly (front (n - from .at) (left (now content) (now entries) (now text) from))) (out (now bytes) (now numbers) (now texts) from) ⌝ }
-    ensures { λ r. ⌜ out (now (bytes .exit)) (now (numbers .exit)) (now (texts .exit)) r ≡ add (entriesOnly (front (n - from .at) (left (now (content .entry)) (now (entries .entry)) (now (text .entry)) from))) (out (now (bytes .entry)) (now (numbers .entry)) (now (texts .entry)) from) ⌝ }
+    ensures { λ r. ⌜ out (now (bytes .exit)) (now (numbers .exit)) (now (texts .exit)) r ≡ add
+        (entriesOnly (front (n - from .at) (left (now (content .entry)) (now (entries .entry)) (now (text .entry)) from)))
+        (out (now (bytes .entry)) (now (numbers .entry)) (now (texts .entry)) from) ⌝ }
     ensures { λ r. ⌜ left (now (content .entry)) (now (entries .entry)) (now (text .entry)) r ≡ back (n - from .at) (left (now (content .entry)) (now (entries .entry)) (now (text .entry)) from) ⌝ }
     ensures { λ r. ⌜ Ready (now (content .entry)) (now (entries .entry)) (now (text .entry)) r × (r .at ≡ n) ⌝ }
 {
@@ -197,7 +200,8 @@ pub fn put_recording(
 ) -> Cursor
     requires { ⌜ Sound (now content) (now entries) (now text) ⌝ }
     requires { ⌜ Fits (items (recording (now content) (now entries) (now text))) (out (now bytes) (now numbers) (now texts) c) ⌝ }
-    ensures { λ r. ⌜ out (now (bytes .exit)) (now (numbers .exit)) (now (texts .exit)) r ≡ add (items (recording (now (content .entry)) (now (entries .entry)) (now (text .entry)))) (out (now (bytes .entry)) (now (numbers .entry)) (now (texts .entry)) c) ⌝ }
+    ensures { λ r. ⌜ out (now (bytes .exit)) (now (numbers .exit)) (now (texts .exit)) r ≡ add (items (recording (now (content .entry)) (now (entries .entry)) (now (text .entry))))
+        (out (now (bytes .entry)) (now (numbers .entry)) (now (texts .entry)) c) ⌝ }
     ensures { λ r. ⌜ (r .at ≡ c .at) × (r .k ≡ c .k) ⌝ }
 {
     let from = Cursor {

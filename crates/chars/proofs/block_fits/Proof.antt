@@ -28,7 +28,8 @@ returns c =
     let x = c .before .before .before .before .args in
     let b = c .last-boundary in
     let k : x .at - 3 + 3 ≡ x .at = omega arith in
-    λ e. plain-fits (x .s .now) 32 (x .at) (subst (λ (n : ℕ). EndsAt n (x .s .now)) k (b .ensures .0 .0 (omega (arith, k, eqb-true (b .result) (x .at) e)))) (c .before .before .plain-block .ensures (c .before .if1 .taken))
+    λ e. plain-fits (x .s .now) 32 (x .at) (subst (λ (n : ℕ). EndsAt n (x .s .now)) k (b .ensures .0 .0 (omega (arith, k, eqb-true (b .result) (x .at) e))))
+    (c .before .before .plain-block .ensures (c .before .if1 .taken))
 
 sub-fitting-block : tie.Need-sub-fitting-block
 sub-fitting-block c = search needs

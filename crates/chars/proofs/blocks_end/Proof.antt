@@ -58,8 +58,11 @@ returns-3 : tie.Need-returns-3 Inv-loop μ-loop
 returns-3 c =
     let l = c .before .before .before .before in
     let x = l .before .before .before .before .before .args in
-    let b = c .last-boundary in
-    (passed-back (x .s .now) (l .loop .at) (l .loop .at - 3) (b .result) (omega (arith, l .loop .inv .three)) (l .loop .inv .within) (l .loop .inv .fit) (b .ensures .0) (b .ensures .1 .1), omega (arith, b .ensures .1 .1, l .loop .inv .three, l .loop .inv .within))
+    let b = c .last-boundary in (
+      passed-back (x .s .now) (l .loop .at) (l .loop .at - 3) (b .result) (omega (arith, l .loop .inv .three)) (l .loop .inv .within) (l .loop .inv .fit) (b .ensures .0)
+          (b .ensures .1 .1),
+      omega (arith, b .ensures .1 .1, l .loop .inv .three, l .loop .inv .within),
+    )
 
 add-at : tie.Need-add-at Inv-loop μ-loop
 add-at c = search needs
@@ -73,7 +76,12 @@ loop-again c =
     let x = l .before .before .before .before .before .args in
     let f = c .before .block-fits in
     let more = f .ensures (not-false (f .result) (c .if3 .left)) in
-    record { three = omega arith; within = omega (arith, c .before .before .loop-test .taken); fit = fitting-join (x .s .now) 0 (l .loop .at) (l .loop .at) (l .loop .at + 32) (l .loop .inv .fit) more (omega arith) }
+    record {
+      three = omega arith;
+      within = omega (arith, c .before .before .loop-test .taken);
+      fit = fitting-join (x .s .now) 0 (l .loop .at) (l .loop .at) (l .loop .at + 32)
+          (l .loop .inv .fit) more (omega arith);
+    }
 
 sub-block-fits : tie.Need-sub-block-fits Inv-loop μ-loop
 sub-block-fits c = search needs
@@ -91,8 +99,11 @@ returns-4 : tie.Need-returns-4 Inv-loop μ-loop
 returns-4 c =
     let l = c .before .before .before .before in
     let x = l .before .before .before .before .before .args in
-    let b = c .last-boundary2 in
-    (passed-back (x .s .now) (l .loop .at) (l .loop .at - 3) (b .result) (omega (arith, l .loop .inv .three)) (l .loop .inv .within) (l .loop .inv .fit) (b .ensures .0) (b .ensures .1 .1), omega (arith, b .ensures .1 .1, l .loop .inv .three, l .loop .inv .within))
+    let b = c .last-boundary2 in (
+      passed-back (x .s .now) (l .loop .at) (l .loop .at - 3) (b .result) (omega (arith, l .loop .inv .three)) (l .loop .inv .within) (l .loop .inv .fit) (b .ensures .0)
+          (b .ensures .1 .1),
+      omega (arith, b .ensures .1 .1, l .loop .inv .three, l .loop .inv .within),
+    )
 
 sub-last-boundary-3 : tie.Need-sub-last-boundary-3 Inv-loop μ-loop
 sub-last-boundary-3 c = search needs
@@ -109,7 +120,8 @@ returns-5 c =
     let s = x .s .now in
     let n = length s in
     let long : 35 ≤ n = omega (arith, l .before .before .before .if1 .left) in
-    let fit = fitting-join s 0 (l .loop .at) (n - 32) (n - 32 + 32) (l .loop .inv .fit) (f .ensures (not-false (f .result) (c .before .if4 .left))) (omega (arith, c .before .before .before .loop-test .left)) in
+    let fit = fitting-join s 0 (l .loop .at) (n - 32) (n - 32 + 32) (l .loop .inv .fit) (f .ensures (not-false (f .result) (c .before .if4 .left)))
+    (omega (arith, c .before .before .before .loop-test .left)) in
     let k : n - 32 + 32 ≡ n = omega (arith, long) in
     (passed-back s n (n - 3) (b .result) (omega (arith, long)) (omega arith) (subst (λ (m : ℕ). Fitting 0 m s) k fit) (b .ensures .0) (b .ensures .1 .1), omega (arith, b .ensures .1 .1, long))
 

@@ -84,7 +84,8 @@ returns-6 c =
     let m = c .before .before .before .before .before .before .before in
     let l = m .lead-in .result in
     let x = m .before .args in
-    c .ill-formed4 .ensures ∙ no-third (x .a) (x .b) (x .c) (x .d) (l .low) (l .high) (l .len) (omega arith) (in-span _ _ _ (c .before .before .before .before .if3 .left) (c .before .before .before .if4 .left)) (below _ _ _ (c .before .if6 .taken)) ∙ by-row m
+    c .ill-formed4 .ensures ∙ no-third (x .a) (x .b) (x .c) (x .d) (l .low) (l .high) (l .len) (omega arith)
+    (in-span _ _ _ (c .before .before .before .before .if3 .left) (c .before .before .before .if4 .left)) (below _ _ _ (c .before .if6 .taken)) ∙ by-row m
 
 ill-formed-requires-5 : tie.Need-ill-formed-requires-5
 ill-formed-requires-5 c κs = search needs
@@ -94,7 +95,8 @@ returns-7 c =
     let m = c .before .before .before .before .before .before .before .before in
     let l = m .lead-in .result in
     let x = m .before .args in
-    c .ill-formed5 .ensures ∙ no-third (x .a) (x .b) (x .c) (x .d) (l .low) (l .high) (l .len) (omega arith) (in-span _ _ _ (c .before .before .before .before .before .if3 .left) (c .before .before .before .before .if4 .left)) (above _ _ _ (c .before .if7 .taken)) ∙ by-row m
+    c .ill-formed5 .ensures ∙ no-third (x .a) (x .b) (x .c) (x .d) (l .low) (l .high) (l .len) (omega arith)
+    (in-span _ _ _ (c .before .before .before .before .before .if3 .left) (c .before .before .before .before .if4 .left)) (above _ _ _ (c .before .if7 .taken)) ∙ by-row m
 
 mul-t20 : tie.Need-mul-t20
 mul-t20 c = search needs
@@ -113,7 +115,9 @@ returns-8 c =
     let m = c .before .before .before .before .before .before .before .before in
     let l = m .lead-in .result in
     let x = m .before .args in
-    three-bytes (x .a) (x .b) (x .c) (x .d) (l .low) (l .high) (l .len) (c .if8 .taken) (in-span _ _ _ (c .before .before .before .before .before .if3 .left) (c .before .before .before .before .if4 .left)) (in-span _ _ _ (c .before .before .if6 .left) (c .before .if7 .left)) ∙ by-row m
+    three-bytes (x .a) (x .b) (x .c) (x .d) (l .low) (l .high) (l .len) (c .if8 .taken)
+    (in-span _ _ _ (c .before .before .before .before .before .if3 .left) (c .before .before .before .before .if4 .left))
+    (in-span _ _ _ (c .before .before .if6 .left) (c .before .if7 .left)) ∙ by-row m
 
 ill-formed-requires-6 : tie.Need-ill-formed-requires-6
 ill-formed-requires-6 c κs = search needs
@@ -123,7 +127,9 @@ returns-9 c =
     let m = c .before .before .before .before .before .before .before .before .before .before in
     let l = m .lead-in .result in
     let x = m .before .args in
-    c .ill-formed6 .ensures ∙ no-fourth (x .a) (x .b) (x .c) (x .d) (l .low) (l .high) (l .len) (omega arith) (in-span _ _ _ (c .before .before .before .before .before .before .before .if3 .left) (c .before .before .before .before .before .before .if4 .left)) (in-span _ _ _ (c .before .before .before .before .if6 .left) (c .before .before .before .if7 .left)) (below _ _ _ (c .before .if9 .taken)) ∙ by-row m
+    c .ill-formed6 .ensures ∙ no-fourth (x .a) (x .b) (x .c) (x .d) (l .low) (l .high) (l .len) (omega arith)
+    (in-span _ _ _ (c .before .before .before .before .before .before .before .if3 .left) (c .before .before .before .before .before .before .if4 .left))
+    (in-span _ _ _ (c .before .before .before .before .if6 .left) (c .before .before .before .if7 .left)) (below _ _ _ (c .before .if9 .taken)) ∙ by-row m
 
 ill-formed-requires-7 : tie.Need-ill-formed-requires-7
 ill-formed-requires-7 c κs = search needs
@@ -133,7 +139,9 @@ returns-10 c =
     let m = c .before .before .before .before .before .before .before .before .before .before .before in
     let l = m .lead-in .result in
     let x = m .before .args in
-    c .ill-formed7 .ensures ∙ no-fourth (x .a) (x .b) (x .c) (x .d) (l .low) (l .high) (l .len) (omega arith) (in-span _ _ _ (c .before .before .before .before .before .before .before .before .if3 .left) (c .before .before .before .before .before .before .before .if4 .left)) (in-span _ _ _ (c .before .before .before .before .before .if6 .left) (c .before .before .before .before .if7 .left)) (above _ _ _ (c .before .if10 .taken)) ∙ by-row m
+    c .ill-formed7 .ensures ∙ no-fourth (x .a) (x .b) (x .c) (x .d) (l .low) (l .high) (l .len) (omega arith)
+    (in-span _ _ _ (c .before .before .before .before .before .before .before .before .if3 .left) (c .before .before .before .before .before .before .before .if4 .left))
+    (in-span _ _ _ (c .before .before .before .before .before .if6 .left) (c .before .before .before .before .if7 .left)) (above _ _ _ (c .before .if10 .taken)) ∙ by-row m
 
 mul-t30 : tie.Need-mul-t30
 mul-t30 c = search needs
@@ -158,7 +166,9 @@ returns-11 c =
     let m = c .before .before .before .before .before .before .before .before .before .before in
     let l = m .lead-in .result in
     let x = m .before .args in
-    four-bytes (x .a) (x .b) (x .c) (x .d) (l .low) (l .high) (l .len) (omega arith) (in-span _ _ _ (c .before .before .before .before .before .before .before .if3 .left) (c .before .before .before .before .before .before .if4 .left)) (in-span _ _ _ (c .before .before .before .before .if6 .left) (c .before .before .before .if7 .left)) (in-span _ _ _ (c .before .if9 .left) (c .if10 .left)) ∙ by-row m
+    four-bytes (x .a) (x .b) (x .c) (x .d) (l .low) (l .high) (l .len) (omega arith)
+    (in-span _ _ _ (c .before .before .before .before .before .before .before .if3 .left) (c .before .before .before .before .before .before .if4 .left))
+    (in-span _ _ _ (c .before .before .before .before .if6 .left) (c .before .before .before .if7 .left)) (in-span _ _ _ (c .before .if9 .left) (c .if10 .left)) ∙ by-row m
 
 pub decode-spec : {M : Type 1} → statement M
 decode-spec =

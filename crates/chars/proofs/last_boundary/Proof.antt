@@ -42,8 +42,15 @@ add-result-3 c = search needs
 
 returns-4 : tie.Need-returns-4
 returns-4 c =
-    let x = c .before .before .before .before .before .before .args in
-    ((λ e. ends-at (x .s .now) (x .from) (record { second = omega (arith, c .before .before .before .before .if1 .left); third = omega (arith, c .before .before .if2 .left); fourth = omega (arith, c .if3 .left) }), λ e. absurd (omega arith)), (omega arith, omega arith))
+    let x = c .before .before .before .before .before .before .args in (
+      (
+        λ e. ends-at (x .s .now) (x .from) (record
+            { second = omega (arith, c .before .before .before .before .if1 .left); third = omega (arith, c .before .before .if2 .left); fourth = omega (arith, c .if3 .left) }),
+        λ e.
+            absurd (omega arith),
+      ),
+      (omega arith, omega arith),
+    )
 
 pub last-boundary-spec : {M : Type 1} → statement M
 last-boundary-spec =

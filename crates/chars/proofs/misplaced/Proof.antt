@@ -39,8 +39,11 @@ returns c =
     let u = c .before .before .before .outside in
     let h = c .before .before .before .before .second-high in
     let l = c .before .before .before .before .before .second-low in
-    let x = c .before .before .before .before .before .before .args in
-    (λ e. fits-by (x .w) (x .x) (x .y) (x .z) (l .result) (h .result) (u .result) (n .result) (o .result) (o .ensures .0) (o .ensures .1) (l .ensures) (h .ensures) (u .ensures .0) (n .ensures .0) (sym (c .either .ensures) ∙ e), omega (arith, c .either .ensures, cond-le (o .result) (u .result) (n .result) 1 (u .ensures .1) (n .ensures .1)))
+    let x = c .before .before .before .before .before .before .args in (
+      λ e. fits-by (x .w) (x .x) (x .y) (x .z) (l .result) (h .result) (u .result) (n .result) (o .result) (o .ensures .0) (o .ensures .1) (l .ensures) (h .ensures) (u .ensures .0)
+          (n .ensures .0) (sym (c .either .ensures) ∙ e),
+      omega (arith, c .either .ensures, cond-le (o .result) (u .result) (n .result) 1 (u .ensures .1) (n .ensures .1)),
+    )
 
 pub misplaced-spec : {M : Type 1} → statement M
 misplaced-spec =

@@ -45,7 +45,8 @@ returns c =
     let at = b .before .before .before .args .at in
     let more = b .before .before .before .pre .1 in
     let e : c .decode .result ≡ readOf (charIn at s) =
-    c .decode .ensures ∙ ap readOf (read-in s at (b .byte-at .result) (c .before .before .byte-at2 .result) (c .before .byte-at3 .result) (b .byte-at .ensures) (c .before .before .byte-at2 .ensures) (c .before .byte-at3 .ensures)) in
+    c .decode .ensures ∙ ap readOf (read-in s at (b .byte-at .result) (c .before .before .byte-at2 .result) (c .before .byte-at3 .result) (b .byte-at .ensures)
+    (c .before .before .byte-at2 .ensures) (c .before .byte-at3 .ensures)) in
     let n = ap (λ (r : Read). r .len) e in
     (e, (omega (arith, n, char-some s at more), omega (arith, n, char-four s at more), omega (arith, n, char-inside s at more)))
 

@@ -50,7 +50,8 @@ loop-again : tie.Need-loop-again Inv-loop μ-loop
 loop-again c =
     let r = c .before .before .before .seen-at in
     let l = c .before .before .before .before .before in
-    let n = kept-more (l .before .before .args .s .now) (l .loop .at) (r .result .len) (r .result .width) (c .before .before .before .before .if1 .left) (r .ensures .0 .0) (r .ensures .0 .1) (l .loop .left) (omega (arith, c .before .if2 .left)) in
+    let n = kept-more (l .before .before .args .s .now) (l .loop .at) (r .result .len) (r .result .width) (c .before .before .before .before .if1 .left) (r .ensures .0 .0)
+    (r .ensures .0 .1) (l .loop .left) (omega (arith, c .before .if2 .left)) in
     record { within = omega arith; room = omega arith; small = omega arith; bytes = omega (arith, n .0, l .loop .inv .bytes); columns = omega (arith, n .1, l .loop .inv .columns) }
 
 sub-t12 : tie.Need-sub-t12 Inv-loop μ-loop
@@ -66,8 +67,10 @@ returns c =
     ⊎-elim (λ w. (ap (keptWithin left) (chars-end s at (w .0 .taken)), w .1))
     (λ w. (kept-none s at (w .1 .result .len) (w .1 .result .width) (w .0 .left) (w .1 .ensures .0 .0) (w .1 .ensures .0 .1) left (omega (arith, w .3 .taken)), w .4)) (c .if1 .came) in
     let bytes = ap (λ (cs : List Character). length (bytesOf cs)) (none .0) in
-    let columns = ap widthOf (none .0) in
-    ((omega (arith, bytes, none .1, l .loop .inv .bytes), omega (arith, columns, l .loop .inv .columns)), (omega (arith, none .1, l .loop .inv .within), omega arith, omega (arith, l .loop .inv .small, l .loop .inv .within)))
+    let columns = ap widthOf (none .0) in (
+      (omega (arith, bytes, none .1, l .loop .inv .bytes), omega (arith, columns, l .loop .inv .columns)),
+      (omega (arith, none .1, l .loop .inv .within), omega arith, omega (arith, l .loop .inv .small, l .loop .inv .within)),
+    )
 
 pub truncate-end-pos-spec : {M : Type 1} → statement M
 truncate-end-pos-spec =

@@ -44,7 +44,8 @@ sub-left : tie.Need-sub-left Inv-loop μ-loop
 sub-left c =
     let r = c .before .seen-at in
     let l = c .before .before .before in
-    let n = width-next (l .before .before .args .s .now) (l .loop .at) (r .result .len) (r .result .width) (some-left (l .before .before .args .s .now) (l .loop .at) (omega (arith, c .before .before .loop-test .taken, l .loop .inv .here))) (r .ensures .0 .0) (r .ensures .0 .1) in
+    let n = width-next (l .before .before .args .s .now) (l .loop .at) (r .result .len) (r .result .width)
+    (some-left (l .before .before .args .s .now) (l .loop .at) (omega (arith, c .before .before .loop-test .taken, l .loop .inv .here))) (r .ensures .0 .0) (r .ensures .0 .1) in
     omega (arith, n, l .loop .inv .here)
 
 add-at : tie.Need-add-at Inv-loop μ-loop

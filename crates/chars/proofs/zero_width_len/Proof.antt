@@ -40,7 +40,8 @@ returns : tie.Need-returns Inv-loop μ-loop
 returns c =
     let r = c .before .before .seen-at in
     let l = c .before .before .before .before in
-    let none = zero-none (l .before .before .args .s .now) (l .loop .at) (r .result .len) (r .result .width) (c .before .before .before .loop-test .taken) (r .ensures .0 .0) (r .ensures .0 .1) (λ e. omega (arith, e, c .if1 .taken)) in
+    let none = zero-none (l .before .before .args .s .now) (l .loop .at) (r .result .len) (r .result .width) (c .before .before .before .loop-test .taken) (r .ensures .0 .0)
+    (r .ensures .0 .1) (λ e. omega (arith, e, c .if1 .taken)) in
     (omega (arith, ap (λ (cs : List Character). length (bytesOf cs)) none, l .loop .inv .whole), l .loop .inv .within)
 
 add-at : tie.Need-add-at Inv-loop μ-loop
@@ -53,7 +54,8 @@ loop-again : tie.Need-loop-again Inv-loop μ-loop
 loop-again c =
     let r = c .before .before .before .seen-at in
     let l = c .before .before .before .before .before in
-    let n = zero-more (l .before .before .args .s .now) (l .loop .at) (r .result .len) (r .result .width) (c .before .before .before .before .loop-test .taken) (r .ensures .0 .0) (r .ensures .0 .1) (omega (arith, c .before .if1 .left)) in
+    let n = zero-more (l .before .before .args .s .now) (l .loop .at) (r .result .len) (r .result .width) (c .before .before .before .before .loop-test .taken) (r .ensures .0 .0)
+    (r .ensures .0 .1) (omega (arith, c .before .if1 .left)) in
     record { within = omega arith; whole = omega (arith, n, l .loop .inv .whole) }
 
 returns-2 : tie.Need-returns-2 Inv-loop μ-loop

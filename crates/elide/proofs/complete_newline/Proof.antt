@@ -29,7 +29,8 @@ unfolding answerOf returned lentAfter
 returns c =
     let x = c .before .before .before .before .before .before .args in
     let f = c .before .fault in
-    let e : completeNewlineOutcome (length (x .out .now)) (x .text .now) ≡ refused 1 = newline-faulty (length (x .out .now)) (x .text .now) 1 (sym (c .if1 .taken) ∙ f .ensures .0) (λ z. omega (arith, z)) in
+    let e : completeNewlineOutcome (length (x .out .now)) (x .text .now) ≡ refused 1 = newline-faulty (length (x .out .now)) (x .text .now) 1 (sym (c .if1 .taken) ∙ f .ensures .0)
+    (λ z. omega (arith, z)) in
     (simp e, simp e)
 
 returns-2 : tie.Need-returns-2
@@ -37,7 +38,8 @@ unfolding answerOf returned lentAfter
 returns-2 c =
     let x = c .before .before .before .before .before .before .before .args in
     let f = c .before .before .fault in
-    let e : completeNewlineOutcome (length (x .out .now)) (x .text .now) ≡ refused 7 = newline-faulty (length (x .out .now)) (x .text .now) 7 (sym (c .if2 .taken) ∙ f .ensures .0) (λ z. omega (arith, z)) in
+    let e : completeNewlineOutcome (length (x .out .now)) (x .text .now) ≡ refused 7 = newline-faulty (length (x .out .now)) (x .text .now) 7 (sym (c .if2 .taken) ∙ f .ensures .0)
+    (λ z. omega (arith, z)) in
     (simp e, simp e)
 
 missing-requires : tie.Need-missing-requires
@@ -59,11 +61,17 @@ same-length c = search needs
 
 returns-3 : tie.Need-returns-3
 returns-3 c =
-    let x = c .before .before .before .before .before .before .before .before .before .before .before .before .before .args in
-    let f = c .before .before .before .before .before .before .before .before .fault in
-    let m = c .before .before .before .before .before .missing in
+    let at-missing = c .before .before .before .before .before in
+    let at-if2 = at-missing .before in
+    let at-if1 = at-if2 .before in
+    let at-fault = at-if1 .before in
+    let start = at-fault .before .before .before .before .before in
+    let x = start .args in
+    let f = at-fault .fault in
+    let m = at-missing .missing in
     let w = c .before .before .write-parts in
-    let none = no-fault (x .text .now) [] (f .result) (f .ensures .0) (c .before .before .before .before .before .before .before .if1 .left) (c .before .before .before .before .before .before .if2 .left) in
+    let none = no-fault (x .text .now) [] (f .result) (f .ensures .0) (at-if1 .if1 .left)
+    (at-if2 .if2 .left) in
     let g = newline-goes (length (x .out .now)) (x .text .now) (f .result) (f .ensures .0) (m .result) none (m .ensures .0) in
     (w .ensures .0 ∙ ap returned g, w .ensures .1 ∙ ap (λ (o : Outcome). lentAfter o (lent (x .out .now))) g)
 

@@ -55,7 +55,8 @@ returns c =
     let x = l .before .before .args in
     let b = c .before .before .before .start-before in
     let r = c .before .before .seen-at in
-    let e = last-before (x .s .now) (l .loop .at) (b .result) (l .loop .inv .back) (l .before .before .pre .1) (l .loop .inv .up-to) (c .before .before .before .before .loop-test .taken) (b .ensures) in
+    let e = last-before (x .s .now) (l .loop .at) (b .result) (l .loop .inv .back) (l .before .before .pre .1) (l .loop .inv .up-to)
+    (c .before .before .before .before .loop-test .taken) (b .ensures) in
     let none = last-passes (x .s .now) (l .loop .at) (b .result) (r .result .width) (l .loop .left) (l .loop .inv .back) e (r .ensures .0 .1) (omega (arith, c .if1 .taken)) in
     let bytes = ap (λ (cs : List Character). length (bytesOf cs)) none in
     let columns = ap widthOf none in

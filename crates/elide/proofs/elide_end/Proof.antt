@@ -27,7 +27,8 @@ unfolding answerOf returned lentAfter
 returns c =
     let x = c .before .before .before .before .before .before .args in
     let f = c .before .fault in
-    let e : elideEndOutcome (length (x .out .now)) (x .text .now) (x .ellipsis .now) (x .max-width) ≡ refused 1 = end-faulty (length (x .out .now)) (x .max-width) (x .text .now) (x .ellipsis .now) 1 (sym (c .if1 .taken) ∙ f .ensures .0) (λ z. omega (arith, z)) in
+    let e : elideEndOutcome (length (x .out .now)) (x .text .now) (x .ellipsis .now) (x .max-width) ≡ refused 1 = end-faulty (length (x .out .now)) (x .max-width) (x .text .now)
+    (x .ellipsis .now) 1 (sym (c .if1 .taken) ∙ f .ensures .0) (λ z. omega (arith, z)) in
     (simp e, simp e)
 
 returns-2 : tie.Need-returns-2
@@ -35,7 +36,8 @@ unfolding answerOf returned lentAfter
 returns-2 c =
     let x = c .before .before .before .before .before .before .before .args in
     let f = c .before .before .fault in
-    let e : elideEndOutcome (length (x .out .now)) (x .text .now) (x .ellipsis .now) (x .max-width) ≡ refused 7 = end-faulty (length (x .out .now)) (x .max-width) (x .text .now) (x .ellipsis .now) 7 (sym (c .if2 .taken) ∙ f .ensures .0) (λ z. omega (arith, z)) in
+    let e : elideEndOutcome (length (x .out .now)) (x .text .now) (x .ellipsis .now) (x .max-width) ≡ refused 7 = end-faulty (length (x .out .now)) (x .max-width) (x .text .now)
+    (x .ellipsis .now) 7 (sym (c .if2 .taken) ∙ f .ensures .0) (λ z. omega (arith, z)) in
     (simp e, simp e)
 
 pieces-end-requires : tie.Need-pieces-end-requires
@@ -55,12 +57,19 @@ same-length c = search needs
 
 returns-3 : tie.Need-returns-3
 returns-3 c =
-    let x = c .before .before .before .before .before .before .before .before .before .before .before .before .before .args in
-    let f = c .before .before .before .before .before .before .before .before .fault in
-    let p = c .before .before .before .before .pieces-end in
+    let at-pieces-end = c .before .before .before .before in
+    let at-if2 = at-pieces-end .before .before in
+    let at-if1 = at-if2 .before in
+    let at-fault = at-if1 .before in
+    let start = at-fault .before .before .before .before .before in
+    let x = start .args in
+    let f = at-fault .fault in
+    let p = at-pieces-end .pieces-end in
     let w = c .before .before .write-parts in
-    let none = no-fault (x .text .now) (x .ellipsis .now) (f .result) (f .ensures .0) (c .before .before .before .before .before .before .before .if1 .left) (c .before .before .before .before .before .before .if2 .left) in
-    let g = end-goes (length (x .out .now)) (x .max-width) (x .text .now) (x .ellipsis .now) (f .result) (f .ensures .0) (part (p .result .from) (p .result .to) (x .text .now) ++ part (p .result .begin) (p .result .end) (x .ellipsis .now)) (p .result .width) none (p .ensures .0 .0) (p .ensures .0 .1) in
+    let none = no-fault (x .text .now) (x .ellipsis .now) (f .result) (f .ensures .0) (at-if1 .if1 .left)
+    (at-if2 .if2 .left) in
+    let g = end-goes (length (x .out .now)) (x .max-width) (x .text .now) (x .ellipsis .now) (f .result) (f .ensures .0)
+    (part (p .result .from) (p .result .to) (x .text .now) ++ part (p .result .begin) (p .result .end) (x .ellipsis .now)) (p .result .width) none (p .ensures .0 .0) (p .ensures .0 .1) in
     (w .ensures .0 ∙ ap returned g, w .ensures .1 ∙ ap (λ (o : Outcome). lentAfter o (lent (x .out .now))) g)
 
 pub elide-end-spec : {M : Type 1} → statement M

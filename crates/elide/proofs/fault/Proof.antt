@@ -23,18 +23,52 @@ long-well-formed-requires c κs = search needs
 
 returns-3 : tie.Need-returns-3
 unfolding plainFault
-returns-3 c = (simp (le-ltb _ _ (c .before .before .before .if1 .left), le-ltb _ _ (c .before .before .if2 .left), ← c .before .long-well-formed .ensures, not-true (c .before .long-well-formed .result) (c .if3 .taken)), λ z. absurd (omega (arith, z)))
+returns-3 c = (
+  simp (
+    le-ltb _ _ (c .before .before .before .if1 .left),
+    le-ltb _ _ (c .before .before .if2 .left),
+    ← c .before .long-well-formed .ensures,
+    not-true
+        (c .before .long-well-formed .result) (c .if3 .taken),
+  ),
+  λ z. absurd (omega (arith, z)),
+)
 
 long-well-formed-requires-2 : tie.Need-long-well-formed-requires-2
 long-well-formed-requires-2 c κs = search needs
 
 returns-4 : tie.Need-returns-4
 unfolding plainFault
-returns-4 c = (simp (le-ltb _ _ (c .before .before .before .before .before .if1 .left), le-ltb _ _ (c .before .before .before .before .if2 .left), ← c .before .before .before .long-well-formed .ensures, not-false (c .before .before .before .long-well-formed .result) (c .before .before .if3 .left), ← c .before .long-well-formed2 .ensures, not-true (c .before .long-well-formed2 .result) (c .if4 .taken)), λ z. absurd (omega (arith, z)))
+returns-4 c = (
+  simp (
+    le-ltb _ _ (c .before .before .before .before .before .if1 .left),
+    le-ltb _ _ (c .before .before .before .before .if2 .left),
+    ←
+        c .before .before .before .long-well-formed .ensures,
+    not-false (c .before .before .before .long-well-formed .result) (c .before .before .if3 .left),
+    ←
+        c .before .long-well-formed2 .ensures,
+    not-true (c .before .long-well-formed2 .result) (c .if4 .taken),
+  ),
+  λ z. absurd (omega (arith, z)),
+)
 
 returns-5 : tie.Need-returns-5
 unfolding plainFault
-returns-5 c = (simp (le-ltb _ _ (c .before .before .before .before .before .if1 .left), le-ltb _ _ (c .before .before .before .before .if2 .left), ← c .before .before .before .long-well-formed .ensures, not-false (c .before .before .before .long-well-formed .result) (c .before .before .if3 .left), ← c .before .long-well-formed2 .ensures, not-false (c .before .long-well-formed2 .result) (c .if4 .left)), λ z. (c .before .before .before .before .before .if1 .left, c .before .before .before .before .if2 .left))
+returns-5 c = (
+  simp (
+    le-ltb _ _ (c .before .before .before .before .before .if1 .left),
+    le-ltb _ _ (c .before .before .before .before .if2 .left),
+    ←
+        c .before .before .before .long-well-formed .ensures,
+    not-false (c .before .before .before .long-well-formed .result) (c .before .before .if3 .left),
+    ←
+        c .before .long-well-formed2 .ensures,
+    not-false (c .before .long-well-formed2 .result) (c .if4 .left),
+  ),
+  λ z.
+      (c .before .before .before .before .before .if1 .left, c .before .before .before .before .if2 .left),
+)
 
 pub fault-spec : {M : Type 1} → statement M
 fault-spec =

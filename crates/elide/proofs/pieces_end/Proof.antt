@@ -35,7 +35,8 @@ returns-2 c =
     let all = c .before .before .before .truncate-end-pos in
     let k = c .truncate-end-pos2 in
     let over = passes-max (x .max) (x .text .now) (λ e. c .before .if2 .left (all .ensures .0 .0 ∙ e)) in
-    let l = end-alone (x .max) (x .text .now) (x .ellipsis .now) over (omega (arith, c .before .before .before .before .before .text-width .ensures .0, c .before .before .before .before .if1 .taken)) in
+    let l = end-alone (x .max) (x .text .now) (x .ellipsis .now) over
+    (omega (arith, c .before .before .before .before .before .text-width .ensures .0, c .before .before .before .before .if1 .taken)) in
     ((rw (← k .ensures .0 .0) at (l .0), k .ensures .0 .1 ∙ l .1), (omega arith, omega arith, omega arith, k .ensures .1 .0))
 
 truncate-end-pos-requires-3 : tie.Need-truncate-end-pos-requires-3
@@ -68,7 +69,8 @@ returns-3 c =
     let k = m .before .before .before .truncate-end-pos3 in
     let x = m .before .before .before .before .before .before .before .before .args in
     let r = m .truncate-end-pos4 in
-    let both = two-cuts _ (x .max) (x .text .now) (k .result .pos) (k .result .width) (r .result .pos) (r .result .width) (omega arith) (k .ensures .0 .0) (k .ensures .0 .1) (r .ensures .0 .0) (r .ensures .0 .1) in
+    let both = two-cuts _ (x .max) (x .text .now) (k .result .pos) (k .result .width) (r .result .pos) (r .result .width) (omega arith) (k .ensures .0 .0) (k .ensures .0 .1)
+    (r .ensures .0 .0) (r .ensures .0 .1) in
     let fits = reaches-end (x .max) (x .text .now) (sym (both .0) ∙ c .before .before .if3 .taken) in
     let l = end-uncut (x .max) (x .text .now) (x .ellipsis .now) fits in
     ((l .0, both .1 ∙ fits-whole (x .max) (x .text .now) fits .1 ∙ l .1), (omega arith, omega arith, omega arith, omega arith))
@@ -83,7 +85,8 @@ returns-4 c =
     let x = m .before .before .before .before .before .before .before .before .args in
     let r = m .truncate-end-pos4 in
     let w = m .before .before .before .before .before .text-width .ensures .0 in
-    let both = two-cuts _ (x .max) (x .text .now) (k .result .pos) (k .result .width) (r .result .pos) (r .result .width) (omega arith) (k .ensures .0 .0) (k .ensures .0 .1) (r .ensures .0 .0) (r .ensures .0 .1) in
+    let both = two-cuts _ (x .max) (x .text .now) (k .result .pos) (k .result .width) (r .result .pos) (r .result .width) (omega arith) (k .ensures .0 .0) (k .ensures .0 .1)
+    (r .ensures .0 .0) (r .ensures .0 .1) in
     let over = passes-max (x .max) (x .text .now) (λ e. c .before .if3 .left (both .0 ∙ e)) in
     let l = rw (← w) at (end-both (x .max) (x .text .now) (x .ellipsis .now) over (omega (arith, w, m .before .before .before .before .if1 .left))) in
     ((rw (← k .ensures .0 .0) at (l .0), rw (← k .ensures .0 .1) at (l .1)), (omega arith, k .ensures .1 .0, omega arith, omega arith))

@@ -39,7 +39,9 @@ returns-2 c =
     let all = c .before .before .before .before .cut-back in
     let k = c .before .cut-back2 in
     let over = passes-back (x .max) (x .text .now) (λ e. c .before .before .if2 .left (all .ensures .0 .0 ∙ e)) in
-    let l = start-alone (x .max) (x .text .now) (x .ellipsis .now) (c .trimmed-pos .result) over (omega (arith, c .before .before .before .before .before .before .text-width .ensures .0, c .before .before .before .before .before .if1 .taken)) (rw (k .ensures .0 .0) at (c .trimmed-pos .ensures .0)) in
+    let l = start-alone (x .max) (x .text .now) (x .ellipsis .now) (c .trimmed-pos .result) over
+    (omega (arith, c .before .before .before .before .before .before .text-width .ensures .0, c .before .before .before .before .before .if1 .taken))
+    (rw (k .ensures .0 .0) at (c .trimmed-pos .ensures .0)) in
     ((l .0, k .ensures .0 .1 ∙ l .1), (omega arith, omega arith, c .trimmed-pos .ensures .1, omega arith))
 
 cut-back-requires-3 : tie.Need-cut-back-requires-3
@@ -60,8 +62,11 @@ sub-cut-back-2 c = search needs
 cut-back-requires-4 : tie.Need-cut-back-requires-4
 cut-back-requires-4 c κs =
     let k = c .before .before .cut-back3 in
-    let x = c .before .before .before .before .before .before .before .args in
-    (c .before .before .before .before .before .before .before .pre .0, part-well-formed _ (x .text .now) (k .result .pos) (c .before .before .before .before .before .before .before .pre .1 .0) (k .ensures .0 .0))
+    let x = c .before .before .before .before .before .before .before .args in (
+      c .before .before .before .before .before .before .before .pre .0,
+      part-well-formed _ (x .text .now) (k .result .pos)
+          (c .before .before .before .before .before .before .before .pre .1 .0) (k .ensures .0 .0),
+    )
 
 add-t22 : tie.Need-add-t22
 add-t22 c = search needs
@@ -72,7 +77,8 @@ returns-3 c =
     let k = m .before .before .before .cut-back3 in
     let x = m .before .before .before .before .before .before .before .before .args in
     let r = m .cut-back4 in
-    let both = two-cuts-back _ (x .max) (x .text .now) (k .result .pos) (k .result .width) (r .result .pos) (r .result .width) (omega arith) (k .ensures .0 .0) (k .ensures .0 .1) (r .ensures .0 .0) (r .ensures .0 .1) in
+    let both = two-cuts-back _ (x .max) (x .text .now) (k .result .pos) (k .result .width) (r .result .pos) (r .result .width) (omega arith) (k .ensures .0 .0) (k .ensures .0 .1)
+    (r .ensures .0 .0) (r .ensures .0 .1) in
     let fits = reaches-start (x .max) (x .text .now) (sym (both .0) ∙ c .before .before .if3 .taken) in
     let l = start-uncut (x .max) (x .text .now) (x .ellipsis .now) fits in
     ((l .0, both .1 ∙ fits-back (x .max) (x .text .now) fits .1 ∙ l .1), (omega arith, omega arith, omega arith, omega arith))
@@ -91,7 +97,8 @@ returns-4 c =
     let r = m .cut-back4 in
     let z = c .before .trimmed-pos2 in
     let w = m .before .before .before .before .before .text-width .ensures .0 in
-    let both = two-cuts-back _ (x .max) (x .text .now) (k .result .pos) (k .result .width) (r .result .pos) (r .result .width) (omega arith) (k .ensures .0 .0) (k .ensures .0 .1) (r .ensures .0 .0) (r .ensures .0 .1) in
+    let both = two-cuts-back _ (x .max) (x .text .now) (k .result .pos) (k .result .width) (r .result .pos) (r .result .width) (omega arith) (k .ensures .0 .0) (k .ensures .0 .1)
+    (r .ensures .0 .0) (r .ensures .0 .1) in
     let over = passes-back (x .max) (x .text .now) (λ e. c .before .before .if3 .left (both .0 ∙ e)) in
     let l = start-both (x .max) (x .text .now) (x .ellipsis .now) (z .result) over (omega (arith, w, m .before .before .before .before .if1 .left)) (rw (k .ensures .0 .0, w) at (z .ensures .0)) in
     ((l .0, omega (arith, w, rw w at (k .ensures .0 .1), l .1)), (z .ensures .1, omega arith, omega arith, omega arith))

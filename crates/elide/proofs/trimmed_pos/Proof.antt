@@ -29,8 +29,11 @@ add-result c = search needs
 returns : tie.Need-returns
 returns c =
     let z = c .zero-width-len in
-    let x = c .before .before .before .args in
-    (trimmed-from (x .s .now) (x .at) (z .result) (z .ensures .0), omega (arith, z .ensures .1, ap length (part-to-end (x .s .now) (x .at)), length-drop (x .at) (x .s .now), c .before .before .before .pre))
+    let x = c .before .before .before .args in (
+      trimmed-from (x .s .now) (x .at) (z .result) (z .ensures .0),
+      omega
+          (arith, z .ensures .1, ap length (part-to-end (x .s .now) (x .at)), length-drop (x .at) (x .s .now), c .before .before .before .pre),
+    )
 
 pub trimmed-pos-spec : {M : Type 1} → statement M
 trimmed-pos-spec =

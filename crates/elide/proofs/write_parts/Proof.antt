@@ -55,7 +55,9 @@ unfolding answerOf returned lentAfter over
 returns-3 c =
     let x = c .before .before .before .before .before .before .before .before .before .before .before .before .before .args in
     let n = length-parts (x .a) (x .b) (x .x .now) (x .c) (x .d) (x .y .now) (omega arith) (omega arith) in
-    let e = has-room (length (x .out .now)) (x .width) (part (x .a) (x .b) (x .x .now) ++ part (x .c) (x .d) (x .y .now)) (omega (arith, n, c .before .before .before .before .before .before .before .before .before .if1 .left)) (omega (arith, n, c .before .before .before .before .before .before .before .before .if2 .left)) in
+    let e = has-room (length (x .out .now)) (x .width) (part (x .a) (x .b) (x .x .now) ++ part (x .c) (x .d) (x .y .now))
+    (omega (arith, n, c .before .before .before .before .before .before .before .before .before .if1 .left))
+    (omega (arith, n, c .before .before .before .before .before .before .before .before .if2 .left)) in
     let one = c .before .before .before .before .before .before .put in
     let two = c .before .before .put2 in
     let p = part (x .a) (x .b) (x .x .now) in

@@ -42,15 +42,21 @@ limit-of-requires c κs = search needs
 
 -- one more character in the head
 further : (c : tie.After-struct-known3 Inv-loop μ-loop Inv-words μ-words)
-    → laws.Search (c .before .before .before .before .before .before .before .before .before .words .word .now) (c .before .before .before .before .before .before .before .before .before .before .before .limit-of .result) (c .before .before .before .before .before .before .loop .i + c .before .before .before .before .before .seen-in-word .result .len) (c .before .before .before .before .before .before .loop .left - c .before .before .before .before .before .seen-in-word .result .width)
+    → laws.Search (c .before .before .before .before .before .before .before .before .before .words .word .now)
+    (c .before .before .before .before .before .before .before .before .before .before .before .limit-of .result)
+    (c .before .before .before .before .before .before .loop .i + c .before .before .before .before .before .seen-in-word .result .len)
+    (c .before .before .before .before .before .before .loop .left - c .before .before .before .before .before .seen-in-word .result .width)
 further c =
     let r = c .before .before .before .before .before .seen-in-word in
-    laws.search-more _ _ _ _ (c .before .before .before .before .before .before .loop .inv) (r .result) (r .ensures .0) (c .before .before .before .if2 .left) (c .before .if3 .left) (r .ensures .1 .1) (r .ensures .1 .0)
+    laws.search-more _ _ _ _ (c .before .before .before .before .before .before .loop .inv) (r .result) (r .ensures .0) (c .before .before .before .if2 .left)
+    (c .before .if3 .left) (r .ensures .1 .1) (r .ensures .1 .0)
 
 -- where the search ends: at the end of the word, or at the first character that would pass the limit
 ended : (c : tie.Joined2 Inv-loop μ-loop Inv-words μ-words)
-    → (c .if2 .cut ≡ truncateEndPos (c .before .before .before .before .before .before .before .before .limit-of .result) (wordText (c .before .before .before .before .before .before .words .word .now)))
-    × (c .before .before .before .before .before .before .before .before .limit-of .result - c .before .before .before .loop .left ≡ truncateEndWidth (c .before .before .before .before .before .before .before .before .limit-of .result) (wordText (c .before .before .before .before .before .before .words .word .now)))
+    → (c .if2 .cut ≡ truncateEndPos (c .before .before .before .before .before .before .before .before .limit-of .result)
+    (wordText (c .before .before .before .before .before .before .words .word .now)))
+    × (c .before .before .before .before .before .before .before .before .limit-of .result - c .before .before .before .loop .left ≡ truncateEndWidth
+    (c .before .before .before .before .before .before .before .before .limit-of .result) (wordText (c .before .before .before .before .before .before .words .word .now)))
 ended c =
     let S = c .before .before .before .loop .inv in
     let r = c .before .before .seen-in-word in
@@ -61,20 +67,28 @@ ended c =
 
 -- the head that is taken
 headed : (c : tie.After-head-at Inv-loop μ-loop Inv-words μ-words)
-    → (c .head-at .result .len ≡ headLen (limitOf (c .before .before .before .before .before .before .before .before .before .before .before .args .width) (c .before .before .before .before .before .before .before .before .before .before .before .args .break-words)) (c .before .before .before .before .before .before .before .words .word .now))
-    × (c .head-at .result .width ≡ headWidth (limitOf (c .before .before .before .before .before .before .before .before .before .before .before .args .width) (c .before .before .before .before .before .before .before .before .before .before .before .args .break-words)) (c .before .before .before .before .before .before .before .words .word .now))
+    → (c .head-at .result .len ≡ headLen (limitOf (c .before .before .before .before .before .before .before .before .before .before .before .args .width)
+    (c .before .before .before .before .before .before .before .before .before .before .before .args .break-words)) (c .before .before .before .before .before .before .before .words .word .now))
+    × (c .head-at .result .width ≡ headWidth (limitOf (c .before .before .before .before .before .before .before .before .before .before .before .args .width)
+    (c .before .before .before .before .before .before .before .before .before .before .before .args .break-words)) (c .before .before .before .before .before .before .before .words .word .now))
 headed c =
+    let at-words = c .before .before .before .before .before .before .before in
+    let at-limit-of = at-words .before .before in
     let e = ended (c .before) in
-    let h = laws.head-law (c .before .before .before .before .before .before .before .before .before .limit-of .result) (c .before .before .before .before .before .before .before .words .word .now) (c .before .if2 .cut) _ (e .0) (e .1) in
-    let m = c .before .before .before .before .before .before .before .before .before .limit-of .ensures in (
-      ap (λ (x : Head). x .len) (c .head-at .ensures) ∙ h .0 ∙ ap (λ (n : ℕ). headLen n (c .before .before .before .before .before .before .before .words .word .now)) m,
-      ap (λ (x : Head). x .width) (c .head-at .ensures) ∙ h .1 ∙ ap (λ (n : ℕ). headWidth n (c .before .before .before .before .before .before .before .words .word .now)) m,
+    let h = laws.head-law (at-limit-of .limit-of .result)
+    (at-words .words .word .now) (c .before .if2 .cut) _ (e .0) (e .1) in
+    let m = at-limit-of .limit-of .ensures in (
+      ap (λ (x : Head). x .len) (c .head-at .ensures) ∙ h .0 ∙ ap (λ (n : ℕ). headLen n (at-words .words .word .now)) m,
+      ap (λ (x : Head). x .width) (c .head-at .ensures) ∙ h .1 ∙ ap (λ (n : ℕ). headWidth n (at-words .words .word .now)) m,
     )
 
 sized : (c : tie.After-head-at Inv-loop μ-loop Inv-words μ-words)
     → (c .head-at .result .len ≤ length (c .before .before .before .before .before .before .before .words .word .now)) × (c .head-at .result .width ≤ 2 * c .head-at .result .len)
-    × (c .before .before .before .before .before .before .before .words .run + c .head-at .result .width ≤ 2 * length (c .before .before .before .before .before .before .before .before .before .before .before .args .«data» .now))
-sized c = laws.sizes _ _ _ _ _ _ _ _ _ (c .before .before .before .before .before .before .before .words .inv) (limitOf (c .before .before .before .before .before .before .before .before .before .before .before .args .width) (c .before .before .before .before .before .before .before .before .before .before .before .args .break-words)) _ _ (headed c .0) (headed c .1)
+    × (c .before .before .before .before .before .before .before .words .run + c .head-at .result .width ≤ 2 * length
+    (c .before .before .before .before .before .before .before .before .before .before .before .args .«data» .now))
+sized c = laws.sizes _ _ _ _ _ _ _ _ _ (c .before .before .before .before .before .before .before .words .inv)
+    (limitOf (c .before .before .before .before .before .before .before .before .before .before .before .args .width)
+    (c .before .before .before .before .before .before .before .before .before .before .before .args .break-words)) _ _ (headed c .0) (headed c .1)
 
 room : (c : tie.At-words Inv-loop μ-loop Inv-words μ-words) → 2 * length (c .before .before .before .before .args .«data» .now) ≤ unreached
 room c = omega arith
@@ -107,14 +121,30 @@ cast-w : tie.Need-cast-w Inv-loop μ-loop Inv-words μ-words
 cast-w c = search needs
 
 add-i : tie.Need-add-i Inv-loop μ-loop Inv-words μ-words
-add-i c = omega (arith, word-le (c .before .before .before .before .before .before .before .before .before .words .word .now), laws.left-len _ _ _ _ _ _ _ _ _ (c .before .before .before .before .before .before .before .before .before .words .inv))
+add-i c = omega (
+  arith,
+  word-le (c .before .before .before .before .before .before .before .before .before .words .word .now),
+  laws.left-len _ _ _ _ _ _ _ _ _
+      (c .before .before .before .before .before .before .before .before .before .words .inv),
+)
 
 sub-fits : tie.Need-sub-fits Inv-loop μ-loop Inv-words μ-words
 sub-fits c = omega (arith, further c .left-within)
 
 fits-requires : tie.Need-fits-requires Inv-loop μ-loop Inv-words μ-words
 fits-requires c κs =
-    omega (arith, further c .within, further c .small, word-le (c .before .before .before .before .before .before .before .before .before .words .word .now), whole (c .before .before .before .before .before .before .before .before .before), c .before .before .before .before .before .before .before .before .before .words .inv .small, c .before .before .before .before .before .before .before .before .before .words .inv .past, room (c .before .before .before .before .before .before .before .before .before))
+    let at-words = c .before .before .before .before .before .before .before .before .before in
+    omega (
+      arith,
+      further c .within,
+      further c .small,
+      word-le (at-words .words .word .now),
+      whole
+          (at-words),
+      at-words .words .inv .small,
+      at-words .words .inv .past,
+      room (at-words),
+    )
 
 loop-less : tie.Need-loop-less Inv-loop μ-loop Inv-words μ-words
 loop-less c = search needs
@@ -141,7 +171,13 @@ add-run : tie.Need-add-run Inv-loop μ-loop Inv-words μ-words
 add-run c = omega (arith, whole (c .before .before .before .before .before .before .before .before .before .before), sized (c .before .before .before))
 
 add-run-2 : tie.Need-add-run-2 Inv-loop μ-loop Inv-words μ-words
-add-run-2 c = omega (arith, whole (c .before .before .before .before .before .before .before .before .before .before), sized (c .before .before .before), c .before .before .before .before .before .before .before .before .before .before .words .inv .small, c .before .before .before .before .before .before .before .before .before .before .words .inv .past)
+add-run-2 c = omega (
+  arith,
+  whole (c .before .before .before .before .before .before .before .before .before .before),
+  sized (c .before .before .before),
+  c .before .before .before .before .before .before .before .before .before .before .words .inv .small,
+  c .before .before .before .before .before .before .before .before .before .before .words .inv .past,
+)
 
 add-stop : tie.Need-add-stop Inv-loop μ-loop Inv-words μ-words
 add-stop c = omega (arith, whole (c .before .before .before .before .before .before .before .before .before .before), sized (c .before .before .before))
@@ -160,14 +196,34 @@ part-word-end-2 c = search needs
 
 words-less : tie.Need-words-less Inv-loop μ-loop Inv-words μ-words
 words-less c =
-    let m = limitOf (c .before .before .before .before .before .before .before .before .before .before .before .before .before .before .before .args .width) (c .before .before .before .before .before .before .before .before .before .before .before .before .before .before .before .args .break-words) in
+    let at-4 = c .before .before .before .before in
+    let at-if1 = at-4 .before .before .before .before .before in
+    let at-in-line = at-if1 .before in
+    let at-words = at-in-line .before in
+    let start = at-words .before .before .before .before in
+    let m = limitOf (start .args .width)
+    (start .args .break-words) in
     let s = c .before .spaces-at in
-    omega (arith, whole (c .before .before .before .before .before .before .before .before .before .before .before), s .ensures .1, laws.moves _ _ _ _ _ _ _ _ _ (c .before .before .before .before .before .before .before .before .before .before .before .words .inv) m _ _ (sym (c .before .before .before .before .before .before .before .before .before .before .in-line .ensures) ∙ c .before .before .before .before .before .before .before .before .before .if1 .taken) (headed (c .before .before .before .before) .0) (s .ensures .0))
+    omega (
+      arith,
+      whole (at-words),
+      s .ensures .1,
+      laws.moves _ _ _ _ _ _ _ _ _
+          (at-words .words .inv) m _ _
+          (sym (at-in-line .in-line .ensures)
+          ∙ at-if1 .if1 .taken) (headed (at-4) .0) (s .ensures .0),
+    )
 
 words-again : tie.Need-words-again Inv-loop μ-loop Inv-words μ-words
 words-again c =
+    let at-4 = c .before .before .before .before in
+    let at-if1 = at-4 .before .before .before .before .before in
+    let at-in-line = at-if1 .before in
+    let at-words = at-in-line .before in
     let s = c .before .spaces-at in
-    laws.state-next _ _ _ _ _ _ _ _ _ (c .before .before .before .before .before .before .before .before .before .before .before .words .inv) _ _ _ (omega arith) (sym (c .before .before .before .before .before .before .before .before .before .before .in-line .ensures) ∙ c .before .before .before .before .before .before .before .before .before .if1 .taken) (headed (c .before .before .before .before) .0) (headed (c .before .before .before .before) .1)
+    laws.state-next _ _ _ _ _ _ _ _ _ (at-words .words .inv) _ _ _ (omega arith)
+    (sym (at-in-line .in-line .ensures)
+    ∙ at-if1 .if1 .taken) (headed (at-4) .0) (headed (at-4) .1)
     (s .ensures .0) (s .ensures .1) (sym (c .before .before .before .fits3 .ensures) ∙ not-false (c .before .before .before .fits3 .result) (c .before .before .if5 .left))
 
 after-line-requires : tie.Need-after-line-requires Inv-loop μ-loop Inv-words μ-words
@@ -175,8 +231,11 @@ after-line-requires c κs = omega (arith, whole (c .before .before))
 
 returns : tie.Need-returns Inv-loop μ-loop Inv-words μ-words
 returns c =
+    let at-limit-of = c .before .before .before .before .before in
+    let start = at-limit-of .before .before in
     let I = c .before .before .before .words .inv in
-    let P = laws.Promise (c .before .before .before .before .before .before .before .args .«data» .now) (c .before .before .before .before .before .before .before .args .at) (c .before .before .before .before .before .before .before .args .width) (c .before .before .before .before .before .before .before .args .break-words) in
+    let P = laws.Promise (start .args .«data» .now) (start .args .at)
+    (start .args .width) (start .args .break-words) in
     let R : P (c .after-line .result) =
     rw (c .after-line .ensures)
     (⊎-elim
@@ -184,14 +243,39 @@ returns c =
     (λ v. ⊎-elim
     (λ w.
     let h : tie.After-struct-known3 Inv-loop μ-loop Inv-words μ-words =
-    record { before = record { before = record { before = record { before = record { before = record { before = record { before = record { before = c .before .before; if1 = w .0 }; loop = w .1 }; seen-in-word = w .2 }; struct-known = w .3 }; if2 = w .4 }; struct-known2 = w .5 }; if3 = w .6 }; struct-known3 = w .7 } in
+    record {
+      before = record {
+        before = record {
+          before = record {
+            before = record {
+              before = record { before = record { before = record { before = c .before .before; if1 = w .0 }; loop = w .1 }; seen-in-word = w .2 };
+              struct-known = w .3;
+            };
+            if2 = w .4;
+          };
+          struct-known2 = w .5;
+        };
+        if3 = w .6;
+      };
+      struct-known3 = w .7;
+    } in
     let g = w .2 .result in
-    laws.state-early _ _ _ _ _ _ _ _ _ I (c .before .before .before .before .before .limit-of .result) (c .before .before .before .before .before .limit-of .result - (w .1 .left - g .width)) (c .before .before .before .before .before .limit-of .ensures) (room (c .before .before .before)) (sym (c .before .before .in-line .ensures) ∙ w .0 .taken)
+    laws.state-early _ _ _ _ _ _ _ _ _ I (at-limit-of .limit-of .result)
+    (at-limit-of .limit-of .result - (w .1 .left - g .width)) (at-limit-of .limit-of .ensures)
+    (room (c .before .before .before)) (sym (c .before .before .in-line .ensures) ∙ w .0 .taken)
     (omega (arith, further h .place, w .4 .left)) (omega (arith, further h .width)) (sym (w .8 .ensures) ∙ not-true (w .8 .result) (w .9 .taken)))
     (λ w.
     let h : tie.After-head-at Inv-loop μ-loop Inv-words μ-words =
-    record { before = record { before = record { before = record { before = record { before = record { before = c .before .before; if1 = w .0 }; loop = w .1 }; seen-in-word = w .2 }; struct-known = w .3 }; if2 = w .4 }; head-at = w .5 } in
-    laws.state-new _ _ _ _ _ _ _ _ _ I _ _ (room (c .before .before .before)) (sym (c .before .before .in-line .ensures) ∙ w .0 .taken) (headed h .0) (headed h .1) (sym (w .6 .ensures) ∙ not-true (w .6 .result) (w .7 .taken)))
+    record {
+      before = record {
+        before = record
+            { before = record { before = record { before = record { before = c .before .before; if1 = w .0 }; loop = w .1 }; seen-in-word = w .2 }; struct-known = w .3 };
+        if2 = w .4;
+      };
+      head-at = w .5;
+    } in
+    laws.state-new _ _ _ _ _ _ _ _ _ I _ _ (room (c .before .before .before)) (sym (c .before .before .in-line .ensures) ∙ w .0 .taken) (headed h .0) (headed h .1)
+    (sym (w .6 .ensures) ∙ not-true (w .6 .result) (w .7 .taken)))
     v)
     (c .before .if1 .came)) in
     R

@@ -55,7 +55,8 @@ returns c =
     let g = l .before .seen-in-word in
     let t = wordText d in
     let none : zeroWidthLen (drop (l .loop .at) t) ≡ 0 =
-    ⊎-elim (λ w. laws.zero-end t (l .loop .at) (r .result) (r .ensures .0) (w .taken)) (λ w. laws.zero-pass t (l .loop .at) (r .result) (r .ensures .0) (w .0 .left) (w .2 .taken)) (c .before .if1 .came) in
+    ⊎-elim (λ w. laws.zero-end t (l .loop .at) (r .result) (r .ensures .0) (w .taken)) (λ w. laws.zero-pass t (l .loop .at) (r .result) (r .ensures .0) (w .0 .left) (w .2 .taken))
+    (c .before .if1 .came) in
     let p : l .loop .at ≡ oneHead d .len = omega (arith, none, l .loop .inv .1) in
     let q : g .result .width ≡ oneHead d .width = laws.one-start d (g .result) (g .ensures .0) .1 in
     λ i. record { len = p i; width = q i }

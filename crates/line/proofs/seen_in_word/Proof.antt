@@ -23,12 +23,14 @@ shared-slice-read-b c = search needs
 
 returns-2 : tie.Need-returns-2
 returns-2 c =
-    let e = laws.at-space (c .before .before .before .before .before .args .s .now) (c .before .before .before .before .before .args .i) (c .before .before .before .before .before .pre .1) (c .before .before .before .if1 .left) (c .if3 .taken) in
+    let e = laws.at-space (c .before .before .before .before .before .args .s .now) (c .before .before .before .before .before .args .i)
+    (c .before .before .before .before .before .pre .1) (c .before .before .before .if1 .left) (c .if3 .taken) in
     (e, (search needs, search needs))
 
 returns-3 : tie.Need-returns-3
 returns-3 c =
-    let e = laws.at-newline (c .before .before .before .before .before .before .args .s .now) (c .before .before .before .before .before .before .args .i) (c .before .before .before .before .before .before .pre .1) (c .before .before .before .before .if1 .left) (c .if4 .taken) in
+    let e = laws.at-newline (c .before .before .before .before .before .before .args .s .now) (c .before .before .before .before .before .before .args .i)
+    (c .before .before .before .before .before .before .pre .1) (c .before .before .before .before .if1 .left) (c .if4 .taken) in
     (e, (search needs, search needs))
 
 seen-at-requires : tie.Need-seen-at-requires
@@ -38,7 +40,8 @@ returns-4 : tie.Need-returns-4
 returns-4 c =
     let a = c .before .before .before .before .before .before .before .args in
     let r = c .seen-at in
-    let e = laws.at-char (a .s .now) (a .i) (c .before .before .before .before .before .before .before .pre .1) (c .before .before .before .before .before .if1 .left) (c .before .before .if3 .left) (c .before .if4 .left) (r .result) (r .ensures .0 .0) (r .ensures .0 .1) in
+    let e = laws.at-char (a .s .now) (a .i) (c .before .before .before .before .before .before .before .pre .1) (c .before .before .before .before .before .if1 .left)
+    (c .before .before .if3 .left) (c .before .if4 .left) (r .result) (r .ensures .0 .0) (r .ensures .0 .1) in
     (e, (laws.seen-inside (wordText (a .s .now)) (a .i) (r .result) e (c .before .before .before .before .before .before .before .pre .1), search needs))
 
 returns-5 : tie.Need-returns-5
@@ -46,7 +49,8 @@ returns-5 c =
     let a = c .before .before .before .before .before .args in
     let p = plain (a .s .now) (a .i) (omega (arith, c .before .if2 .left)) (omega (arith, c .if5 .taken)) in
     let one : Seen = record { len = 1; width = 1 } in
-    let e = laws.at-char (a .s .now) (a .i) (c .before .before .before .before .before .pre .1) (c .before .before .before .if1 .left) (λ z. omega (arith, z, c .before .if2 .left)) (λ z. omega (arith, z, c .before .if2 .left)) one (sym (p .0)) (sym (p .1)) in
+    let e = laws.at-char (a .s .now) (a .i) (c .before .before .before .before .before .pre .1) (c .before .before .before .if1 .left) (λ z. omega (arith, z, c .before .if2 .left))
+    (λ z. omega (arith, z, c .before .if2 .left)) one (sym (p .0)) (sym (p .1)) in
     (e, (laws.seen-inside (wordText (a .s .now)) (a .i) one e (c .before .before .before .before .before .pre .1), search needs))
 
 seen-at-requires-2 : tie.Need-seen-at-requires-2
@@ -56,7 +60,8 @@ returns-6 : tie.Need-returns-6
 returns-6 c =
     let a = c .before .before .before .before .before .before .args in
     let r = c .seen-at2 in
-    let e = laws.at-char (a .s .now) (a .i) (c .before .before .before .before .before .before .pre .1) (c .before .before .before .before .if1 .left) (λ z. omega (arith, z, c .before .before .if2 .left)) (λ z. omega (arith, z, c .before .before .if2 .left)) (r .result) (r .ensures .0 .0) (r .ensures .0 .1) in
+    let e = laws.at-char (a .s .now) (a .i) (c .before .before .before .before .before .before .pre .1) (c .before .before .before .before .if1 .left)
+    (λ z. omega (arith, z, c .before .before .if2 .left)) (λ z. omega (arith, z, c .before .before .if2 .left)) (r .result) (r .ensures .0 .0) (r .ensures .0 .1) in
     (e, (laws.seen-inside (wordText (a .s .now)) (a .i) (r .result) e (c .before .before .before .before .before .before .pre .1), search needs))
 
 pub seen-in-word-spec : {M : Type 1} → statement M

@@ -108,14 +108,17 @@ set-entry-requires c κs =
 
 add-t14 : tie.Need-add-t14
 add-t14 c =
-    let a = c .before .before .before .before .before .before .before .before .before .before .before .before .before .before .args in
+    let at-enum-told = c .before .before .before .before .before .before .before in
+    let at-check-lent = at-enum-told .before .before in
+    let start = at-check-lent .before .before .before .before .before in
+    let a = start .args in
     let b = lentOf (a .content .now) (a .entries .now) (a .text .now) in
-    let k = c .before .before .before .before .before .before .before .before .before .check-lent in
-    let g = c .before .before .before .before .before .before .before .enum-told .given in
+    let k = at-check-lent .check-lent in
+    let g = at-enum-told .enum-told .given in
     omega (
       arith,
       limits b (a .content-len) (a .entries-len) (a .text-len) (k .result) (k .ensures) (g .0 .0) (g .1),
-      c .before .before .before .before .before .before .before .before .before .before .before .before .before .before .good,
+      start .good,
     )
 
 same-length-3 : tie.Need-same-length-3
@@ -124,15 +127,20 @@ same-length-3 c = search needs
 returns-3 : tie.Need-returns-3
 unfolding popped withPop
 returns-3 c =
-    let a = c .before .before .before .before .before .before .before .before .before .before .before .before .before .before .args in
+    let at-enum-told2 = c .before .before .before .before in
+    let at-settle = at-enum-told2 .before .before in
+    let at-enum-told = at-settle .before in
+    let at-check-lent = at-enum-told .before .before in
+    let start = at-check-lent .before .before .before .before .before in
+    let a = start .args in
     let b = lentOf (a .content .now) (a .entries .now) (a .text .now) in
     let u = usedOf b (a .content-len) (a .entries-len) (a .text-len) in
     let q = withEntry 1 0 [] u in
-    let k = c .before .before .before .before .before .before .before .before .before .check-lent in
-    let v = c .before .before .before .before .before .before .settle in
+    let k = at-check-lent .check-lent in
+    let v = at-settle .settle in
     let p = c .before .before .set-entry in
-    let g = c .before .before .before .before .before .before .before .enum-told .given in
-    let g₂ = c .before .before .before .before .enum-told2 .given in
+    let g = at-enum-told .enum-told .given in
+    let g₂ = at-enum-told2 .enum-told2 .given in
     let i = is-inside b (a .content-len) (a .entries-len) (a .text-len) (k .result) (k .ensures) (g .0 .0) (g .1) in
     let s = entry-sizes b (a .content-len) (a .entries-len) (a .text-len) [] i 1 0 in
     let z = accepted b (a .content-len) (a .entries-len) (a .text-len) (k .result) (k .ensures) (g .0 .0) (g .1) 0 refl (roomIn b) (leaves q) (v .result) (a .content-len)

@@ -112,21 +112,26 @@ same-length-6 c = search needs
 returns-3 : tie.Need-returns-3
 unfolding pushed withLabel
 returns-3 c =
-    let a = c .before .before .before .before .before .before .before .before .before .before .before .before .before .before .before .args in
+    let at-if1 = c .before .before .before .before in
+    let at-well-formed = at-if1 .before in
+    let at-enum-told = at-well-formed .before in
+    let at-check-used = at-enum-told .before .before in
+    let start = at-check-used .before .before .before .before .before .before .before in
+    let a = start .args in
     let b = lentOf (a .content .now) (a .entries .now) (a .text .now) in
     let u = usedOf b (a .content-len) (a .entries-len) (a .text-len) in
     let n = refuseIf (not (wellFormed (a .label .now))) 6 in
     let q = withEntry 0 (length (take (a .text-len) (a .text .now))) (a .label .now) u in
-    let k = c .before .before .before .before .before .before .before .before .check-used in
+    let k = at-check-used .check-used in
     let v = c .before .before .before .settle in
-    let w = c .before .before .before .before .before .well-formed in
-    let g = c .before .before .before .before .before .before .enum-told .given in
+    let w = at-well-formed .well-formed in
+    let g = at-enum-told .enum-told .given in
     let h = c .before .verdict .given in
     let i = is-inside b (a .content-len) (a .entries-len) (a .text-len) (k .result) (k .ensures) (g .0 .0) (g .1) in
     let s = entry-sizes b (a .content-len) (a .entries-len) (a .text-len) (a .label .now) i 0 (length (take (a .text-len) (a .text .now))) in
     add-refused (addFaults n b (a .content-len) (a .entries-len) (a .text-len)) b q (h .0 .0)
     (too-large b (a .content-len) (a .entries-len) (a .text-len) (k .result) (k .ensures) (g .0 .0) (g .1) n
-    (good-label (w .result) (a .label .now) (w .ensures) (not-false (w .result) (c .before .before .before .before .if1 .left))) (roomIn b) (leaves q) (v .result) (a .content-len)
+    (good-label (w .result) (a .label .now) (w .ensures) (not-false (w .result) (at-if1 .if1 .left))) (roomIn b) (leaves q) (v .result) (a .content-len)
     (a .entries-len + 4) (a .text-len + length (a .label .now)) (v .ensures) (s .0) (s .1) (s .2) refl (h .0 .0) (h .1))
 
 enum-told-2 : tie.Need-enum-told-2
@@ -134,46 +139,58 @@ enum-told-2 c = search needs
 
 put-mark-requires : tie.Need-put-mark-requires
 put-mark-requires c κs =
-    let a = c .before .before .before .before .before .before .before .before .before .before .before .before .before .before .before .before .args in
+    let at-settle = c .before .before .before .before in
+    let at-if1 = at-settle .before in
+    let at-well-formed = at-if1 .before in
+    let at-enum-told = at-well-formed .before in
+    let at-check-used = at-enum-told .before .before in
+    let start = at-check-used .before .before .before .before .before .before .before in
+    let a = start .args in
     let b = lentOf (a .content .now) (a .entries .now) (a .text .now) in
     let u = usedOf b (a .content-len) (a .entries-len) (a .text-len) in
     let n = refuseIf (not (wellFormed (a .label .now))) 6 in
     let q = withEntry 0 (length (take (a .text-len) (a .text .now))) (a .label .now) u in
-    let k = c .before .before .before .before .before .before .before .before .before .check-used in
-    let v = c .before .before .before .before .settle in
-    let w = c .before .before .before .before .before .before .well-formed in
-    let g = c .before .before .before .before .before .before .before .enum-told .given in
+    let k = at-check-used .check-used in
+    let v = at-settle .settle in
+    let w = at-well-formed .well-formed in
+    let g = at-enum-told .enum-told .given in
     let g₂ = c .before .before .enum-told2 .given in
     let i = is-inside b (a .content-len) (a .entries-len) (a .text-len) (k .result) (k .ensures) (g .0 .0) (g .1) in
     let s = entry-sizes b (a .content-len) (a .entries-len) (a .text-len) (a .label .now) i 0 (length (take (a .text-len) (a .text .now))) in
     let f = fits b (a .content-len) (a .entries-len) (a .text-len) (k .result) (k .ensures) (g .0 .0) (g .1) n
-    (good-label (w .result) (a .label .now) (w .ensures) (not-false (w .result) (c .before .before .before .before .before .if1 .left))) (roomIn b) (leaves q) (v .result) (a .content-len)
+    (good-label (w .result) (a .label .now) (w .ensures) (not-false (w .result) (at-if1 .if1 .left))) (roomIn b) (leaves q) (v .result) (a .content-len)
     (a .entries-len + 4) (a .text-len + length (a .label .now)) (v .ensures) (s .0) (s .1) (s .2) refl (g₂ .1) in
     let m = limits b (a .content-len) (a .entries-len) (a .text-len) (k .result) (k .ensures) (g .0 .0) (g .1) in
     ((omega (arith, f .entry-room, s .1), omega (arith, f .text-room, s .2)), (m .0, omega (arith, f .text-limit, s .2)))
 
 add-t20 : tie.Need-add-t20
 add-t20 c =
-    let a = c .before .before .before .before .before .before .before .before .before .before .before .before .before .before .before .before .before .before .before .before .before .args in
+    let at-enum-told = c .before .before .before .before .before .before .before .before .before .before .before .before in
+    let at-check-used = at-enum-told .before .before in
+    let start = at-check-used .before .before .before .before .before .before .before in
+    let a = start .args in
     let b = lentOf (a .content .now) (a .entries .now) (a .text .now) in
-    let k = c .before .before .before .before .before .before .before .before .before .before .before .before .before .before .check-used in
-    let g = c .before .before .before .before .before .before .before .before .before .before .before .before .enum-told .given in
+    let k = at-check-used .check-used in
+    let g = at-enum-told .enum-told .given in
     omega (
       arith,
       limits b (a .content-len) (a .entries-len) (a .text-len) (k .result) (k .ensures) (g .0 .0) (g .1),
-      c .before .before .before .before .before .before .before .before .before .before .before .before .before .before .before .before .before .before .before .before .before .good,
+      start .good,
     )
 
 add-t25 : tie.Need-add-t25
 add-t25 c =
-    let a = c .before .before .before .before .before .before .before .before .before .before .before .before .before .before .before .before .before .before .before .before .before .args in
+    let at-enum-told = c .before .before .before .before .before .before .before .before .before .before .before .before in
+    let at-check-used = at-enum-told .before .before in
+    let start = at-check-used .before .before .before .before .before .before .before in
+    let a = start .args in
     let b = lentOf (a .content .now) (a .entries .now) (a .text .now) in
-    let k = c .before .before .before .before .before .before .before .before .before .before .before .before .before .before .check-used in
-    let g = c .before .before .before .before .before .before .before .before .before .before .before .before .enum-told .given in
+    let k = at-check-used .check-used in
+    let g = at-enum-told .enum-told .given in
     omega (
       arith,
       limits b (a .content-len) (a .entries-len) (a .text-len) (k .result) (k .ensures) (g .0 .0) (g .1),
-      c .before .before .before .before .before .before .before .before .before .before .before .before .before .before .before .before .before .before .before .before .before .good,
+      start .good,
     )
 
 same-length-7 : tie.Need-same-length-7
@@ -185,21 +202,29 @@ same-length-8 c = search needs
 returns-4 : tie.Need-returns-4
 unfolding pushed withLabel
 returns-4 c =
-    let a = c .before .before .before .before .before .before .before .before .before .before .before .before .before .before .before .before .before .before .before .before .before .args in
+    let at-put-mark = c .before .before .before .before in
+    let at-enum-told2 = at-put-mark .before .before .before in
+    let at-settle = at-enum-told2 .before .before in
+    let at-if1 = at-settle .before in
+    let at-well-formed = at-if1 .before in
+    let at-enum-told = at-well-formed .before in
+    let at-check-used = at-enum-told .before .before in
+    let start = at-check-used .before .before .before .before .before .before .before in
+    let a = start .args in
     let b = lentOf (a .content .now) (a .entries .now) (a .text .now) in
     let u = usedOf b (a .content-len) (a .entries-len) (a .text-len) in
     let n = refuseIf (not (wellFormed (a .label .now))) 6 in
     let q = withEntry 0 (length (take (a .text-len) (a .text .now))) (a .label .now) u in
-    let k = c .before .before .before .before .before .before .before .before .before .before .before .before .before .before .check-used in
-    let v = c .before .before .before .before .before .before .before .before .before .settle in
-    let w₁ = c .before .before .before .before .before .before .before .before .before .before .before .well-formed in
-    let p = c .before .before .before .before .put-mark in
-    let g = c .before .before .before .before .before .before .before .before .before .before .before .before .enum-told .given in
-    let g₂ = c .before .before .before .before .before .before .before .enum-told2 .given in
+    let k = at-check-used .check-used in
+    let v = at-settle .settle in
+    let w₁ = at-well-formed .well-formed in
+    let p = at-put-mark .put-mark in
+    let g = at-enum-told .enum-told .given in
+    let g₂ = at-enum-told2 .enum-told2 .given in
     let i = is-inside b (a .content-len) (a .entries-len) (a .text-len) (k .result) (k .ensures) (g .0 .0) (g .1) in
     let s = entry-sizes b (a .content-len) (a .entries-len) (a .text-len) (a .label .now) i 0 (length (take (a .text-len) (a .text .now))) in
     let z = accepted b (a .content-len) (a .entries-len) (a .text-len) (k .result) (k .ensures) (g .0 .0) (g .1) n
-    (good-label (w₁ .result) (a .label .now) (w₁ .ensures) (not-false (w₁ .result) (c .before .before .before .before .before .before .before .before .before .before .if1 .left)))
+    (good-label (w₁ .result) (a .label .now) (w₁ .ensures) (not-false (w₁ .result) (at-if1 .if1 .left)))
     (roomIn b) (leaves q) (v .result) (a .content-len) (a .entries-len + 4) (a .text-len + length (a .label .now)) (v .ensures) (s .0) (s .1) (s .2) refl (g₂ .1) in
     let w = entry-left b (a .content-len) (a .entries-len) (a .text-len) (a .label .now) i 0 _ _ _ _
     (sym (used-t b (a .content-len) (a .entries-len) (a .text-len) (k .result) (k .ensures) (g .0 .0) (g .1))) (p .ensures .0) (p .ensures .1) in

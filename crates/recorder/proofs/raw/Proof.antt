@@ -104,19 +104,23 @@ same-length-6 c = search needs
 returns-3 : tie.Need-returns-3
 unfolding rawAdded withRaw
 returns-3 c =
-    let a = c .before .before .before .before .before .before .before .before .before .before .before .before .before .before .args in
+    let at-if1 = c .before .before .before .before in
+    let at-enum-told = at-if1 .before in
+    let at-check-lent = at-enum-told .before .before in
+    let start = at-check-lent .before .before .before .before .before .before .before in
+    let a = start .args in
     let b = lentOf (a .content .now) (a .entries .now) (a .text .now) in
     let u = usedOf b (a .content-len) (a .entries-len) (a .text-len) in
     let n = refuseIf (eqb (length (a .sequence .now)) 0) 3 in
     let q = withEntry 2 (length (take (a .text-len) (a .text .now))) (a .sequence .now) u in
-    let k = c .before .before .before .before .before .before .before .check-lent in
+    let k = at-check-lent .check-lent in
     let v = c .before .before .before .settle in
-    let g = c .before .before .before .before .before .enum-told .given in
+    let g = at-enum-told .enum-told .given in
     let h = c .before .verdict .given in
     let i = is-inside b (a .content-len) (a .entries-len) (a .text-len) (k .result) (k .ensures) (g .0 .0) (g .1) in
     let s = entry-sizes b (a .content-len) (a .entries-len) (a .text-len) (a .sequence .now) i 2 (length (take (a .text-len) (a .text .now))) in
     add-refused (addFaults n b (a .content-len) (a .entries-len) (a .text-len)) b q (h .0 .0)
-    (too-large b (a .content-len) (a .entries-len) (a .text-len) (k .result) (k .ensures) (g .0 .0) (g .1) n (some-raw _ (c .before .before .before .before .if1 .left)) (roomIn b)
+    (too-large b (a .content-len) (a .entries-len) (a .text-len) (k .result) (k .ensures) (g .0 .0) (g .1) n (some-raw _ (at-if1 .if1 .left)) (roomIn b)
     (leaves q) (v .result) (a .content-len) (a .entries-len + 4) (a .text-len + length (a .sequence .now)) (v .ensures) (s .0) (s .1) (s .2) refl (h .0 .0) (h .1))
 
 enum-told-2 : tie.Need-enum-told-2
@@ -124,44 +128,55 @@ enum-told-2 c = search needs
 
 put-mark-requires : tie.Need-put-mark-requires
 put-mark-requires c κs =
-    let a = c .before .before .before .before .before .before .before .before .before .before .before .before .before .before .before .args in
+    let at-settle = c .before .before .before .before in
+    let at-if1 = at-settle .before in
+    let at-enum-told = at-if1 .before in
+    let at-check-lent = at-enum-told .before .before in
+    let start = at-check-lent .before .before .before .before .before .before .before in
+    let a = start .args in
     let b = lentOf (a .content .now) (a .entries .now) (a .text .now) in
     let u = usedOf b (a .content-len) (a .entries-len) (a .text-len) in
     let n = refuseIf (eqb (length (a .sequence .now)) 0) 3 in
     let q = withEntry 2 (length (take (a .text-len) (a .text .now))) (a .sequence .now) u in
-    let k = c .before .before .before .before .before .before .before .before .check-lent in
-    let v = c .before .before .before .before .settle in
-    let g = c .before .before .before .before .before .before .enum-told .given in
+    let k = at-check-lent .check-lent in
+    let v = at-settle .settle in
+    let g = at-enum-told .enum-told .given in
     let g₂ = c .before .before .enum-told2 .given in
     let i = is-inside b (a .content-len) (a .entries-len) (a .text-len) (k .result) (k .ensures) (g .0 .0) (g .1) in
     let s = entry-sizes b (a .content-len) (a .entries-len) (a .text-len) (a .sequence .now) i 2 (length (take (a .text-len) (a .text .now))) in
-    let f = fits b (a .content-len) (a .entries-len) (a .text-len) (k .result) (k .ensures) (g .0 .0) (g .1) n (some-raw _ (c .before .before .before .before .before .if1 .left)) (roomIn b)
+    let f = fits b (a .content-len) (a .entries-len) (a .text-len) (k .result) (k .ensures) (g .0 .0) (g .1) n (some-raw _ (at-if1 .if1 .left)) (roomIn b)
     (leaves q) (v .result) (a .content-len) (a .entries-len + 4) (a .text-len + length (a .sequence .now)) (v .ensures) (s .0) (s .1) (s .2) refl (g₂ .1) in
     let m = limits b (a .content-len) (a .entries-len) (a .text-len) (k .result) (k .ensures) (g .0 .0) (g .1) in
     ((omega (arith, f .entry-room, s .1), omega (arith, f .text-room, s .2)), (m .0, omega (arith, f .text-limit, s .2)))
 
 add-t16 : tie.Need-add-t16
 add-t16 c =
-    let a = c .before .before .before .before .before .before .before .before .before .before .before .before .before .before .before .before .before .before .before .before .args in
+    let at-enum-told = c .before .before .before .before .before .before .before .before .before .before .before in
+    let at-check-lent = at-enum-told .before .before in
+    let start = at-check-lent .before .before .before .before .before .before .before in
+    let a = start .args in
     let b = lentOf (a .content .now) (a .entries .now) (a .text .now) in
-    let k = c .before .before .before .before .before .before .before .before .before .before .before .before .before .check-lent in
-    let g = c .before .before .before .before .before .before .before .before .before .before .before .enum-told .given in
+    let k = at-check-lent .check-lent in
+    let g = at-enum-told .enum-told .given in
     omega (
       arith,
       limits b (a .content-len) (a .entries-len) (a .text-len) (k .result) (k .ensures) (g .0 .0) (g .1),
-      c .before .before .before .before .before .before .before .before .before .before .before .before .before .before .before .before .before .before .before .before .good,
+      start .good,
     )
 
 add-t23 : tie.Need-add-t23
 add-t23 c =
-    let a = c .before .before .before .before .before .before .before .before .before .before .before .before .before .before .before .before .before .before .before .before .args in
+    let at-enum-told = c .before .before .before .before .before .before .before .before .before .before .before in
+    let at-check-lent = at-enum-told .before .before in
+    let start = at-check-lent .before .before .before .before .before .before .before in
+    let a = start .args in
     let b = lentOf (a .content .now) (a .entries .now) (a .text .now) in
-    let k = c .before .before .before .before .before .before .before .before .before .before .before .before .before .check-lent in
-    let g = c .before .before .before .before .before .before .before .before .before .before .before .enum-told .given in
+    let k = at-check-lent .check-lent in
+    let g = at-enum-told .enum-told .given in
     omega (
       arith,
       limits b (a .content-len) (a .entries-len) (a .text-len) (k .result) (k .ensures) (g .0 .0) (g .1),
-      c .before .before .before .before .before .before .before .before .before .before .before .before .before .before .before .before .before .before .before .before .good,
+      start .good,
     )
 
 same-length-7 : tie.Need-same-length-7
@@ -173,20 +188,27 @@ same-length-8 c = search needs
 returns-4 : tie.Need-returns-4
 unfolding rawAdded withRaw
 returns-4 c =
-    let a = c .before .before .before .before .before .before .before .before .before .before .before .before .before .before .before .before .before .before .before .before .args in
+    let at-put-mark = c .before .before .before .before in
+    let at-enum-told2 = at-put-mark .before .before .before in
+    let at-settle = at-enum-told2 .before .before in
+    let at-if1 = at-settle .before in
+    let at-enum-told = at-if1 .before in
+    let at-check-lent = at-enum-told .before .before in
+    let start = at-check-lent .before .before .before .before .before .before .before in
+    let a = start .args in
     let b = lentOf (a .content .now) (a .entries .now) (a .text .now) in
     let u = usedOf b (a .content-len) (a .entries-len) (a .text-len) in
     let n = refuseIf (eqb (length (a .sequence .now)) 0) 3 in
     let q = withEntry 2 (length (take (a .text-len) (a .text .now))) (a .sequence .now) u in
-    let k = c .before .before .before .before .before .before .before .before .before .before .before .before .before .check-lent in
-    let v = c .before .before .before .before .before .before .before .before .before .settle in
-    let p = c .before .before .before .before .put-mark in
-    let g = c .before .before .before .before .before .before .before .before .before .before .before .enum-told .given in
-    let g₂ = c .before .before .before .before .before .before .before .enum-told2 .given in
+    let k = at-check-lent .check-lent in
+    let v = at-settle .settle in
+    let p = at-put-mark .put-mark in
+    let g = at-enum-told .enum-told .given in
+    let g₂ = at-enum-told2 .enum-told2 .given in
     let i = is-inside b (a .content-len) (a .entries-len) (a .text-len) (k .result) (k .ensures) (g .0 .0) (g .1) in
     let s = entry-sizes b (a .content-len) (a .entries-len) (a .text-len) (a .sequence .now) i 2 (length (take (a .text-len) (a .text .now))) in
     let z = accepted b (a .content-len) (a .entries-len) (a .text-len) (k .result) (k .ensures) (g .0 .0) (g .1) n
-    (some-raw _ (c .before .before .before .before .before .before .before .before .before .before .if1 .left)) (roomIn b) (leaves q) (v .result) (a .content-len) (a .entries-len + 4)
+    (some-raw _ (at-if1 .if1 .left)) (roomIn b) (leaves q) (v .result) (a .content-len) (a .entries-len + 4)
     (a .text-len + length (a .sequence .now)) (v .ensures) (s .0) (s .1) (s .2) refl (g₂ .1) in
     let w = entry-left b (a .content-len) (a .entries-len) (a .text-len) (a .sequence .now) i 2 _ _ _ _
     (sym (used-t b (a .content-len) (a .entries-len) (a .text-len) (k .result) (k .ensures) (g .0 .0) (g .1))) (p .ensures .0) (p .ensures .1) in

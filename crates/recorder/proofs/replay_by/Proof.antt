@@ -39,9 +39,12 @@ enum-known-verdict c = search needs
 
 returns-2 : tie.Need-returns-2
 returns-2 c =
-    let a = c .before .before .before .before .before .before .before .before .before .before .before .before .before .before .args in
-    let k = c .before .before .before .before .before .before .before .check in
-    let g = c .before .before .before .before .before .checked2 .given in
+    let at-checked2 = c .before .before .before .before .before in
+    let at-check = at-checked2 .before .before in
+    let start = at-check .before .before .before .before .before .before .before in
+    let a = start .args in
+    let k = at-check .check in
+    let g = at-checked2 .checked2 .given in
     let v = c .before .before .before .settle in
     let h = c .before .verdict .given in
     replay-refused (a .content .now) (a .entries .now) (a .text .now) (a .bytes .now) (a .numbers .now) (a .texts .now) (h .0 .0)
@@ -54,10 +57,14 @@ enum-told c = search needs
 put-recording-requires : tie.Need-put-recording-requires
 unfolding out
 put-recording-requires c κs =
-    let a = c .before .before .before .before .before .before .before .before .before .before .before .before .before .before .before .before .args in
-    let k = c .before .before .before .before .before .before .before .before .before .check in
-    let g = c .before .before .before .before .before .before .before .checked2 .given in
-    let v = c .before .before .before .before .before .settle in
+    let at-settle = c .before .before .before .before .before in
+    let at-checked2 = at-settle .before .before in
+    let at-check = at-checked2 .before .before in
+    let start = at-check .before .before .before .before .before .before .before in
+    let a = start .args in
+    let k = at-check .check in
+    let g = at-checked2 .checked2 .given in
+    let v = at-settle .settle in
     let h = c .before .before .before .enum-told .given in (
       is-sound (a .content .now) (a .entries .now) (a .text .now) (a .bytes .now) (a .numbers .now) (a .texts .now) (k .result) (k .ensures .0) (g .0 .0) (g .1) (k .ensures .1 .0),
       has-room (a .content .now) (a .entries .now) (a .text .now) (a .bytes .now) (a .numbers .now) (a .texts .now) (k .result) (k .ensures .0) (g .0 .0) (g .1) (k .ensures .1 .0)
@@ -76,15 +83,20 @@ same-length-3 c = search needs
 returns-3 : tie.Need-returns-3
 unfolding out
 returns-3 c =
-    let a = start (c .before .before .before .before .before .before .before .before .before .before .before .before) .args in
-    let k = c .before .before .before .before .before .before .before .before .before .before .before .before .before .before .before .before .check in
-    let g = c .before .before .before .before .before .before .before .before .before .before .before .before .before .before .checked2 .given in
-    let v = c .before .before .before .before .before .before .before .before .before .before .before .before .settle in
-    let h = c .before .before .before .before .before .before .before .before .before .before .enum-told .given in
-    replay-done (a .content .now) (a .entries .now) (a .text .now) (a .bytes .now) (a .numbers .now) (a .texts .now) _ _ _ (c .before .before .before .before .before .before .put-recording .result)
+    let at-put-recording = c .before .before .before .before .before .before in
+    let at-enum-told = at-put-recording .before .before .before .before in
+    let at-settle = at-enum-told .before .before in
+    let at-checked2 = at-settle .before .before in
+    let at-check = at-checked2 .before .before in
+    let a = start (at-settle) .args in
+    let k = at-check .check in
+    let g = at-checked2 .checked2 .given in
+    let v = at-settle .settle in
+    let h = at-enum-told .enum-told .given in
+    replay-done (a .content .now) (a .entries .now) (a .text .now) (a .bytes .now) (a .numbers .now) (a .texts .now) _ _ _ (at-put-recording .put-recording .result)
     (accepted (a .content .now) (a .entries .now) (a .text .now) (a .bytes .now) (a .numbers .now) (a .texts .now) (k .result) (k .ensures .0) (g .0 .0) (g .1) (k .ensures .1 .0)
     (v .result) (v .ensures) (h .1))
-    (c .before .before .before .before .before .before .put-recording .ensures .0)
+    (at-put-recording .put-recording .ensures .0)
 
 pub replay-by-spec : {M : Type 1} → statement M
 replay-by-spec =

@@ -99,15 +99,20 @@ same-length-3 c = search needs
 returns-3 : tie.Need-returns-3
 unfolding written
 returns-3 c =
-    let a = c .before .before .before .before .before .before .before .before .before .before .before .before .before .before .before .args in
+    let at-enum-told2 = c .before .before .before .before in
+    let at-settle = at-enum-told2 .before .before in
+    let at-enum-told = at-settle .before in
+    let at-check-lent = at-enum-told .before .before in
+    let start = at-check-lent .before .before .before .before .before .before in
+    let a = start .args in
     let b = lentOf (a .content .now) (a .entries .now) (a .text .now) in
     let u = usedOf b (a .content-len) (a .entries-len) (a .text-len) in
     let q = withData (a .added .now) u in
-    let k = c .before .before .before .before .before .before .before .before .before .check-lent in
-    let v = c .before .before .before .before .before .before .settle in
+    let k = at-check-lent .check-lent in
+    let v = at-settle .settle in
     let p = c .before .before .put in
-    let g = c .before .before .before .before .before .before .before .enum-told .given in
-    let g₂ = c .before .before .before .before .enum-told2 .given in
+    let g = at-enum-told .enum-told .given in
+    let g₂ = at-enum-told2 .enum-told2 .given in
     let i = is-inside b (a .content-len) (a .entries-len) (a .text-len) (k .result) (k .ensures) (g .0 .0) (g .1) in
     let s = data-sizes b (a .content-len) (a .entries-len) (a .text-len) (a .added .now) i in
     let z = accepted b (a .content-len) (a .entries-len) (a .text-len) (k .result) (k .ensures) (g .0 .0) (g .1) 0 refl (roomIn b) (leaves q) (v .result)

@@ -34,8 +34,11 @@ check-entries-requires : tie.Need-check-entries-requires
 check-entries-requires c κs = search needs
 
 returns-5 : tie.Need-returns-5
-returns-5 c =
-    (c .check-entries .ensures .0 ∙ sym (fault-entries _ _ _ (c .before .before .before .before .if1 .left) (c .before .before .before .if2 .left) (c .before .before .if3 .left) (c .before .if4 .left)), c .check-entries .ensures .1)
+returns-5 c = (
+  c .check-entries .ensures .0 ∙ sym (fault-entries _ _ _ (c .before .before .before .before .if1 .left) (c .before .before .before .if2 .left) (c .before .before .if3 .left)
+      (c .before .if4 .left)),
+  c .check-entries .ensures .1,
+)
 
 pub check-spec : {M : Type 1} → statement M
 check-spec =

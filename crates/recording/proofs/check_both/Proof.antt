@@ -59,7 +59,8 @@ returns-3 c =
     let x = c .before .before .before .before .before .first2 .given in
     let l = c .before .before .before .check2 in
     let y = c .before .next2 .given in
-    both-fine (content s) (second s) (k .result) (k .ensures .0) (x .0 .0) (x .1) (k .ensures .1 .0) (k .ensures .1 .1) (l .result) (l .ensures .0) (y .0 .0) (y .1) (l .ensures .1 .0) (l .ensures .1 .1)
+    both-fine (content s) (second s) (k .result) (k .ensures .0) (x .0 .0) (x .1) (k .ensures .1 .0) (k .ensures .1 .1) (l .result) (l .ensures .0) (y .0 .0) (y .1)
+    (l .ensures .1 .0) (l .ensures .1 .1)
 
 pub check-both-spec : {M : Type 1} → statement M
 check-both-spec =

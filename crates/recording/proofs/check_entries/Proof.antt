@@ -39,7 +39,8 @@ returns : tie.Need-returns Inv-loop μ-loop
 returns c =
     let g = c .enum-told .given in
     let k = c .before .before .check-entry in (
-      stops _ _ _ _ _ _ (c .before .before .before .before .before .loop .inv) (c .before .before .before .before .before .before .before .before .before .pre .1 .0) (c .before .before .before .before .loop-test .taken) _ (c .before .before .before .entry-at .ensures) (k .result) (k .ensures .0) (g .0 .0) (g .1),
+      stops _ _ _ _ _ _ (c .before .before .before .before .before .loop .inv) (c .before .before .before .before .before .before .before .before .before .pre .1 .0)
+          (c .before .before .before .before .loop-test .taken) _ (c .before .before .before .entry-at .ensures) (k .result) (k .ensures .0) (g .0 .0) (g .1),
       (refused-count (k .result) (g .0 .0) _ (g .1), refused-within (k .result) (g .0 .0) _ (g .1)),
     )
 
@@ -50,11 +51,24 @@ add-size : tie.Need-add-size Inv-loop μ-loop
 add-size c =
     let g = c .before .got .given in
     let k = c .before .before .before .check-entry in
-    omega (arith, fits-size _ _ _ _ _ _ (c .before .before .before .before .before .before .loop .inv) (c .before .before .before .before .before .before .before .before .before .before .pre .1 .0) (c .before .before .before .before .before .loop-test .taken) _ (c .before .before .before .before .entry-at .ensures) (k .result) (k .ensures .0) (g .0 .0) (g .1) (k .ensures .1) (c .before .before .before .before .before .before .before .before .before .before .pre .1 .2), c .before .before .before .before .before .before .before .before .before .before .pre .1, c .before .before .before .before .before .loop-test .taken)
+    omega (
+      arith,
+      fits-size _ _ _ _ _ _ (c .before .before .before .before .before .before .loop .inv)
+          (c .before .before .before .before .before .before .before .before .before .before .pre .1 .0) (c .before .before .before .before .before .loop-test .taken) _
+          (c .before .before .before .before .entry-at .ensures) (k .result) (k .ensures .0) (g .0 .0) (g .1) (k .ensures .1)
+          (c .before .before .before .before .before .before .before .before .before .before .pre .1 .2),
+      c .before .before .before .before .before .before .before .before .before .before .pre .1,
+      c .before .before .before .before .before .loop-test .taken,
+    )
 
 add-k : tie.Need-add-k Inv-loop μ-loop
 add-k c =
-    omega (arith, whole _ _ _ _ _ _ (c .before .before .before .before .before .before .loop .inv) (c .before .before .before .before .before .before .before .before .before .before .pre .1 .0) (c .before .before .before .before .before .loop-test .taken), c .before .before .before .before .before .before .before .before .before .before .pre .1 .1)
+    omega (
+      arith,
+      whole _ _ _ _ _ _ (c .before .before .before .before .before .before .loop .inv)
+          (c .before .before .before .before .before .before .before .before .before .before .pre .1 .0) (c .before .before .before .before .before .loop-test .taken),
+      c .before .before .before .before .before .before .before .before .before .before .pre .1 .1,
+    )
 
 loop-less : tie.Need-loop-less Inv-loop μ-loop
 loop-less c = search needs
@@ -63,7 +77,9 @@ loop-again : tie.Need-loop-again Inv-loop μ-loop
 loop-again c =
     let g = c .before .got .given in
     let k = c .before .before .before .check-entry in
-    goes _ _ _ _ _ _ (c .before .before .before .before .before .before .loop .inv) (c .before .before .before .before .before .before .before .before .before .before .pre .1 .0) (c .before .before .before .before .before .loop-test .taken) _ (c .before .before .before .before .entry-at .ensures) (k .result) (k .ensures .0) (g .0 .0) (g .1) (k .ensures .1) (c .before .before .before .before .before .before .before .before .before .before .pre .1 .2) _ refl
+    goes _ _ _ _ _ _ (c .before .before .before .before .before .before .loop .inv) (c .before .before .before .before .before .before .before .before .before .before .pre .1 .0)
+    (c .before .before .before .before .before .loop-test .taken) _ (c .before .before .before .before .entry-at .ensures) (k .result) (k .ensures .0) (g .0 .0) (g .1)
+    (k .ensures .1) (c .before .before .before .before .before .before .before .before .before .before .pre .1 .2) _ refl
 
 returns-2 : tie.Need-returns-2 Inv-loop μ-loop
 unfolding faultOf Counted Within

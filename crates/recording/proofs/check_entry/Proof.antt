@@ -33,8 +33,11 @@ cast-if3 c = search needs
 returns-3 : tie.Need-returns-3
 unfolding faultOf Counted numberOf
 returns-3 c =
-    let s = c .before .before .before .before .before .before .before .before .args in
-    (sym (beyond (s .content .now) (s .text .now) (s .e) (s .at) (sym (c .before .before .before .before .before .bad-shape .ensures) ∙ c .before .before .before .before .if1 .left) (c .before .before .if2 .left) (c .if3 .taken)), tt)
+    let s = c .before .before .before .before .before .before .before .before .args in (
+      sym (beyond (s .content .now) (s .text .now) (s .e) (s .at)
+          (sym (c .before .before .before .before .before .bad-shape .ensures) ∙ c .before .before .before .before .if1 .left) (c .before .before .if2 .left) (c .if3 .taken)),
+      tt,
+    )
 
 cast-start : tie.Need-cast-start
 cast-start c = search needs
@@ -48,8 +51,12 @@ add-end c = search needs
 returns-4 : tie.Need-returns-4
 unfolding faultOf Counted numberOf
 returns-4 c =
-    let s = c .before .before .before .before .before .before .before .before .before .before .before .args in
-    (sym (outside (s .content .now) (s .text .now) (s .e) (s .at) (sym (c .before .before .before .before .before .before .before .before .bad-shape .ensures) ∙ c .before .before .before .before .before .before .before .if1 .left) (c .before .before .before .before .before .if2 .left) (c .before .before .before .if3 .left) (c .if4 .taken)), tt)
+    let s = c .before .before .before .before .before .before .before .before .before .before .before .args in (
+      sym (outside (s .content .now) (s .text .now) (s .e) (s .at)
+          (sym (c .before .before .before .before .before .before .before .before .bad-shape .ensures) ∙ c .before .before .before .before .before .before .before .if1 .left)
+          (c .before .before .before .before .before .if2 .left) (c .before .before .before .if3 .left) (c .if4 .taken)),
+      tt,
+    )
 
 cast-t16 : tie.Need-cast-t16
 cast-t16 c = search needs
@@ -57,8 +64,14 @@ cast-t16 c = search needs
 returns-5 : tie.Need-returns-5
 unfolding faultOf Counted numberOf
 returns-5 c =
-    let s = c .before .before .before .before .before .before .before .before .before .before .before .before .before .before .args in
-    (sym (no-label (s .content .now) (s .text .now) (s .e) (s .at) (sym (c .before .before .before .before .before .before .before .before .before .before .before .bad-shape .ensures) ∙ c .before .before .before .before .before .before .before .before .before .before .if1 .left) (c .before .before .before .before .before .before .before .before .if2 .left) (c .before .before .before .before .before .before .if3 .left) (c .before .before .before .if4 .left) (c .before .if5 .taken)), refl)
+    let s = c .before .before .before .before .before .before .before .before .before .before .before .before .before .before .args in (
+      sym (no-label (s .content .now) (s .text .now) (s .e) (s .at)
+          (sym (c .before .before .before .before .before .before .before .before .before .before .before .bad-shape .ensures)
+          ∙ c .before .before .before .before .before .before .before .before .before .before .if1 .left)
+          (c .before .before .before .before .before .before .before .before .if2 .left) (c .before .before .before .before .before .before .if3 .left)
+          (c .before .before .before .if4 .left) (c .before .if5 .taken)),
+      refl,
+    )
 
 sub-well-formed : tie.Need-sub-well-formed
 sub-well-formed c = search needs
@@ -75,8 +88,15 @@ well-formed-requires c κs = search needs
 returns-6 : tie.Need-returns-6
 unfolding faultOf Counted numberOf
 returns-6 c =
-    let s = c .before .before .before .before .before .before .before .before .before .before .before .before .before .before .before .before .args in
-    (sym (ill (s .content .now) (s .text .now) (s .e) (s .at) (sym (c .before .before .before .before .before .before .before .before .before .before .before .before .before .bad-shape .ensures) ∙ c .before .before .before .before .before .before .before .before .before .before .before .before .if1 .left) (c .before .before .before .before .before .before .before .before .before .before .if2 .left) (c .before .before .before .before .before .before .before .before .if3 .left) (c .before .before .before .before .before .if4 .left) (c .before .before .before .if5 .left) (c .before .well-formed .result) (c .before .well-formed .ensures) (not-true (c .before .well-formed .result) (c .if6 .taken))), tt)
+    let s = c .before .before .before .before .before .before .before .before .before .before .before .before .before .before .before .before .args in (
+      sym (ill (s .content .now) (s .text .now) (s .e) (s .at)
+          (sym (c .before .before .before .before .before .before .before .before .before .before .before .before .before .bad-shape .ensures)
+          ∙ c .before .before .before .before .before .before .before .before .before .before .before .before .if1 .left)
+          (c .before .before .before .before .before .before .before .before .before .before .if2 .left)
+          (c .before .before .before .before .before .before .before .before .if3 .left) (c .before .before .before .before .before .if4 .left) (c .before .before .before .if5 .left)
+          (c .before .well-formed .result) (c .before .well-formed .ensures) (not-true (c .before .well-formed .result) (c .if6 .taken))),
+      tt,
+    )
 
 cast-t13 : tie.Need-cast-t13
 cast-t13 c = search needs
@@ -84,8 +104,16 @@ cast-t13 c = search needs
 returns-7 : tie.Need-returns-7
 unfolding faultOf Counted numberOf
 returns-7 c =
-    let s = c .before .before .before .before .before .before .before .before .before .before .before .before .before .before .before .before .before .args in
-    (sym (well (s .content .now) (s .text .now) (s .e) (s .at) (sym (c .before .before .before .before .before .before .before .before .before .before .before .before .before .before .bad-shape .ensures) ∙ c .before .before .before .before .before .before .before .before .before .before .before .before .before .if1 .left) (c .before .before .before .before .before .before .before .before .before .before .before .if2 .left) (c .before .before .before .before .before .before .before .before .before .if3 .left) (c .before .before .before .before .before .before .if4 .left) (c .before .before .before .before .if5 .left) (c .before .before .well-formed .result) (c .before .before .well-formed .ensures) (not-false (c .before .before .well-formed .result) (c .before .if6 .left))), refl)
+    let s = c .before .before .before .before .before .before .before .before .before .before .before .before .before .before .before .before .before .args in (
+      sym (well (s .content .now) (s .text .now) (s .e) (s .at)
+          (sym (c .before .before .before .before .before .before .before .before .before .before .before .before .before .before .bad-shape .ensures)
+          ∙ c .before .before .before .before .before .before .before .before .before .before .before .before .before .if1 .left)
+          (c .before .before .before .before .before .before .before .before .before .before .before .if2 .left)
+          (c .before .before .before .before .before .before .before .before .before .if3 .left) (c .before .before .before .before .before .before .if4 .left)
+          (c .before .before .before .before .if5 .left) (c .before .before .well-formed .result) (c .before .before .well-formed .ensures)
+          (not-false (c .before .before .well-formed .result) (c .before .if6 .left))),
+      refl,
+    )
 
 pub check-entry-spec : {M : Type 1} → statement M
 check-entry-spec =

@@ -18,10 +18,14 @@ use Rattle.wrap_lines.proofs.numbers_of.Reads as numbers-of-reads
 use Rattle.wrap_lines.proofs.wrap_bytes.Reads as wrap-bytes-reads
 
 -- the count is that of the definition, and small
-few : (c : tie.After-wrap-bytes) → length (wrapLines (c .before .before .before .before .before .args .width) (c .before .before .before .before .before .args .breaks) (c .before .before .before .before .before .args .d .now)) ≤ length (c .before .before .before .before .before .args .d .now) + 1
+few : (c : tie.After-wrap-bytes) → length
+    (wrapLines (c .before .before .before .before .before .args .width) (c .before .before .before .before .before .args .breaks)
+    (c .before .before .before .before .before .args .d .now)) ≤ length (c .before .before .before .before .before .args .d .now) + 1
 few c = c .wrap-bytes .ensures .1 (omega (arith, c .before .before .before .before .before .pre .0))
 
-count : (c : tie.After-lines-in) → c .lines-in .result ≡ length (wrapLines (c .before .before .before .before .before .before .before .before .args .width) (c .before .before .before .before .before .before .before .before .args .breaks) (c .before .before .before .before .before .before .before .before .args .d .now))
+count : (c : tie.After-lines-in) → c .lines-in .result ≡ length
+    (wrapLines (c .before .before .before .before .before .before .before .before .args .width) (c .before .before .before .before .before .before .before .before .args .breaks)
+    (c .before .before .before .before .before .before .before .before .args .d .now))
 count c =
     let x = c .before .before .before .before .before .before .before .before .args in
     let pre = c .before .before .before .before .before .before .before .before .pre in
@@ -29,8 +33,17 @@ count c =
     c .lines-in .ensures ∙ line-count (x .width) (x .breaks) (x .d .now) (x .lines .now) (w .ensures .1) (pre .0) (pre .1) (w .result) (w .ensures .0 .0)
 
 -- so are the numbers
-numbers : (c : tie.After-numbers-of) → c .numbers-of .result ≡ length (lineNumbers (wrapLines (c .before .before .before .before .before .before .before .before .before .args .width) (c .before .before .before .before .before .before .before .before .before .args .breaks) (c .before .before .before .before .before .before .before .before .before .args .d .now)))
-numbers c = omega (arith, numbers-two (wrapLines (c .before .before .before .before .before .before .before .before .before .args .width) (c .before .before .before .before .before .before .before .before .before .args .breaks) (c .before .before .before .before .before .before .before .before .before .args .d .now)), count (c .before), c .numbers-of .ensures)
+numbers : (c : tie.After-numbers-of) → c .numbers-of .result ≡ length
+    (lineNumbers (wrapLines (c .before .before .before .before .before .before .before .before .before .args .width)
+    (c .before .before .before .before .before .before .before .before .before .args .breaks) (c .before .before .before .before .before .before .before .before .before .args .d .now)))
+numbers c = omega (
+  arith,
+  numbers-two (wrapLines (c .before .before .before .before .before .before .before .before .before .args .width)
+      (c .before .before .before .before .before .before .before .before .before .args .breaks)
+      (c .before .before .before .before .before .before .before .before .before .args .d .now)),
+  count (c .before),
+  c .numbers-of .ensures,
+)
 
 wrap-bytes-requires : tie.Need-wrap-bytes-requires
 wrap-bytes-requires c κs = search needs
@@ -44,7 +57,14 @@ numbers-of-requires c κs = omega (arith, count c, few (c .before .before .befor
 slice-reshare-prefix-put-lines : tie.Need-slice-reshare-prefix-put-lines
 slice-reshare-prefix-put-lines c =
     let x = c .before .before .before .before .before .before .before .before .before .before .args in
-    omega (arith, numbers (c .before), numbers-two (wrapLines (x .width) (x .breaks) (x .d .now)), few (c .before .before .before .before .before), c .before .before .before .before .before .wrap-bytes .kept, c .before .before .before .before .before .before .before .before .before .before .pre)
+    omega (
+      arith,
+      numbers (c .before),
+      numbers-two (wrapLines (x .width) (x .breaks) (x .d .now)),
+      few (c .before .before .before .before .before),
+      c .before .before .before .before .before .wrap-bytes .kept,
+      c .before .before .before .before .before .before .before .before .before .before .pre,
+    )
 
 slice-aggregate-put-lines : tie.Need-slice-aggregate-put-lines
 slice-aggregate-put-lines c =
@@ -75,15 +95,18 @@ same-length-2 c = search needs
 
 returns : tie.Need-returns
 returns c =
-    let x = c .before .before .before .before .before .before .before .before .before .before .before .before .before .before .args in
-    let pre = c .before .before .before .before .before .before .before .before .before .before .before .before .before .before .pre in
-    let w = c .before .before .before .before .before .before .before .before .before .wrap-bytes in
+    let at-5 = c .before .before .before .before .before in
+    let at-wrap-bytes = at-5 .before .before .before .before in
+    let start = at-wrap-bytes .before .before .before .before .before in
+    let x = start .args in
+    let pre = start .pre in
+    let w = at-wrap-bytes .wrap-bytes in
     let ls = wrapLines (x .width) (x .breaks) (x .d .now) in
-    let e = numbers (c .before .before .before .before .before) in
+    let e = numbers (at-5) in
     let h = line-list (x .width) (x .breaks) (x .d .now) (x .lines .now) (w .ensures .1) (pre .0) (pre .1) _ _ e (ap (λ (b : Lent). b .lines) (w .ensures .0 .1)) in
     let p = c .before .before .put-lines in
     let r = ap (numberRows (x .row) 0) h ∙ rows-lines (x .row) 0 ls in
-    (same-row (x .at) (x .out .now) _ _ (p .result) _ r (p .ensures .0 .0) (p .ensures .0 .1), omega (arith, p .ensures .1, ap length h, numbers-two ls, few (c .before .before .before .before .before .before .before .before .before)))
+    (same-row (x .at) (x .out .now) _ _ (p .result) _ r (p .ensures .0 .0) (p .ensures .0 .1), omega (arith, p .ensures .1, ap length h, numbers-two ls, few (at-wrap-bytes)))
 
 pub good-rows-spec : {M : Type 1} → statement M
 good-rows-spec =

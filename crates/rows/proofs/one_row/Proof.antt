@@ -30,8 +30,11 @@ same-length c = search needs
 returns : tie.Need-returns
 returns c =
     let x = c .before .before .before .before .before .before .before .before .before .args in
-    let p = c .before .before .put-bad in
-    (same-row (x .at) (x .out .now) _ _ (p .result) _ (row-open (x .row) (x .text .now) (x .ended) (not-true (x .ended) (c .before .before .before .before .if1 .taken))) (p .ensures .0 .0) (p .ensures .0 .1), omega (arith, p .ensures .1))
+    let p = c .before .before .put-bad in (
+      same-row (x .at) (x .out .now) _ _ (p .result) _ (row-open (x .row) (x .text .now) (x .ended) (not-true (x .ended) (c .before .before .before .before .if1 .taken)))
+          (p .ensures .0 .0) (p .ensures .0 .1),
+      omega (arith, p .ensures .1),
+    )
 
 first-field-requires : tie.Need-first-field-requires
 first-field-requires c κs = search needs
@@ -48,8 +51,14 @@ same-length-2 c = search needs
 returns-2 : tie.Need-returns-2
 returns-2 c =
     let x = c .before .before .before .before .before .before .before .before .before .before .before .before .args in
-    let p = c .before .before .put-bad2 in
-    (same-row (x .at) (x .out .now) _ _ (p .result) _ (row-bad (x .row) (x .text .now) (x .ended) (not-false (x .ended) (c .before .before .before .before .before .before .before .if1 .left)) (bad-width (x .text .now) (width-none (upTo 0x20 (x .text .now)) (sym (rw (c .before .before .before .before .before .before .first-field .ensures) at (c .before .before .before .before .before .decimal-in .ensures .0)) ∙ c .before .before .before .before .if2 .taken)))) (p .ensures .0 .0) (p .ensures .0 .1), omega (arith, p .ensures .1))
+    let p = c .before .before .put-bad2 in (
+      same-row (x .at) (x .out .now) _ _ (p .result) _
+          (row-bad (x .row) (x .text .now) (x .ended) (not-false (x .ended) (c .before .before .before .before .before .before .before .if1 .left))
+          (bad-width (x .text .now) (width-none (upTo 0x20 (x .text .now))
+          (sym (rw (c .before .before .before .before .before .before .first-field .ensures) at (c .before .before .before .before .before .decimal-in .ensures .0))
+          ∙ c .before .before .before .before .if2 .taken)))) (p .ensures .0 .0) (p .ensures .0 .1),
+      omega (arith, p .ensures .1),
+    )
 
 after-space-requires : tie.Need-after-space-requires
 after-space-requires c κs = search needs
@@ -68,16 +77,28 @@ same-length-3 c = search needs
 
 returns-3 : tie.Need-returns-3
 returns-3 c =
-    let x = c .before .before .before .before .before .before .before .before .before .before .before .before .before .before .before .before .args in
+    let at-if3 = c .before .before .before .before in
+    let at-is-break = at-if3 .before in
+    let at-first-field2 = at-is-break .before in
+    let at-after-space = at-first-field2 .before in
+    let at-if2 = at-after-space .before in
+    let at-decimal-in = at-if2 .before in
+    let at-first-field = at-decimal-in .before in
+    let at-if1 = at-first-field .before in
+    let start = at-if1 .before .before .before .before .before in
+    let x = start .args in
     let t = x .text .now in
-    let ended = not-false (x .ended) (c .before .before .before .before .before .before .before .before .before .before .before .if1 .left) in
-    let D = rw (c .before .before .before .before .before .before .before .before .before .before .first-field .ensures) at (c .before .before .before .before .before .before .before .before .before .decimal-in .ensures .0) in
-    let w = width-some (upTo 0x20 t) (λ z. c .before .before .before .before .before .before .before .before .if2 .left (D ∙ z)) in
-    let A = c .before .before .before .before .before .before .before .after-space .ensures in
-    let F = c .before .before .before .before .before .before .first-field2 .ensures ∙ ap (upTo 0x20) A in
-    let K = c .before .before .before .before .before .is-break .ensures ∙ ap isBreak F in
-    let p = c .before .before .put-bad3 in
-    (same-row (x .at) (x .out .now) _ _ (p .result) _ (row-bad (x .row) t (x .ended) ended (bad-break t (w .0) (sym K ∙ not-true (c .before .before .before .before .before .is-break .result) (c .before .before .before .before .if3 .taken)))) (p .ensures .0 .0) (p .ensures .0 .1), omega (arith, p .ensures .1))
+    let ended = not-false (x .ended) (at-if1 .if1 .left) in
+    let D = rw (at-first-field .first-field .ensures) at (at-decimal-in .decimal-in .ensures .0) in
+    let w = width-some (upTo 0x20 t) (λ z. at-if2 .if2 .left (D ∙ z)) in
+    let A = at-after-space .after-space .ensures in
+    let F = at-first-field2 .first-field2 .ensures ∙ ap (upTo 0x20) A in
+    let K = at-is-break .is-break .ensures ∙ ap isBreak F in
+    let p = c .before .before .put-bad3 in (
+      same-row (x .at) (x .out .now) _ _ (p .result) _
+          (row-bad (x .row) t (x .ended) ended (bad-break t (w .0) (sym K ∙ not-true (at-is-break .is-break .result) (at-if3 .if3 .taken)))) (p .ensures .0 .0) (p .ensures .0 .1),
+      omega (arith, p .ensures .1),
+    )
 
 after-space-requires-2 : tie.Need-after-space-requires-2
 after-space-requires-2 c κs = search needs
@@ -93,31 +114,55 @@ same-length-4 c = search needs
 
 returns-4 : tie.Need-returns-4
 returns-4 c =
-    let x = c .before .before .before .before .before .before .before .before .before .before .before .before .before .before .before .before .before .before .before .args in
+    let at-if4 = c .before .before .before .before in
+    let at-is-data = at-if4 .before in
+    let at-after-space2 = at-is-data .before in
+    let at-if3 = at-after-space2 .before in
+    let at-is-break = at-if3 .before in
+    let at-first-field2 = at-is-break .before in
+    let at-after-space = at-first-field2 .before in
+    let at-if2 = at-after-space .before in
+    let at-decimal-in = at-if2 .before in
+    let at-first-field = at-decimal-in .before in
+    let at-if1 = at-first-field .before in
+    let start = at-if1 .before .before .before .before .before in
+    let x = start .args in
     let t = x .text .now in
-    let ended = not-false (x .ended) (c .before .before .before .before .before .before .before .before .before .before .before .before .before .before .if1 .left) in
-    let D = rw (c .before .before .before .before .before .before .before .before .before .before .before .before .before .first-field .ensures) at (c .before .before .before .before .before .before .before .before .before .before .before .before .decimal-in .ensures .0) in
-    let w = width-some (upTo 0x20 t) (λ z. c .before .before .before .before .before .before .before .before .before .before .before .if2 .left (D ∙ z)) in
-    let A = c .before .before .before .before .before .before .before .before .before .before .after-space .ensures in
-    let F = c .before .before .before .before .before .before .before .before .before .first-field2 .ensures ∙ ap (upTo 0x20) A in
-    let K = c .before .before .before .before .before .before .before .before .is-break .ensures ∙ ap isBreak F in
-    let k = sym K ∙ not-false (c .before .before .before .before .before .before .before .before .is-break .result) (c .before .before .before .before .before .before .before .if3 .left) in
-    let H = c .before .before .before .before .before .before .after-space2 .ensures ∙ ap (after 0x20) A in
-    let J = c .before .before .before .before .before .is-data .ensures ∙ ap isData H in
-    let p = c .before .before .put-bad4 in
-    (same-row (x .at) (x .out .now) _ _ (p .result) _ (row-bad (x .row) t (x .ended) ended (bad-data t (w .0) k (sym J ∙ not-true (c .before .before .before .before .before .is-data .result) (c .before .before .before .before .if4 .taken)))) (p .ensures .0 .0) (p .ensures .0 .1), omega (arith, p .ensures .1))
+    let ended = not-false (x .ended) (at-if1 .if1 .left) in
+    let D = rw (at-first-field .first-field .ensures) at (at-decimal-in .decimal-in .ensures .0) in
+    let w = width-some (upTo 0x20 t) (λ z. at-if2 .if2 .left (D ∙ z)) in
+    let A = at-after-space .after-space .ensures in
+    let F = at-first-field2 .first-field2 .ensures ∙ ap (upTo 0x20) A in
+    let K = at-is-break .is-break .ensures ∙ ap isBreak F in
+    let k = sym K ∙ not-false (at-is-break .is-break .result) (at-if3 .if3 .left) in
+    let H = at-after-space2 .after-space2 .ensures ∙ ap (after 0x20) A in
+    let J = at-is-data .is-data .ensures ∙ ap isData H in
+    let p = c .before .before .put-bad4 in (
+      same-row (x .at) (x .out .now) _ _ (p .result) _
+          (row-bad (x .row) t (x .ended) ended (bad-data t (w .0) k (sym J ∙ not-true (at-is-data .is-data .result) (at-if4 .if4 .taken)))) (p .ensures .0 .0) (p .ensures .0 .1),
+      omega (arith, p .ensures .1),
+    )
 
 unhex-requires : tie.Need-unhex-requires
 unhex-requires c κs =
-    let x = c .before .before .before .before .before .before .before .before .before .before .before .before .before .before .before .before .args in
+    let at-if3 = c .before .before .before .before in
+    let at-is-break = at-if3 .before in
+    let at-first-field2 = at-is-break .before in
+    let at-after-space = at-first-field2 .before in
+    let at-if2 = at-after-space .before in
+    let at-decimal-in = at-if2 .before in
+    let at-first-field = at-decimal-in .before in
+    let at-if1 = at-first-field .before in
+    let start = at-if1 .before .before .before .before .before in
+    let x = start .args in
     let t = x .text .now in
-    let ended = not-false (x .ended) (c .before .before .before .before .before .before .before .before .before .before .before .if1 .left) in
-    let D = rw (c .before .before .before .before .before .before .before .before .before .before .first-field .ensures) at (c .before .before .before .before .before .before .before .before .before .decimal-in .ensures .0) in
-    let w = width-some (upTo 0x20 t) (λ z. c .before .before .before .before .before .before .before .before .if2 .left (D ∙ z)) in
-    let A = c .before .before .before .before .before .before .before .after-space .ensures in
-    let F = c .before .before .before .before .before .before .first-field2 .ensures ∙ ap (upTo 0x20) A in
-    let K = c .before .before .before .before .before .is-break .ensures ∙ ap isBreak F in
-    let k = sym K ∙ not-false (c .before .before .before .before .before .is-break .result) (c .before .before .before .before .if3 .left) in
+    let ended = not-false (x .ended) (at-if1 .if1 .left) in
+    let D = rw (at-first-field .first-field .ensures) at (at-decimal-in .decimal-in .ensures .0) in
+    let w = width-some (upTo 0x20 t) (λ z. at-if2 .if2 .left (D ∙ z)) in
+    let A = at-after-space .after-space .ensures in
+    let F = at-first-field2 .first-field2 .ensures ∙ ap (upTo 0x20) A in
+    let K = at-is-break .is-break .ensures ∙ ap isBreak F in
+    let k = sym K ∙ not-false (at-is-break .is-break .result) (at-if3 .if3 .left) in
     let H = c .before .before .before .after-space2 .ensures ∙ ap (after 0x20) A in
     let J = c .before .before .is-data .ensures ∙ ap isData H in
     let j = sym J ∙ not-false (c .before .before .is-data .result) (c .before .if4 .left) in
@@ -126,38 +171,62 @@ unhex-requires c κs =
 
 slice-reshare-prefix-good-rows : tie.Need-slice-reshare-prefix-good-rows
 slice-reshare-prefix-good-rows c =
-    let x = c .before .before .before .before .before .before .before .before .before .before .before .before .before .before .before .before .before .before .before .args in
+    let at-if4 = c .before .before .before .before in
+    let at-is-data = at-if4 .before in
+    let at-after-space2 = at-is-data .before in
+    let at-if3 = at-after-space2 .before in
+    let at-is-break = at-if3 .before in
+    let at-first-field2 = at-is-break .before in
+    let at-after-space = at-first-field2 .before in
+    let at-if2 = at-after-space .before in
+    let at-decimal-in = at-if2 .before in
+    let at-first-field = at-decimal-in .before in
+    let at-if1 = at-first-field .before in
+    let start = at-if1 .before .before .before .before .before in
+    let x = start .args in
     let t = x .text .now in
-    let ended = not-false (x .ended) (c .before .before .before .before .before .before .before .before .before .before .before .before .before .before .if1 .left) in
-    let D = rw (c .before .before .before .before .before .before .before .before .before .before .before .before .before .first-field .ensures) at (c .before .before .before .before .before .before .before .before .before .before .before .before .decimal-in .ensures .0) in
-    let w = width-some (upTo 0x20 t) (λ z. c .before .before .before .before .before .before .before .before .before .before .before .if2 .left (D ∙ z)) in
-    let A = c .before .before .before .before .before .before .before .before .before .before .after-space .ensures in
-    let F = c .before .before .before .before .before .before .before .before .before .first-field2 .ensures ∙ ap (upTo 0x20) A in
-    let K = c .before .before .before .before .before .before .before .before .is-break .ensures ∙ ap isBreak F in
-    let k = sym K ∙ not-false (c .before .before .before .before .before .before .before .before .is-break .result) (c .before .before .before .before .before .before .before .if3 .left) in
-    let H = c .before .before .before .before .before .before .after-space2 .ensures ∙ ap (after 0x20) A in
-    let J = c .before .before .before .before .before .is-data .ensures ∙ ap isData H in
-    let j = sym J ∙ not-false (c .before .before .before .before .before .is-data .result) (c .before .before .before .before .if4 .left) in
+    let ended = not-false (x .ended) (at-if1 .if1 .left) in
+    let D = rw (at-first-field .first-field .ensures) at (at-decimal-in .decimal-in .ensures .0) in
+    let w = width-some (upTo 0x20 t) (λ z. at-if2 .if2 .left (D ∙ z)) in
+    let A = at-after-space .after-space .ensures in
+    let F = at-first-field2 .first-field2 .ensures ∙ ap (upTo 0x20) A in
+    let K = at-is-break .is-break .ensures ∙ ap isBreak F in
+    let k = sym K ∙ not-false (at-is-break .is-break .result) (at-if3 .if3 .left) in
+    let H = at-after-space2 .after-space2 .ensures ∙ ap (after 0x20) A in
+    let J = at-is-data .is-data .ensures ∙ ap isData H in
+    let j = sym J ∙ not-false (at-is-data .is-data .result) (at-if4 .if4 .left) in
     let third = third-shorter t j in
     omega (arith, ap length H, third .0, c .before .before .unhex .ensures .0 .1, c .before .before .unhex .kept .1 .0)
 
 slice-aggregate-good-rows : tie.Need-slice-aggregate-good-rows
 slice-aggregate-good-rows c =
-    let x = c .before .before .before .before .before .before .before .before .before .before .before .before .before .before .before .before .before .before .before .before .args in
+    let at-if4 = c .before .before .before .before .before in
+    let at-is-data = at-if4 .before in
+    let at-after-space2 = at-is-data .before in
+    let at-if3 = at-after-space2 .before in
+    let at-is-break = at-if3 .before in
+    let at-first-field2 = at-is-break .before in
+    let at-after-space = at-first-field2 .before in
+    let at-if2 = at-after-space .before in
+    let at-decimal-in = at-if2 .before in
+    let at-first-field = at-decimal-in .before in
+    let at-if1 = at-first-field .before in
+    let start = at-if1 .before .before .before .before .before in
+    let x = start .args in
     let t = x .text .now in
-    let ended = not-false (x .ended) (c .before .before .before .before .before .before .before .before .before .before .before .before .before .before .before .if1 .left) in
-    let D = rw (c .before .before .before .before .before .before .before .before .before .before .before .before .before .before .first-field .ensures) at (c .before .before .before .before .before .before .before .before .before .before .before .before .before .decimal-in .ensures .0) in
-    let w = width-some (upTo 0x20 t) (λ z. c .before .before .before .before .before .before .before .before .before .before .before .before .if2 .left (D ∙ z)) in
-    let A = c .before .before .before .before .before .before .before .before .before .before .before .after-space .ensures in
-    let F = c .before .before .before .before .before .before .before .before .before .before .first-field2 .ensures ∙ ap (upTo 0x20) A in
-    let K = c .before .before .before .before .before .before .before .before .before .is-break .ensures ∙ ap isBreak F in
-    let k = sym K ∙ not-false (c .before .before .before .before .before .before .before .before .before .is-break .result) (c .before .before .before .before .before .before .before .before .if3 .left) in
-    let H = c .before .before .before .before .before .before .before .after-space2 .ensures ∙ ap (after 0x20) A in
-    let J = c .before .before .before .before .before .before .is-data .ensures ∙ ap isData H in
-    let j = sym J ∙ not-false (c .before .before .before .before .before .before .is-data .result) (c .before .before .before .before .before .if4 .left) in
+    let ended = not-false (x .ended) (at-if1 .if1 .left) in
+    let D = rw (at-first-field .first-field .ensures) at (at-decimal-in .decimal-in .ensures .0) in
+    let w = width-some (upTo 0x20 t) (λ z. at-if2 .if2 .left (D ∙ z)) in
+    let A = at-after-space .after-space .ensures in
+    let F = at-first-field2 .first-field2 .ensures ∙ ap (upTo 0x20) A in
+    let K = at-is-break .is-break .ensures ∙ ap isBreak F in
+    let k = sym K ∙ not-false (at-is-break .is-break .result) (at-if3 .if3 .left) in
+    let H = at-after-space2 .after-space2 .ensures ∙ ap (after 0x20) A in
+    let J = at-is-data .is-data .ensures ∙ ap isData H in
+    let j = sym J ∙ not-false (at-is-data .is-data .result) (at-if4 .if4 .left) in
     let third = third-shorter t j in
     let u = c .before .before .before .unhex in
-    let h = held (u .result) (dataOf (c .before .before .before .before .before .before .before .after-space2 .result .now)) (x .«data» .now) _ (u .ensures .0 .0) (u .ensures .1) in
+    let h = held (u .result) (dataOf (at-after-space2 .after-space2 .result .now)) (x .«data» .now) _ (u .ensures .0 .0) (u .ensures .1) in
     u .ensures .0 .0 ∙ ap length (sym h)
 
 cast-good-rows : tie.Need-cast-good-rows
@@ -168,21 +237,34 @@ break-of-requires c κs = search needs
 
 good-rows-requires : tie.Need-good-rows-requires
 good-rows-requires c κs =
-    let x = c .before .before .before .before .before .before .before .before .before .before .before .before .before .before .before .before .before .before .before .before .before .before .before .args in
+    let at-unhex = c .before .before .before .before .before .before in
+    let at-if4 = at-unhex .before .before in
+    let at-is-data = at-if4 .before in
+    let at-after-space2 = at-is-data .before in
+    let at-if3 = at-after-space2 .before in
+    let at-is-break = at-if3 .before in
+    let at-first-field2 = at-is-break .before in
+    let at-after-space = at-first-field2 .before in
+    let at-if2 = at-after-space .before in
+    let at-decimal-in = at-if2 .before in
+    let at-first-field = at-decimal-in .before in
+    let at-if1 = at-first-field .before in
+    let start = at-if1 .before .before .before .before .before in
+    let x = start .args in
     let t = x .text .now in
-    let ended = not-false (x .ended) (c .before .before .before .before .before .before .before .before .before .before .before .before .before .before .before .before .before .before .if1 .left) in
-    let D = rw (c .before .before .before .before .before .before .before .before .before .before .before .before .before .before .before .before .before .first-field .ensures) at (c .before .before .before .before .before .before .before .before .before .before .before .before .before .before .before .before .decimal-in .ensures .0) in
-    let w = width-some (upTo 0x20 t) (λ z. c .before .before .before .before .before .before .before .before .before .before .before .before .before .before .before .if2 .left (D ∙ z)) in
-    let A = c .before .before .before .before .before .before .before .before .before .before .before .before .before .before .after-space .ensures in
-    let F = c .before .before .before .before .before .before .before .before .before .before .before .before .before .first-field2 .ensures ∙ ap (upTo 0x20) A in
-    let K = c .before .before .before .before .before .before .before .before .before .before .before .before .is-break .ensures ∙ ap isBreak F in
-    let k = sym K ∙ not-false (c .before .before .before .before .before .before .before .before .before .before .before .before .is-break .result) (c .before .before .before .before .before .before .before .before .before .before .before .if3 .left) in
-    let H = c .before .before .before .before .before .before .before .before .before .before .after-space2 .ensures ∙ ap (after 0x20) A in
-    let J = c .before .before .before .before .before .before .before .before .before .is-data .ensures ∙ ap isData H in
-    let j = sym J ∙ not-false (c .before .before .before .before .before .before .before .before .before .is-data .result) (c .before .before .before .before .before .before .before .before .if4 .left) in
+    let ended = not-false (x .ended) (at-if1 .if1 .left) in
+    let D = rw (at-first-field .first-field .ensures) at (at-decimal-in .decimal-in .ensures .0) in
+    let w = width-some (upTo 0x20 t) (λ z. at-if2 .if2 .left (D ∙ z)) in
+    let A = at-after-space .after-space .ensures in
+    let F = at-first-field2 .first-field2 .ensures ∙ ap (upTo 0x20) A in
+    let K = at-is-break .is-break .ensures ∙ ap isBreak F in
+    let k = sym K ∙ not-false (at-is-break .is-break .result) (at-if3 .if3 .left) in
+    let H = at-after-space2 .after-space2 .ensures ∙ ap (after 0x20) A in
+    let J = at-is-data .is-data .ensures ∙ ap isData H in
+    let j = sym J ∙ not-false (at-is-data .is-data .result) (at-if4 .if4 .left) in
     let third = third-shorter t j in
-    let u = c .before .before .before .before .before .before .unhex in
-    let h = held (u .result) (dataOf (c .before .before .before .before .before .before .before .before .before .before .after-space2 .result .now)) (x .«data» .now) _ (u .ensures .0 .0) (u .ensures .1) in
+    let u = at-unhex .unhex in
+    let h = held (u .result) (dataOf (at-after-space2 .after-space2 .result .now)) (x .«data» .now) _ (u .ensures .0 .0) (u .ensures .1) in
     (omega (arith, ap length h, u .ensures .0 .0, u .ensures .0 .1, ap length H, third .0), omega arith, omega (arith, ap length h, u .ensures .0 .0, u .ensures .0 .1, ap length H, third .1))
 
 same-length-5 : tie.Need-same-length-5
@@ -196,24 +278,39 @@ same-length-7 c = search needs
 
 returns-5 : tie.Need-returns-5
 returns-5 c =
-    let x = c .before .before .before .before .before .before .before .before .before .before .before .before .before .before .before .before .before .before .before .before .before .before .before .before .before .before .before .before .args in
+    let at-good-rows = c .before .before .before .before in
+    let at-break-of = at-good-rows .before .before .before in
+    let at-unhex = at-break-of .before .before .before .before in
+    let at-if4 = at-unhex .before .before in
+    let at-is-data = at-if4 .before in
+    let at-after-space2 = at-is-data .before in
+    let at-if3 = at-after-space2 .before in
+    let at-is-break = at-if3 .before in
+    let at-first-field2 = at-is-break .before in
+    let at-after-space = at-first-field2 .before in
+    let at-if2 = at-after-space .before in
+    let at-decimal-in = at-if2 .before in
+    let at-first-field = at-decimal-in .before in
+    let at-if1 = at-first-field .before in
+    let start = at-if1 .before .before .before .before .before in
+    let x = start .args in
     let t = x .text .now in
-    let ended = not-false (x .ended) (c .before .before .before .before .before .before .before .before .before .before .before .before .before .before .before .before .before .before .before .before .before .before .before .if1 .left) in
-    let D = rw (c .before .before .before .before .before .before .before .before .before .before .before .before .before .before .before .before .before .before .before .before .before .before .first-field .ensures) at (c .before .before .before .before .before .before .before .before .before .before .before .before .before .before .before .before .before .before .before .before .before .decimal-in .ensures .0) in
-    let w = width-some (upTo 0x20 t) (λ z. c .before .before .before .before .before .before .before .before .before .before .before .before .before .before .before .before .before .before .before .before .if2 .left (D ∙ z)) in
-    let A = c .before .before .before .before .before .before .before .before .before .before .before .before .before .before .before .before .before .before .before .after-space .ensures in
-    let F = c .before .before .before .before .before .before .before .before .before .before .before .before .before .before .before .before .before .before .first-field2 .ensures ∙ ap (upTo 0x20) A in
-    let K = c .before .before .before .before .before .before .before .before .before .before .before .before .before .before .before .before .before .is-break .ensures ∙ ap isBreak F in
-    let k = sym K ∙ not-false (c .before .before .before .before .before .before .before .before .before .before .before .before .before .before .before .before .before .is-break .result) (c .before .before .before .before .before .before .before .before .before .before .before .before .before .before .before .before .if3 .left) in
-    let H = c .before .before .before .before .before .before .before .before .before .before .before .before .before .before .before .after-space2 .ensures ∙ ap (after 0x20) A in
-    let J = c .before .before .before .before .before .before .before .before .before .before .before .before .before .before .is-data .ensures ∙ ap isData H in
-    let j = sym J ∙ not-false (c .before .before .before .before .before .before .before .before .before .before .before .before .before .before .is-data .result) (c .before .before .before .before .before .before .before .before .before .before .before .before .before .if4 .left) in
+    let ended = not-false (x .ended) (at-if1 .if1 .left) in
+    let D = rw (at-first-field .first-field .ensures) at (at-decimal-in .decimal-in .ensures .0) in
+    let w = width-some (upTo 0x20 t) (λ z. at-if2 .if2 .left (D ∙ z)) in
+    let A = at-after-space .after-space .ensures in
+    let F = at-first-field2 .first-field2 .ensures ∙ ap (upTo 0x20) A in
+    let K = at-is-break .is-break .ensures ∙ ap isBreak F in
+    let k = sym K ∙ not-false (at-is-break .is-break .result) (at-if3 .if3 .left) in
+    let H = at-after-space2 .after-space2 .ensures ∙ ap (after 0x20) A in
+    let J = at-is-data .is-data .ensures ∙ ap isData H in
+    let j = sym J ∙ not-false (at-is-data .is-data .result) (at-if4 .if4 .left) in
     let third = third-shorter t j in
-    let u = c .before .before .before .before .before .before .before .before .before .before .before .unhex in
-    let h = held (u .result) (dataOf (c .before .before .before .before .before .before .before .before .before .before .before .before .before .before .before .after-space2 .result .now)) (x .«data» .now) _ (u .ensures .0 .0) (u .ensures .1) in
-    let g = c .before .before .before .before .good-rows in
-    let b = c .before .before .before .before .before .before .before .break-of .ensures ∙ ap breakOf F in
-    let e = good-fields (x .row) t (x .ended) (c .before .before .before .before .before .before .before .before .before .before .before .before .before .before .before .before .before .before .before .before .before .decimal-in .result) (c .before .before .before .before .before .before .before .break-of .result) _ ended (all-good t (w .0) k j) (D ∙ w .1) b (h ∙ ap dataOf H) in
+    let u = at-unhex .unhex in
+    let h = held (u .result) (dataOf (at-after-space2 .after-space2 .result .now)) (x .«data» .now) _ (u .ensures .0 .0) (u .ensures .1) in
+    let g = at-good-rows .good-rows in
+    let b = at-break-of .break-of .ensures ∙ ap breakOf F in
+    let e = good-fields (x .row) t (x .ended) (at-decimal-in .decimal-in .result) (at-break-of .break-of .result) _ ended (all-good t (w .0) k j) (D ∙ w .1) b (h ∙ ap dataOf H) in
     (same-row (x .at) (x .out .now) _ _ (g .result) _ e (g .ensures .0 .0) (g .ensures .0 .1), omega (arith, g .ensures .1, ap length h, u .ensures .0 .0, u .ensures .0 .1, ap length H, third .1))
 
 pub one-row-spec : {M : Type 1} → statement M

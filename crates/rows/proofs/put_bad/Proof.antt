@@ -31,8 +31,14 @@ returns c =
     let x = c .before .before .before .before .before .before .before .before .before .before .args in
     let f = c .before .before .before .before .before .before .before .put-field in
     let p = c .before .before .put in
-    let t : List ℕ = 0x21 ∷ 0x20 ∷ 0x30 ∷ 0x20 ∷ 0x30 ∷ 0x0A ∷ [] in
-    ((omega (arith, f .ensures .0 .0, p .ensures .0, length-append (field (x .row) 0x20) t), then-put (x .at) (field (x .row) 0x20) t (x .out .now) _ _ (f .result) (omega arith) (f .ensures .0 .1) (f .ensures .0 .0) (p .ensures .1)), omega (arith, f .ensures .1, p .ensures .0))
+    let t : List ℕ = 0x21 ∷ 0x20 ∷ 0x30 ∷ 0x20 ∷ 0x30 ∷ 0x0A ∷ [] in (
+      (
+        omega (arith, f .ensures .0 .0, p .ensures .0, length-append (field (x .row) 0x20) t),
+        then-put (x .at) (field (x .row) 0x20) t (x .out .now) _ _ (f .result) (omega arith)
+            (f .ensures .0 .1) (f .ensures .0 .0) (p .ensures .1),
+      ),
+      omega (arith, f .ensures .1, p .ensures .0),
+    )
 
 pub put-bad-spec : {M : Type 1} → statement M
 put-bad-spec =

@@ -30,10 +30,14 @@ same-length c = search needs
 returns : tie.Need-returns
 unfolding rowText
 returns c =
-    let x = c .before .before .before .before .before .before .before .before .before .before .before .before .before .before .before .before .before .args in
-    let f₁ = c .before .before .before .before .before .before .before .before .before .before .before .before .before .before .put-field in
-    let f₂ = c .before .before .before .before .before .before .before .before .before .before .put-field2 in
-    let f₃ = c .before .before .before .before .before .before .put-field3 in
+    let at-put-field3 = c .before .before .before .before .before .before in
+    let at-put-field2 = at-put-field3 .before .before .before .before in
+    let at-put-field = at-put-field2 .before .before .before .before in
+    let start = at-put-field .before .before .before in
+    let x = start .args in
+    let f₁ = at-put-field .put-field in
+    let f₂ = at-put-field2 .put-field2 in
+    let f₃ = at-put-field3 .put-field3 in
     let f₄ = c .before .before .put-field4 in
     let t₁ = field (x .row) 0x20 in
     let t₂ = field (x .k) 0x20 in
@@ -42,8 +46,11 @@ returns c =
     let g₃ = then-put (f₂ .result) t₃ t₄ _ _ _ (f₃ .result) (omega (arith, f₁ .ensures .1, f₂ .ensures .1, f₁ .kept .0, f₂ .kept .0)) (f₃ .ensures .0 .1) (f₃ .ensures .0 .0) (f₄ .ensures .0 .1) in
     let g₂ = then-put (f₁ .result) t₂ (t₃ ++ t₄) _ _ _ (f₂ .result) (omega (arith, f₁ .ensures .1, f₁ .kept .0)) (f₂ .ensures .0 .1) (f₂ .ensures .0 .0) g₃ in
     let g₁ = then-put (x .at) t₁ (t₂ ++ (t₃ ++ t₄)) (x .out .now) _ _ (f₁ .result) (omega arith) (f₁ .ensures .0 .1) (f₁ .ensures .0 .0) g₂ in
-    let n = length-append t₁ (t₂ ++ (t₃ ++ t₄)) in
-    ((omega (arith, n, length-append t₂ (t₃ ++ t₄), length-append t₃ t₄, f₁ .ensures .0 .0, f₂ .ensures .0 .0, f₃ .ensures .0 .0, f₄ .ensures .0 .0), g₁), omega (arith, f₁ .ensures .1, f₂ .ensures .1, f₃ .ensures .1, f₄ .ensures .1))
+    let n = length-append t₁ (t₂ ++ (t₃ ++ t₄)) in (
+      (omega (arith, n, length-append t₂ (t₃ ++ t₄), length-append t₃ t₄, f₁ .ensures .0 .0, f₂ .ensures .0 .0, f₃ .ensures .0 .0, f₄ .ensures .0 .0), g₁),
+      omega
+          (arith, f₁ .ensures .1, f₂ .ensures .1, f₃ .ensures .1, f₄ .ensures .1),
+    )
 
 pub put-row-spec : {M : Type 1} → statement M
 put-row-spec =

@@ -66,7 +66,18 @@ abbrev μ-loop : tie.MeasureT-loop
 μ-loop sheet from data₀ lines₀ out₀ start p₀ row₀ at₀ «data» lines out p row at = length sheet + 1 - p
 
 loop-holds : tie.Need-loop-holds Inv-loop μ-loop
-loop-holds c = record { done = []; holds = put-none _ _; here = omega arith; rest = refl; within = omega arith; count = omega arith; room = omega arith; data-long = refl; lines-long = refl; long = refl }
+loop-holds c = record {
+  done = [];
+  holds = put-none _ _;
+  here = omega arith;
+  rest = refl;
+  within = omega arith;
+  count = omega arith;
+  room = omega arith;
+  data-long = refl;
+  lines-long = refl;
+  long = refl;
+}
 
 find-requires : tie.Need-find-requires Inv-loop μ-loop
 find-requires c κs = search needs
@@ -90,7 +101,11 @@ one-row-requires c κs =
     (omega (arith, i .data-long), omega (arith, i .lines-long), omega (arith, n, i .room, i .long, f .ensures .1 .0, f .ensures .1 .1))
 
 add-row : tie.Need-add-row Inv-loop μ-loop
-add-row c = omega (arith, c .before .before .before .before .before .before .before .before .before .before .before .before .before .loop .inv .count, c .before .before .before .before .before .before .before .before .before .before .before .before .before .loop .inv .within)
+add-row c = omega (
+  arith,
+  c .before .before .before .before .before .before .before .before .before .before .before .before .before .loop .inv .count,
+  c .before .before .before .before .before .before .before .before .before .before .before .before .before .loop .inv .within,
+)
 
 add-p : tie.Need-add-p Inv-loop μ-loop
 add-p c = search needs
@@ -100,11 +115,16 @@ loop-less c = search needs
 
 loop-again : tie.Need-loop-again Inv-loop μ-loop
 loop-again c =
-    let l = c .before .before .before .before .before .before .before .before .before .before .before .before .before in
+    let at-one-row = c .before .before .before .before .before .before in
+    let at-find = at-one-row .before .before .before .before .before in
+    let at-loop-test = at-find .before in
+    let at-13 = at-loop-test .before in
+    let l = at-13 in
     let x = l .before .before .before .before .before .args in
-    let f = c .before .before .before .before .before .before .before .before .before .before .before .find in
-    let o = c .before .before .before .before .before .before .one-row in
-    step _ _ _ _ _ _ _ _ _ _ _ _ (l .loop .inv) (omega arith) (c .before .before .before .before .before .before .before .before .before .before .before .before .loop-test .taken) (f .result) (f .ensures .0) (f .ensures .1 .0) (f .ensures .1 .1) _ _ _ _ (o .ensures .0 .0) (o .ensures .0 .1) (o .ensures .1) (o .kept .1 .1 .1 .0) (o .kept .1 .1 .1 .1 .0) (o .kept .1 .1 .1 .1 .1 .0)
+    let f = at-find .find in
+    let o = at-one-row .one-row in
+    step _ _ _ _ _ _ _ _ _ _ _ _ (l .loop .inv) (omega arith) (at-loop-test .loop-test .taken) (f .result) (f .ensures .0) (f .ensures .1 .0) (f .ensures .1 .1) _ _ _ _
+    (o .ensures .0 .0) (o .ensures .0 .1) (o .ensures .1) (o .kept .1 .1 .1 .0) (o .kept .1 .1 .1 .1 .0) (o .kept .1 .1 .1 .1 .1 .0)
 
 same-length : tie.Need-same-length Inv-loop μ-loop
 same-length c = search needs

@@ -78,15 +78,20 @@ put-bad-requires-3 c κs = search needs
 returns-3 : tie.Need-returns-3
 unfolding rowsHeading sheetHeading
 returns-3 c =
-    let x = c .before .before .before .before .before .before .before .before .before .before .before .before .before .args in
+    let at-if2 = c .before .before .before .before .before .before in
+    let at-find = at-if2 .before in
+    let at-if1 = at-find .before in
+    let at-put = at-if1 .before in
+    let start = at-put .before .before .before .before in
+    let x = start .args in
     let s = x .sheet .now in
-    let h = c .before .before .before .before .before .before .before .before .before .put in
+    let h = at-put .put in
     let p = c .put-bad3 in
-    let f = c .before .before .before .before .before .before .before .find in
+    let f = at-find .find in
     let t = c .before .before .before .same in
-    let more : f .result < length s = omega (arith, f .ensures .1 .1, c .before .before .before .before .before .before .if2 .left) in
+    let more : f .result < length s = omega (arith, f .ensures .1 .1, at-if2 .if2 .left) in
     let other : take (f .result - 0) s ≡ sheetHeading → ⊥ = λ q. false-true (sym (not-true (t .result) (c .before .before .if3 .taken)) ∙ t .ensures .1 q) in
-    let e = no-heading s (f .result) (c .before .before .before .before .before .before .before .before .if1 .left) (f .ensures .0) more other in
+    let e = no-heading s (f .result) (at-if1 .if1 .left) (f .ensures .0) more other in
     finished s (x .out .now) _ _ (badRow 0) (h .result) (p .result) e (h .ensures .0) (h .ensures .1) (p .ensures .0 .0) (p .ensures .0 .1)
 
 data-buffer-requires : tie.Need-data-buffer-requires
@@ -110,15 +115,22 @@ put-rows-requires c κs = search needs
 returns-4 : tie.Need-returns-4
 unfolding rowsHeading sheetHeading
 returns-4 c =
-    let x = c .before .before .before .before .before .before .before .before .before .before .before .before .before .before .before .before .before .before .before .args in
+    let at-if3 = c .before .before .before .before .before .before .before .before in
+    let at-same = at-if3 .before in
+    let at-if2 = at-same .before .before .before in
+    let at-find = at-if2 .before in
+    let at-if1 = at-find .before in
+    let at-put = at-if1 .before in
+    let start = at-put .before .before .before .before in
+    let x = start .args in
     let s = x .sheet .now in
-    let h = c .before .before .before .before .before .before .before .before .before .before .before .before .before .before .before .put in
+    let h = at-put .put in
     let p = c .before .before .put-rows in
-    let f = c .before .before .before .before .before .before .before .before .before .before .before .before .before .find in
-    let t = c .before .before .before .before .before .before .before .before .before .same in
-    let more : f .result < length s = omega (arith, f .ensures .1 .1, c .before .before .before .before .before .before .before .before .before .before .before .before .if2 .left) in
-    let equal = t .ensures .0 (not-false (t .result) (c .before .before .before .before .before .before .before .before .if3 .left)) in
-    let e = with-heading s (f .result) (c .before .before .before .before .before .before .before .before .before .before .before .before .before .before .if1 .left) (f .ensures .0) more equal in
+    let f = at-find .find in
+    let t = at-same .same in
+    let more : f .result < length s = omega (arith, f .ensures .1 .1, at-if2 .if2 .left) in
+    let equal = t .ensures .0 (not-false (t .result) (at-if3 .if3 .left)) in
+    let e = with-heading s (f .result) (at-if1 .if1 .left) (f .ensures .0) more equal in
     finished s (x .out .now) _ _ (rowsFrom 0 (sheetLines (drop (f .result + 1) s))) (h .result) (p .result) e (h .ensures .0) (h .ensures .1) (p .ensures .0) (p .ensures .1)
 
 pub write-output-spec : {M : Type 1} → statement M

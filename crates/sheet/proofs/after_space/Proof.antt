@@ -27,7 +27,8 @@ part-result-end c = search needs
 
 returns : tie.Need-returns
 returns c = let s = c .before .before .before .before .args .s .now in let f = c .before .before .find in
-    part-to-end s (f .result) ∙ rest-none s (f .result) (omega (arith, c .before .if1 .taken)) ∙ sym (rest-none s (suc (length (upTo 0x20 s))) (omega (arith, f .ensures .0, c .before .if1 .taken))) ∙ after-drop 0x20 s
+    part-to-end s (f .result) ∙ rest-none s (f .result) (omega (arith, c .before .if1 .taken)) ∙ sym
+    (rest-none s (suc (length (upTo 0x20 s))) (omega (arith, f .ensures .0, c .before .if1 .taken))) ∙ after-drop 0x20 s
 
 add-result : tie.Need-add-result
 add-result c = search needs

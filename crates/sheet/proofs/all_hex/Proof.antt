@@ -29,7 +29,9 @@ is-hex-requires : tie.Need-is-hex-requires Inv-loop μ-loop
 is-hex-requires c κs = search needs
 
 returns : tie.Need-returns Inv-loop μ-loop
-returns c = let l = c .before .before .before .before in let s = l .before .before .args .s .now in sym (sym (l .loop .inv .1) ∙ hex-next s (l .loop .i) (c .before .before .before .loop-test .taken) (c .before .is-hex .result) (c .before .is-hex .ensures) ∙ simp (not-true (c .before .is-hex .result) (c .if1 .taken)))
+returns c = let l = c .before .before .before .before in let s = l .before .before .args .s .now in sym
+    (sym (l .loop .inv .1) ∙ hex-next s (l .loop .i) (c .before .before .before .loop-test .taken) (c .before .is-hex .result) (c .before .is-hex .ensures)
+    ∙ simp (not-true (c .before .is-hex .result) (c .if1 .taken)))
 
 add-i : tie.Need-add-i Inv-loop μ-loop
 add-i c = search needs
@@ -38,7 +40,12 @@ loop-less : tie.Need-loop-less Inv-loop μ-loop
 loop-less c = search needs
 
 loop-again : tie.Need-loop-again Inv-loop μ-loop
-loop-again c = let l = c .before .before .before .before in let s = l .before .before .args .s .now in (omega (arith, c .before .before .before .loop-test .taken), sym (hex-next s (l .loop .i) (c .before .before .before .loop-test .taken) (c .before .is-hex .result) (c .before .is-hex .ensures) ∙ simp (not-false (c .before .is-hex .result) (c .if1 .left))) ∙ l .loop .inv .1)
+loop-again c = let l = c .before .before .before .before in let s = l .before .before .args .s .now in (
+  omega (arith, c .before .before .before .loop-test .taken),
+  sym
+      (hex-next s (l .loop .i) (c .before .before .before .loop-test .taken) (c .before .is-hex .result) (c .before .is-hex .ensures)
+      ∙ simp (not-false (c .before .is-hex .result) (c .if1 .left))) ∙ l .loop .inv .1,
+)
 
 returns-2 : tie.Need-returns-2 Inv-loop μ-loop
 returns-2 c = let l = c .before in let s = l .before .before .args .s .now in sym (ap allHex (rest-none s (l .loop .i) (c .loop-test .left))) ∙ l .loop .inv .1

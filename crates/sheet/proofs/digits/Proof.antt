@@ -73,14 +73,23 @@ loop-again c =
     let s = l .before .args .s .now in
     let more = c .before .before .before .before .loop-test .taken in
     let digit = in-span 0x30 0x39 (getD s (l .loop .i) 0) (c .before .before .if1 .left) (c .before .if2 .left) in
-    record { within = omega (arith, more); small = c .if3 .left; value = sym (value-next s (l .loop .i) more (l .loop .n)) ∙ l .loop .inv .value; good = sym (digit-good s (l .loop .i) more digit) ∙ l .loop .inv .good }
+    record {
+      within = omega (arith, more);
+      small = c .if3 .left;
+      value = sym (value-next s (l .loop .i) more (l .loop .n))
+          ∙ l .loop .inv .value;
+      good = sym (digit-good s (l .loop .i) more digit) ∙ l .loop .inv .good;
+    }
 
 returns-4 : tie.Need-returns-4 Inv-loop μ-loop
 returns-4 c =
     let l = c .before in
     let s = l .before .args .s .now in
-    let none = rest-none s (l .loop .i) (c .loop-test .left) in
-    (all-small s (l .loop .n) (sym (sym (ap allDigits none) ∙ l .loop .inv .good)) (sym (ap (valueFrom (l .loop .n)) none) ∙ l .loop .inv .value) (l .loop .inv .small), omega (arith, l .loop .inv .small))
+    let none = rest-none s (l .loop .i) (c .loop-test .left) in (
+      all-small s (l .loop .n) (sym (sym (ap allDigits none) ∙ l .loop .inv .good)) (sym (ap (valueFrom (l .loop .n)) none) ∙ l .loop .inv .value) (l .loop .inv .small),
+      omega
+          (arith, l .loop .inv .small),
+    )
 
 pub digits-spec : {M : Type 1} → statement M
 digits-spec =

@@ -24,7 +24,8 @@ shared-slice-read-if1 : tie.Need-shared-slice-read-if1 Inv-loop μ-loop
 shared-slice-read-if1 c = search needs
 
 returns : tie.Need-returns Inv-loop μ-loop
-returns c = let l = c .before .before .before in let x = l .before .args in (omega (arith, find-here (x .c) (x .s .now) (l .loop .i) (c .before .before .loop-test .taken) (c .if1 .taken), l .loop .inv .2), (l .loop .inv .0, l .loop .inv .1))
+returns c = let l = c .before .before .before in let x = l .before .args in
+    (omega (arith, find-here (x .c) (x .s .now) (l .loop .i) (c .before .before .loop-test .taken) (c .if1 .taken), l .loop .inv .2), (l .loop .inv .0, l .loop .inv .1))
 
 add-i : tie.Need-add-i Inv-loop μ-loop
 add-i c = search needs
@@ -33,7 +34,12 @@ loop-less : tie.Need-loop-less Inv-loop μ-loop
 loop-less c = search needs
 
 loop-again : tie.Need-loop-again Inv-loop μ-loop
-loop-again c = let l = c .before .before .before in let x = l .before .args in (omega (arith, l .loop .inv .0), omega (arith, c .before .before .loop-test .taken), omega (arith, find-on (x .c) (x .s .now) (l .loop .i) (c .before .before .loop-test .taken) (c .if1 .left), l .loop .inv .2))
+loop-again c = let l = c .before .before .before in let x = l .before .args in (
+  omega (arith, l .loop .inv .0),
+  omega (arith, c .before .before .loop-test .taken),
+  omega
+      (arith, find-on (x .c) (x .s .now) (l .loop .i) (c .before .before .loop-test .taken) (c .if1 .left), l .loop .inv .2),
+)
 
 returns-2 : tie.Need-returns-2 Inv-loop μ-loop
 returns-2 c = let l = c .before in let x = l .before .args in (omega (arith, find-none (x .c) (x .s .now) (l .loop .i) (c .loop-test .left), l .loop .inv .2), (l .loop .inv .0, l .loop .inv .1))

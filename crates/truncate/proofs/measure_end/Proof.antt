@@ -35,12 +35,21 @@ add-t12 c = search needs
 
 returns-2 : tie.Need-returns-2
 returns-2 c =
-    let a = c .before .before .before .before .before .before .before .before .before .before .args in
-    let w = c .before .before .before .before .before .before .before .text-width in
-    let v = c .before .before .before .before .before .text-width2 in
+    let at-less = c .before .before .before .before in
+    let at-text-width2 = at-less .before in
+    let at-if1 = at-text-width2 .before in
+    let at-text-width = at-if1 .before in
+    let start = at-text-width .before .before .before in
+    let a = start .args in
+    let w = at-text-width .text-width in
+    let v = at-text-width2 .text-width2 in
     let x = c .before .before .before .truncate-end-pos in
-    let y = c .before .before .truncate-end-pos2 in
-    (end-plan-cut (a .max-width) (a .content .now) (a .ellipsis .now) (w .result) (w .ensures .0) (v .result) (c .before .before .before .before .less .result) (v .ensures .0) (c .before .before .before .before .less .ensures) (c .before .before .before .before .before .before .if1 .left) (x .result .pos) (x .result .width) (y .result .pos) (y .result .width) (x .ensures .0 .0) (x .ensures .0 .1) (y .ensures .0 .0) (y .ensures .0 .1), (x .ensures .1 .0, y .ensures .1 .0))
+    let y = c .before .before .truncate-end-pos2 in (
+      end-plan-cut (a .max-width) (a .content .now) (a .ellipsis .now) (w .result) (w .ensures .0) (v .result) (at-less .less .result) (v .ensures .0)
+          (at-less .less .ensures) (at-if1 .if1 .left) (x .result .pos) (x .result .width) (y .result .pos)
+          (y .result .width) (x .ensures .0 .0) (x .ensures .0 .1) (y .ensures .0 .0) (y .ensures .0 .1),
+      (x .ensures .1 .0, y .ensures .1 .0),
+    )
 
 pub measure-end-spec : {M : Type 1} → statement M
 measure-end-spec =

@@ -20,8 +20,11 @@ trimmed-from-requires c κs = search needs
 returns : tie.Need-returns
 returns c =
     let a = c .before .before .before .before .before .args in
-    let n = c .trimmed-from in
-    (start-plan-whole (a .max-width) (a .content .now) (a .ellipsis .now) (c .before .before .text-width .result) (c .before .before .text-width .ensures .0) (n .result) (c .before .if1 .taken) (n .ensures .0), (n .ensures .1, omega arith))
+    let n = c .trimmed-from in (
+      start-plan-whole (a .max-width) (a .content .now) (a .ellipsis .now) (c .before .before .text-width .result) (c .before .before .text-width .ensures .0) (n .result)
+          (c .before .if1 .taken) (n .ensures .0),
+      (n .ensures .1, omega arith),
+    )
 
 text-width-requires-2 : tie.Need-text-width-requires-2
 text-width-requires-2 c κs = search needs
@@ -46,14 +49,26 @@ add-t13 c = search needs
 
 returns-2 : tie.Need-returns-2
 returns-2 c =
-    let a = c .before .before .before .before .before .before .before .before .before .before .before .before .args in
-    let w = c .before .before .before .before .before .before .before .before .before .text-width in
-    let v = c .before .before .before .before .before .before .before .text-width2 in
-    let x = c .before .before .before .before .before .truncate-start-pos in
-    let y = c .before .before .before .before .truncate-start-pos2 in
+    let at-truncate-start-pos2 = c .before .before .before .before in
+    let at-truncate-start-pos = at-truncate-start-pos2 .before in
+    let at-less = at-truncate-start-pos .before in
+    let at-text-width2 = at-less .before in
+    let at-if1 = at-text-width2 .before in
+    let at-text-width = at-if1 .before in
+    let start = at-text-width .before .before .before in
+    let a = start .args in
+    let w = at-text-width .text-width in
+    let v = at-text-width2 .text-width2 in
+    let x = at-truncate-start-pos .truncate-start-pos in
+    let y = at-truncate-start-pos2 .truncate-start-pos2 in
     let n = c .before .before .before .trimmed-from2 in
-    let m = c .before .before .trimmed-from3 in
-    (start-plan-cut (a .max-width) (a .content .now) (a .ellipsis .now) (w .result) (w .ensures .0) (v .result) (c .before .before .before .before .before .before .less .result) (v .ensures .0) (c .before .before .before .before .before .before .less .ensures) (c .before .before .before .before .before .before .before .before .if1 .left) (x .result .pos) (x .result .width) (y .result .pos) (y .result .width) (n .result) (m .result) (x .ensures .0 .0) (x .ensures .0 .1) (y .ensures .0 .0) (y .ensures .0 .1) (n .ensures .0) (m .ensures .0), (n .ensures .1, m .ensures .1))
+    let m = c .before .before .trimmed-from3 in (
+      start-plan-cut (a .max-width) (a .content .now) (a .ellipsis .now) (w .result) (w .ensures .0) (v .result) (at-less .less .result)
+          (v .ensures .0) (at-less .less .ensures) (at-if1 .if1 .left)
+          (x .result .pos) (x .result .width) (y .result .pos) (y .result .width) (n .result) (m .result) (x .ensures .0 .0) (x .ensures .0 .1) (y .ensures .0 .0) (y .ensures .0 .1)
+          (n .ensures .0) (m .ensures .0),
+      (n .ensures .1, m .ensures .1),
+    )
 
 pub measure-start-spec : {M : Type 1} → statement M
 measure-start-spec =

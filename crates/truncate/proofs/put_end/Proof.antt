@@ -17,9 +17,11 @@ use Rattle.writer.proofs.put_recording.Reads as put-recording-reads
 put-recording-requires : tie.Need-put-recording-requires
 unfolding out
 put-recording-requires c κs =
-    let a = c .before .before .before .before .before .before .before .before .before .before .before .before .before .before .args in
-    let p = c .before .before .before .before .before .before .before .before .before .before .before .before .before .before .pre in
-    let e = end-whole (a .p) (recording (a .content .now) (a .entries .now) (a .text .now)) (recording (a .ellipsis .now) (a .ellipsis-entries .now) (a .ellipsis-text .now)) (not-true (a .p .cut) (c .before .before .before .if1 .taken)) in
+    let start = c .before .before .before .before .before .before .before .before .before .before .before .before .before .before in
+    let a = start .args in
+    let p = start .pre in
+    let e = end-whole (a .p) (recording (a .content .now) (a .entries .now) (a .text .now)) (recording (a .ellipsis .now) (a .ellipsis-entries .now) (a .ellipsis-text .now))
+    (not-true (a .p .cut) (c .before .before .before .if1 .taken)) in
     (p .0, rw e at (p .1 .1 .1))
 
 same-length : tie.Need-same-length
@@ -34,25 +36,35 @@ same-length-3 c = search needs
 returns : tie.Need-returns
 unfolding out
 returns c =
-    let a = c .before .before .before .before .before .before .before .before .before .before .before .before .before .before .before .before .before .before .before .before .before .args in
-    let e = end-whole (a .p) (recording (a .content .now) (a .entries .now) (a .text .now)) (recording (a .ellipsis .now) (a .ellipsis-entries .now) (a .ellipsis-text .now)) (not-true (a .p .cut) (c .before .before .before .before .before .before .before .before .before .before .if1 .taken)) in
-    c .before .before .before .before .before .before .put-recording .ensures .0 ∙ ap (λ (x : List Item). add x (blank (a .bytes .now) (a .numbers .now) (a .texts .now))) (sym e)
+    let at-put-recording = c .before .before .before .before .before .before in
+    let at-if1 = at-put-recording .before .before .before .before in
+    let start = at-if1 .before .before .before .before .before .before .before .before .before .before .before in
+    let a = start .args in
+    let e = end-whole (a .p) (recording (a .content .now) (a .entries .now) (a .text .now)) (recording (a .ellipsis .now) (a .ellipsis-entries .now) (a .ellipsis-text .now))
+    (not-true (a .p .cut) (at-if1 .if1 .taken)) in
+    at-put-recording .put-recording .ensures .0 ∙ ap (λ (x : List Item). add x (blank (a .bytes .now) (a .numbers .now) (a .texts .now))) (sym e)
 
 put-up-to-requires : tie.Need-put-up-to-requires
 unfolding out
 put-up-to-requires c κs =
-    let a = c .before .before .before .before .before .before .before .before .before .before .before .before .before .before .args in
-    let p = c .before .before .before .before .before .before .before .before .before .before .before .before .before .before .pre in
-    let e = end-cut (a .p) (recording (a .content .now) (a .entries .now) (a .text .now)) (recording (a .ellipsis .now) (a .ellipsis-entries .now) (a .ellipsis-text .now)) (not-false (a .p .cut) (c .before .before .before .if1 .left)) in
+    let start = c .before .before .before .before .before .before .before .before .before .before .before .before .before .before in
+    let a = start .args in
+    let p = start .pre in
+    let e = end-cut (a .p) (recording (a .content .now) (a .entries .now) (a .text .now)) (recording (a .ellipsis .now) (a .ellipsis-entries .now) (a .ellipsis-text .now))
+    (not-false (a .p .cut) (c .before .before .before .if1 .left)) in
     (p .0, (p .1 .1 .0 .0, fits-first _ _ _ _ e (p .1 .1 .1)))
 
 put-up-to-requires-2 : tie.Need-put-up-to-requires-2
 unfolding out
 put-up-to-requires-2 c κs =
-    let a = c .before .before .before .before .before .before .before .before .before .before .before .before .before .before .before .before .before .before .before .before .before .before .before .before .args in
-    let p = c .before .before .before .before .before .before .before .before .before .before .before .before .before .before .before .before .before .before .before .before .before .before .before .before .pre in
-    let e = end-cut (a .p) (recording (a .content .now) (a .entries .now) (a .text .now)) (recording (a .ellipsis .now) (a .ellipsis-entries .now) (a .ellipsis-text .now)) (not-false (a .p .cut) (c .before .before .before .before .before .before .before .before .before .before .before .before .before .if1 .left)) in
-    (p .1 .0, (p .1 .1 .0 .1, fits-then _ _ _ _ _ e (p .1 .1 .1) (c .before .before .before .before .before .before .before .before .before .put-up-to .ensures)))
+    let at-put-up-to = c .before .before .before .before .before .before .before .before .before in
+    let at-if1 = at-put-up-to .before .before .before .before in
+    let start = at-if1 .before .before .before .before .before .before .before .before .before .before .before in
+    let a = start .args in
+    let p = start .pre in
+    let e = end-cut (a .p) (recording (a .content .now) (a .entries .now) (a .text .now)) (recording (a .ellipsis .now) (a .ellipsis-entries .now) (a .ellipsis-text .now))
+    (not-false (a .p .cut) (at-if1 .if1 .left)) in
+    (p .1 .0, (p .1 .1 .0 .1, fits-then _ _ _ _ _ e (p .1 .1 .1) (at-put-up-to .put-up-to .ensures)))
 
 same-length-4 : tie.Need-same-length-4
 same-length-4 c = search needs
@@ -66,10 +78,15 @@ same-length-6 c = search needs
 returns-2 : tie.Need-returns-2
 unfolding out
 returns-2 c =
-    let a = c .before .before .before .before .before .before .before .before .before .before .before .before .before .before .before .before .before .before .before .before .before .before .before .before .before .before .before .before .before .before .before .args in
-    let p = c .before .before .before .before .before .before .before .before .before .before .before .before .before .before .before .before .before .before .before .before .before .before .before .before .before .before .before .before .before .before .before .pre in
-    let e = end-cut (a .p) (recording (a .content .now) (a .entries .now) (a .text .now)) (recording (a .ellipsis .now) (a .ellipsis-entries .now) (a .ellipsis-text .now)) (not-false (a .p .cut) (c .before .before .before .before .before .before .before .before .before .before .before .before .before .before .before .before .before .before .before .before .if1 .left)) in
-    then _ _ _ _ _ _ e (p .1 .1 .1) (c .before .before .before .before .before .before .before .before .before .before .before .before .before .before .before .before .put-up-to .ensures) (c .before .before .before .before .before .before .put-up-to2 .ensures)
+    let at-put-up-to2 = c .before .before .before .before .before .before in
+    let at-put-up-to = at-put-up-to2 .before .before .before .before .before .before .before .before .before .before in
+    let at-if1 = at-put-up-to .before .before .before .before in
+    let start = at-if1 .before .before .before .before .before .before .before .before .before .before .before in
+    let a = start .args in
+    let p = start .pre in
+    let e = end-cut (a .p) (recording (a .content .now) (a .entries .now) (a .text .now)) (recording (a .ellipsis .now) (a .ellipsis-entries .now) (a .ellipsis-text .now))
+    (not-false (a .p .cut) (at-if1 .if1 .left)) in
+    then _ _ _ _ _ _ e (p .1 .1 .1) (at-put-up-to .put-up-to .ensures) (at-put-up-to2 .put-up-to2 .ensures)
 
 pub put-end-spec : {M : Type 1} → statement M
 put-end-spec =

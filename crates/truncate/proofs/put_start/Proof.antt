@@ -16,9 +16,11 @@ use Rattle.truncate.proofs.put_from.Reads as put-from-reads
 put-from-requires : tie.Need-put-from-requires
 unfolding out
 put-from-requires c κs =
-    let a = c .before .before .before .before .before .before .before .before .before .before .before .before .before .before .args in
-    let p = c .before .before .before .before .before .before .before .before .before .before .before .before .before .before .pre in
-    let e = start-whole (a .p) (recording (a .content .now) (a .entries .now) (a .text .now)) (recording (a .ellipsis .now) (a .ellipsis-entries .now) (a .ellipsis-text .now)) (not-true (a .p .cut) (c .before .before .before .if1 .taken)) in
+    let start = c .before .before .before .before .before .before .before .before .before .before .before .before .before .before in
+    let a = start .args in
+    let p = start .pre in
+    let e = start-whole (a .p) (recording (a .content .now) (a .entries .now) (a .text .now)) (recording (a .ellipsis .now) (a .ellipsis-entries .now) (a .ellipsis-text .now))
+    (not-true (a .p .cut) (c .before .before .before .if1 .taken)) in
     (p .0, (p .1 .1 .0 .0, rw e at (p .1 .1 .1)))
 
 same-length : tie.Need-same-length
@@ -33,25 +35,35 @@ same-length-3 c = search needs
 returns : tie.Need-returns
 unfolding out
 returns c =
-    let a = c .before .before .before .before .before .before .before .before .before .before .before .before .before .before .before .before .before .before .before .before .before .args in
-    let e = start-whole (a .p) (recording (a .content .now) (a .entries .now) (a .text .now)) (recording (a .ellipsis .now) (a .ellipsis-entries .now) (a .ellipsis-text .now)) (not-true (a .p .cut) (c .before .before .before .before .before .before .before .before .before .before .if1 .taken)) in
-    c .before .before .before .before .before .before .put-from .ensures ∙ ap (λ (x : List Item). add x (blank (a .bytes .now) (a .numbers .now) (a .texts .now))) (sym e)
+    let at-put-from = c .before .before .before .before .before .before in
+    let at-if1 = at-put-from .before .before .before .before in
+    let start = at-if1 .before .before .before .before .before .before .before .before .before .before .before in
+    let a = start .args in
+    let e = start-whole (a .p) (recording (a .content .now) (a .entries .now) (a .text .now)) (recording (a .ellipsis .now) (a .ellipsis-entries .now) (a .ellipsis-text .now))
+    (not-true (a .p .cut) (at-if1 .if1 .taken)) in
+    at-put-from .put-from .ensures ∙ ap (λ (x : List Item). add x (blank (a .bytes .now) (a .numbers .now) (a .texts .now))) (sym e)
 
 put-from-requires-2 : tie.Need-put-from-requires-2
 unfolding out
 put-from-requires-2 c κs =
-    let a = c .before .before .before .before .before .before .before .before .before .before .before .before .before .before .args in
-    let p = c .before .before .before .before .before .before .before .before .before .before .before .before .before .before .pre in
-    let e = start-cut (a .p) (recording (a .content .now) (a .entries .now) (a .text .now)) (recording (a .ellipsis .now) (a .ellipsis-entries .now) (a .ellipsis-text .now)) (not-false (a .p .cut) (c .before .before .before .if1 .left)) in
+    let start = c .before .before .before .before .before .before .before .before .before .before .before .before .before .before in
+    let a = start .args in
+    let p = start .pre in
+    let e = start-cut (a .p) (recording (a .content .now) (a .entries .now) (a .text .now)) (recording (a .ellipsis .now) (a .ellipsis-entries .now) (a .ellipsis-text .now))
+    (not-false (a .p .cut) (c .before .before .before .if1 .left)) in
     (p .1 .0, (p .1 .1 .0 .1, fits-first _ _ _ _ e (p .1 .1 .1)))
 
 put-from-requires-3 : tie.Need-put-from-requires-3
 unfolding out
 put-from-requires-3 c κs =
-    let a = c .before .before .before .before .before .before .before .before .before .before .before .before .before .before .before .before .before .before .before .before .before .before .before .before .args in
-    let p = c .before .before .before .before .before .before .before .before .before .before .before .before .before .before .before .before .before .before .before .before .before .before .before .before .pre in
-    let e = start-cut (a .p) (recording (a .content .now) (a .entries .now) (a .text .now)) (recording (a .ellipsis .now) (a .ellipsis-entries .now) (a .ellipsis-text .now)) (not-false (a .p .cut) (c .before .before .before .before .before .before .before .before .before .before .before .before .before .if1 .left)) in
-    (p .0, (p .1 .1 .0 .0, fits-then _ _ _ _ _ e (p .1 .1 .1) (c .before .before .before .before .before .before .before .before .before .put-from2 .ensures)))
+    let at-put-from2 = c .before .before .before .before .before .before .before .before .before in
+    let at-if1 = at-put-from2 .before .before .before .before in
+    let start = at-if1 .before .before .before .before .before .before .before .before .before .before .before in
+    let a = start .args in
+    let p = start .pre in
+    let e = start-cut (a .p) (recording (a .content .now) (a .entries .now) (a .text .now)) (recording (a .ellipsis .now) (a .ellipsis-entries .now) (a .ellipsis-text .now))
+    (not-false (a .p .cut) (at-if1 .if1 .left)) in
+    (p .0, (p .1 .1 .0 .0, fits-then _ _ _ _ _ e (p .1 .1 .1) (at-put-from2 .put-from2 .ensures)))
 
 same-length-4 : tie.Need-same-length-4
 same-length-4 c = search needs
@@ -65,10 +77,15 @@ same-length-6 c = search needs
 returns-2 : tie.Need-returns-2
 unfolding out
 returns-2 c =
-    let a = c .before .before .before .before .before .before .before .before .before .before .before .before .before .before .before .before .before .before .before .before .before .before .before .before .before .before .before .before .before .before .before .args in
-    let p = c .before .before .before .before .before .before .before .before .before .before .before .before .before .before .before .before .before .before .before .before .before .before .before .before .before .before .before .before .before .before .before .pre in
-    let e = start-cut (a .p) (recording (a .content .now) (a .entries .now) (a .text .now)) (recording (a .ellipsis .now) (a .ellipsis-entries .now) (a .ellipsis-text .now)) (not-false (a .p .cut) (c .before .before .before .before .before .before .before .before .before .before .before .before .before .before .before .before .before .before .before .before .if1 .left)) in
-    then _ _ _ _ _ _ e (p .1 .1 .1) (c .before .before .before .before .before .before .before .before .before .before .before .before .before .before .before .before .put-from2 .ensures) (c .before .before .before .before .before .before .put-from3 .ensures)
+    let at-put-from3 = c .before .before .before .before .before .before in
+    let at-put-from2 = at-put-from3 .before .before .before .before .before .before .before .before .before .before in
+    let at-if1 = at-put-from2 .before .before .before .before in
+    let start = at-if1 .before .before .before .before .before .before .before .before .before .before .before in
+    let a = start .args in
+    let p = start .pre in
+    let e = start-cut (a .p) (recording (a .content .now) (a .entries .now) (a .text .now)) (recording (a .ellipsis .now) (a .ellipsis-entries .now) (a .ellipsis-text .now))
+    (not-false (a .p .cut) (at-if1 .if1 .left)) in
+    then _ _ _ _ _ _ e (p .1 .1 .1) (at-put-from2 .put-from2 .ensures) (at-put-from3 .put-from3 .ensures)
 
 pub put-start-spec : {M : Type 1} → statement M
 put-start-spec =

@@ -21,11 +21,13 @@ trim-start-zero-width-chars-requires c κs = search needs
 
 sub-result : tie.Need-sub-result
 sub-result c =
-    trimmed (c .before .before .before .args .s .now) (c .trim-start-zero-width-chars .result .now) (c .before .before .before .args .start) (c .before .before .before .pre) (c .trim-start-zero-width-chars .ensures) .0
+    trimmed (c .before .before .before .args .s .now) (c .trim-start-zero-width-chars .result .now) (c .before .before .before .args .start) (c .before .before .before .pre)
+    (c .trim-start-zero-width-chars .ensures) .0
 
 returns : tie.Need-returns
 returns c =
-    let t = trimmed (c .before .before .before .args .s .now) (c .trim-start-zero-width-chars .result .now) (c .before .before .before .args .start) (c .before .before .before .pre) (c .trim-start-zero-width-chars .ensures) in
+    let t = trimmed (c .before .before .before .args .s .now) (c .trim-start-zero-width-chars .result .now) (c .before .before .before .args .start)
+    (c .before .before .before .pre) (c .trim-start-zero-width-chars .ensures) in
     (t .1, t .2)
 
 pub trimmed-from-spec : {M : Type 1} → statement M

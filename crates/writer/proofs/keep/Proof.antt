@@ -60,8 +60,16 @@ module _ (ds ns ts : List ℕ) (n : ℕ) (c₀ : Cursor) (od₀ oe₀ ot₀ od o
           → (badShape (e .kind) (e .start) (e .len) ≡ false) × ((e .start + e .len ≤ length ts)
           × (((c₁ .e + 4 ≤ length oe) × (c₁ .t + e .len ≤ length ot)) × ((c₁ .d ≤ 1048576) × (c₁ .t ≤ 65536) × (c₁ .k + 4 ≤ 18446744073709551615))))
       asked c₁ f big =
-          let r = roomy in
-          (fine .1, (fine .2, ((omega (arith, f .3, r .entryNumbers), omega (arith, f .4, r .text)), (omega (arith, f .2, r .data-limit), omega (arith, f .4, r .text-limit), omega (arith, f .1, entire, big)))))
+          let r = roomy in (
+            fine .1,
+            (
+              fine .2,
+              (
+                (omega (arith, f .3, r .entryNumbers), omega (arith, f .4, r .text)),
+                (omega (arith, f .2, r .data-limit), omega (arith, f .4, r .text-limit), omega (arith, f .1, entire, big)),
+              ),
+            ),
+          )
 
       turned : (od′ oe′ ot′ : List ℕ) (c₁ c₂ : Cursor) (p′ : ℕ)
           → od′ ≡ overAt (c .d) (part (c .at) p ds) od → (c₁ .at ≡ c .at) × (c₁ .k ≡ c .k) × (c₁ .d ≡ c .d + (p - c .at)) × (c₁ .e ≡ c .e) × (c₁ .t ≡ c .t)
@@ -110,11 +118,21 @@ place-at-requires c κs = search needs
 
 loop-holds : tie.Need-loop-holds Inv-loop μ-loop
 loop-holds c =
-    record { done = []; wrote = add-nil _; rest = refl; behind = refl; ready = c .before .before .before .before .before .before .before .pre .0; here = c .before .before .before .before .before .before .before .pre .1 .0 .0; next = c .place-at .ensures }
+    record {
+      done = [];
+      wrote = add-nil _;
+      rest = refl;
+      behind = refl;
+      ready = c .before .before .before .before .before .before .before .pre .0;
+      here =
+          c .before .before .before .before .before .before .before .pre .1 .0 .0;
+      next = c .place-at .ensures;
+    }
 
 entry-at-requires : tie.Need-entry-at-requires Inv-loop μ-loop
 entry-at-requires c κs =
-    entire _ _ _ _ _ _ _ _ _ _ _ _ _ (c .before .loop .inv) (c .before .before .before .before .before .before .before .before .before .pre .1 .0 .1) (c .before .before .before .before .before .before .before .before .before .pre .1 .1) (c .loop-test .taken)
+    entire _ _ _ _ _ _ _ _ _ _ _ _ _ (c .before .loop .inv) (c .before .before .before .before .before .before .before .before .before .pre .1 .0 .1)
+    (c .before .before .before .before .before .before .before .before .before .pre .1 .1) (c .loop-test .taken)
 
 put-bytes-requires : tie.Need-put-bytes-requires Inv-loop μ-loop
 put-bytes-requires c κs =
@@ -126,27 +144,56 @@ put-bytes-requires c κs =
 
 put-entry-requires : tie.Need-put-entry-requires Inv-loop μ-loop
 put-entry-requires c κs =
-    let pre = c .before .before .before .before .before .before .before .before .before .before .before .before .before .before .before .before .pre in
-    asked _ _ _ _ _ _ _ _ _ _ _ _ _ (c .before .before .before .before .before .before .before .before .loop .inv) (pre .1 .0 .1) (pre .1 .1) (c .before .before .before .before .before .before .before .loop-test .taken) _ (c .before .before .before .before .before .before .entry-at .ensures) _ (c .before .before .before .before .put-bytes .ensures .0) (omega (arith, c .before .before .before .before .before .before .before .before .before .before .before .before .before .before .before .before .good))
+    let at-put-bytes = c .before .before .before .before in
+    let at-entry-at = at-put-bytes .before .before in
+    let at-loop-test = at-entry-at .before in
+    let at-loop = at-loop-test .before in
+    let start = at-loop .before .before .before .before .before .before .before .before in
+    let pre = start .pre in
+    asked _ _ _ _ _ _ _ _ _ _ _ _ _ (at-loop .loop .inv) (pre .1 .0 .1) (pre .1 .1)
+    (at-loop-test .loop-test .taken) _ (at-entry-at .entry-at .ensures) _
+    (at-put-bytes .put-bytes .ensures .0)
+    (omega (arith, start .good))
 
 place-at-requires-2 : tie.Need-place-at-requires-2 Inv-loop μ-loop
 place-at-requires-2 c κs =
-    let pre = c .before .before .before .before .before .before .before .before .before .before .before .before .before .before .before .before .before .before .before .before .before .pre in
-    let w = entire _ _ _ _ _ _ _ _ _ _ _ _ _ (c .before .before .before .before .before .before .before .before .before .before .before .before .before .loop .inv) (pre .1 .0 .1) (pre .1 .1) (c .before .before .before .before .before .before .before .before .before .before .before .before .loop-test .taken) in
-    omega (arith, w, c .before .before .before .before .before .before .before .before .before .put-bytes .ensures .0 .1, c .before .before .before .before .put-entry .ensures .0 .1)
+    let at-put-entry = c .before .before .before .before in
+    let at-put-bytes = at-put-entry .before .before .before .before .before in
+    let at-loop-test = at-put-bytes .before .before .before in
+    let at-loop = at-loop-test .before in
+    let start = at-loop .before .before .before .before .before .before .before .before in
+    let pre = start .pre in
+    let w = entire _ _ _ _ _ _ _ _ _ _ _ _ _ (at-loop .loop .inv) (pre .1 .0 .1)
+    (pre .1 .1) (at-loop-test .loop-test .taken) in
+    omega (arith, w, at-put-bytes .put-bytes .ensures .0 .1, at-put-entry .put-entry .ensures .0 .1)
 
 loop-less : tie.Need-loop-less Inv-loop μ-loop
 loop-less c =
-    let pre = c .before .before .before .before .before .before .before .before .before .before .before .before .before .before .before .before .before .before .before .before .before .before .pre in
-    let w = entire _ _ _ _ _ _ _ _ _ _ _ _ _ (c .before .before .before .before .before .before .before .before .before .before .before .before .before .before .loop .inv) (pre .1 .0 .1) (pre .1 .1) (c .before .before .before .before .before .before .before .before .before .before .before .before .before .loop-test .taken) in
-    omega (arith, w, c .before .before .before .before .before .before .before .before .before .before .put-bytes .ensures .0 .1, c .before .before .before .before .before .put-entry .ensures .0 .1)
+    let at-put-entry = c .before .before .before .before .before in
+    let at-put-bytes = at-put-entry .before .before .before .before .before in
+    let at-loop-test = at-put-bytes .before .before .before in
+    let at-loop = at-loop-test .before in
+    let start = at-loop .before .before .before .before .before .before .before .before in
+    let pre = start .pre in
+    let w = entire _ _ _ _ _ _ _ _ _ _ _ _ _ (at-loop .loop .inv)
+    (pre .1 .0 .1) (pre .1 .1) (at-loop-test .loop-test .taken) in
+    omega (arith, w, at-put-bytes .put-bytes .ensures .0 .1, at-put-entry .put-entry .ensures .0 .1)
 
 loop-again : tie.Need-loop-again Inv-loop μ-loop
 loop-again c =
-    let pre = c .before .before .before .before .before .before .before .before .before .before .before .before .before .before .before .before .before .before .before .before .before .before .pre in
-    let b = c .before .before .before .before .before .before .before .before .before .before .put-bytes .ensures in
-    let e = c .before .before .before .before .before .put-entry .ensures in
-    turned _ _ _ _ _ _ _ _ _ _ _ _ _ (c .before .before .before .before .before .before .before .before .before .before .before .before .before .before .loop .inv) (pre .1 .0 .1) (pre .1 .1) (c .before .before .before .before .before .before .before .before .before .before .before .before .before .loop-test .taken) _ (c .before .before .before .before .before .before .before .before .before .before .before .before .entry-at .ensures) _ _ _ _ _ _ (b .1) (b .0) (e .0) (e .1 .0) (e .1 .1) (c .place-at2 .ensures)
+    let at-put-entry = c .before .before .before .before .before in
+    let at-put-bytes = at-put-entry .before .before .before .before .before in
+    let at-entry-at = at-put-bytes .before .before in
+    let at-loop-test = at-entry-at .before in
+    let at-loop = at-loop-test .before in
+    let start = at-loop .before .before .before .before .before .before .before .before in
+    let pre = start .pre in
+    let b = at-put-bytes .put-bytes .ensures in
+    let e = at-put-entry .put-entry .ensures in
+    turned _ _ _ _ _ _ _ _ _ _ _ _ _ (at-loop .loop .inv) (pre .1 .0 .1)
+    (pre .1 .1) (at-loop-test .loop-test .taken) _
+    (at-entry-at .entry-at .ensures) _ _ _ _ _ _ (b .1) (b .0) (e .0) (e .1 .0) (e .1 .1)
+    (c .place-at2 .ensures)
 
 put-bytes-requires-2 : tie.Need-put-bytes-requires-2 Inv-loop μ-loop
 put-bytes-requires-2 c κs =
@@ -156,21 +203,28 @@ put-bytes-requires-2 c κs =
 
 same-length : tie.Need-same-length Inv-loop μ-loop
 same-length c =
-    c .before .before .put-bytes2 .kept .0 ∙ now-long _ _ _ _ _ _ _ _ _ _ _ _ _ (c .before .before .before .before .before .loop .inv) (c .before .before .before .before .before .before .before .before .before .before .before .before .before .pre .1 .0 .1) (c .before .before .before .before .before .before .before .before .before .before .before .before .before .pre .1 .1) .0
+    c .before .before .put-bytes2 .kept .0 ∙ now-long _ _ _ _ _ _ _ _ _ _ _ _ _ (c .before .before .before .before .before .loop .inv)
+    (c .before .before .before .before .before .before .before .before .before .before .before .before .before .pre .1 .0 .1)
+    (c .before .before .before .before .before .before .before .before .before .before .before .before .before .pre .1 .1) .0
 
 same-length-2 : tie.Need-same-length-2 Inv-loop μ-loop
 same-length-2 c =
-    now-long _ _ _ _ _ _ _ _ _ _ _ _ _ (c .before .before .before .before .before .loop .inv) (c .before .before .before .before .before .before .before .before .before .before .before .before .before .pre .1 .0 .1) (c .before .before .before .before .before .before .before .before .before .before .before .before .before .pre .1 .1) .1
+    now-long _ _ _ _ _ _ _ _ _ _ _ _ _ (c .before .before .before .before .before .loop .inv)
+    (c .before .before .before .before .before .before .before .before .before .before .before .before .before .pre .1 .0 .1)
+    (c .before .before .before .before .before .before .before .before .before .before .before .before .before .pre .1 .1) .1
 
 same-length-3 : tie.Need-same-length-3 Inv-loop μ-loop
 same-length-3 c =
-    now-long _ _ _ _ _ _ _ _ _ _ _ _ _ (c .before .before .before .before .before .loop .inv) (c .before .before .before .before .before .before .before .before .before .before .before .before .before .pre .1 .0 .1) (c .before .before .before .before .before .before .before .before .before .before .before .before .before .pre .1 .1) .2
+    now-long _ _ _ _ _ _ _ _ _ _ _ _ _ (c .before .before .before .before .before .loop .inv)
+    (c .before .before .before .before .before .before .before .before .before .before .before .before .before .pre .1 .0 .1)
+    (c .before .before .before .before .before .before .before .before .before .before .before .before .before .pre .1 .1) .2
 
 returns : tie.Need-returns Inv-loop μ-loop
 returns c =
     let pre = c .before .before .before .before .before .before .before .before .before .before .before .before .before .pre in
     let b = c .before .before .put-bytes2 .ensures in
-    let e = ended _ _ _ _ _ _ _ _ _ _ _ _ _ (c .before .before .before .before .before .loop .inv) (pre .1 .0 .1) (pre .1 .1) (c .before .before .before .before .loop-test .left) _ _ _ (b .1) (b .0) (refl, refl, refl, refl, refl) in
+    let e = ended _ _ _ _ _ _ _ _ _ _ _ _ _ (c .before .before .before .before .before .loop .inv) (pre .1 .0 .1) (pre .1 .1) (c .before .before .before .before .loop-test .left) _
+    _ _ (b .1) (b .0) (refl, refl, refl, refl, refl) in
     (e .0, (e .1, (e .2, refl)))
 
 pub keep-spec : {M : Type 1} → statement M

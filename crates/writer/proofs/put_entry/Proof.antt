@@ -40,11 +40,17 @@ cast-t9 c = search needs
 
 add-t19 : tie.Need-add-t19
 add-t19 c =
-    omega (arith, c .before .before .before .before .before .before .before .before .before .before .before .before .before .before .before .before .before .before .pre)
+    let start = c .before .before .before .before .before .before .before .before .before .before .before .before .before .before .before .before .before .before in
+    omega (arith, start .pre)
 
 add-t20 : tie.Need-add-t20
 add-t20 c =
-    omega (arith, c .before .before .before .before .before .before .before .before .before .before .before .before .before .before .before .before .before .before .before .pre, c .before .before .before .before .before .before .before .before .before .before .before .before .before .before .before .before .before .before .before .good)
+    let start = c .before .before .before .before .before .before .before .before .before .before .before .before .before .before .before .before .before .before .before in
+    omega (
+      arith,
+      start .pre,
+      start .good,
+    )
 
 same-length : tie.Need-same-length
 same-length c = search needs
@@ -54,12 +60,17 @@ same-length-2 c = search needs
 
 returns : tie.Need-returns
 returns c =
-    let pre = c .before .before .before .before .before .before .before .before .before .before .before .before .before .before .before .before .before .before .before .pre in
-    let a = c .before .before .before .before .before .before .before .before .before .before .before .before .before .before .before .before .before .before .before .args in
-    let p = c .before .before .before .before .before .put .ensures in (
+    let at-put = c .before .before .before .before .before in
+    let at-set-entry = at-put .before .before .before .before in
+    let at-start-of = at-set-entry .before in
+    let start = at-start-of .before .before .before .before .before .before .before .before .before in
+    let pre = start .pre in
+    let a = start .args in
+    let p = at-put .put .ensures in (
       (refl, refl, refl, refl, omega (arith, p .0)),
       (
-        c .before .before .before .before .before .before .before .before .before .set-entry .ensures ∙ entry-written _ _ _ _ (a .text .now) _ (a .e) (c .before .before .before .before .before .before .before .before .before .before .start-of .ensures) (pre .0) (pre .1 .0),
+        at-set-entry .set-entry .ensures
+            ∙ entry-written _ _ _ _ (a .text .now) _ (a .e) (at-start-of .start-of .ensures) (pre .0) (pre .1 .0),
         p .1 ∙ text-written _ _ _ (a .e) (pre .0),
       ),
     )

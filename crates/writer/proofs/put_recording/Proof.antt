@@ -17,8 +17,11 @@ keep-requires : tie.Need-keep-requires
 unfolding out
 keep-requires c κs =
     let s = c .before .before .before .before .before .before .before .before .before .args in
-    let e = front-start (s .content .now) (s .entries .now) (s .text .now) (record { at = 0; k = 0; d = s .c .d; e = s .c .e; t = s .c .t }) refl refl (length (s .content .now)) ∙ keep-all (s .content .now) (s .entries .now) (s .text .now) in
-    (ready-start _ _ _ _ refl refl (c .before .before .before .before .before .before .before .before .before .pre .0), ((omega arith, omega arith), rw e (c .before .before .before .before .before .before .before .before .before .pre .1)))
+    let e = front-start (s .content .now) (s .entries .now) (s .text .now) (record { at = 0; k = 0; d = s .c .d; e = s .c .e; t = s .c .t }) refl refl (length (s .content .now))
+    ∙ keep-all (s .content .now) (s .entries .now) (s .text .now) in (
+      ready-start _ _ _ _ refl refl (c .before .before .before .before .before .before .before .before .before .pre .0),
+      ((omega arith, omega arith), rw e (c .before .before .before .before .before .before .before .before .before .pre .1)),
+    )
 
 same-length : tie.Need-same-length
 same-length c = search needs
@@ -32,9 +35,12 @@ same-length-3 c = search needs
 returns : tie.Need-returns
 unfolding out
 returns c =
-    let s = c .before .before .before .before .before .before .before .before .before .before .before .before .before .before .before .before .args in
-    let e = front-start (s .content .now) (s .entries .now) (s .text .now) (record { at = 0; k = 0; d = s .c .d; e = s .c .e; t = s .c .t }) refl refl (length (s .content .now)) ∙ keep-all (s .content .now) (s .entries .now) (s .text .now) in
-    (c .before .before .before .before .before .before .keep .ensures .0 ∙ ap (λ (x : List Item). add x (out (s .bytes .now) (s .numbers .now) (s .texts .now) (s .c))) e, (refl, refl))
+    let at-keep = c .before .before .before .before .before .before in
+    let start = at-keep .before .before .before .before .before .before .before .before .before .before in
+    let s = start .args in
+    let e = front-start (s .content .now) (s .entries .now) (s .text .now) (record { at = 0; k = 0; d = s .c .d; e = s .c .e; t = s .c .t }) refl refl (length (s .content .now))
+    ∙ keep-all (s .content .now) (s .entries .now) (s .text .now) in
+    (at-keep .keep .ensures .0 ∙ ap (λ (x : List Item). add x (out (s .bytes .now) (s .numbers .now) (s .texts .now) (s .c))) e, (refl, refl))
 
 pub put-recording-spec : {M : Type 1} → statement M
 put-recording-spec =

@@ -1,7 +1,8 @@
 -- `skip`: as `keep`, with the entries alone written (`entriesOnly`).
 use native.Mathlib.Omega.{arith}
 use borrow.Author.Needs.{needs}
-use Rattle.writer.proofs.Carry.{State, TurnRoom, room-turn, turnItems, turn-wrote, bytes-wrote, over-none, add-nil, long-now, whole, ok, entry-is, fits-turn, step, finish, only-append, only-bytes, only-none, only-entry}
+use Rattle.writer.proofs.Carry.{State, TurnRoom, room-turn, turnItems, turn-wrote, bytes-wrote, over-none, add-nil, long-now, whole, ok, entry-is, fits-turn, step, finish}
+use Rattle.writer.proofs.Carry.{only-append, only-bytes, only-none, only-entry}
 use Rattle.writer.specs.Write.{out, add, Fits, Ready, left, placeOf, itemAt}
 use Rattle.writer.specs.declared.Cursor.{Cursor}
 use Rattle.recording.specs.Refusals.{badShape}
@@ -89,44 +90,83 @@ place-at-requires c κs = search needs
 
 loop-holds : tie.Need-loop-holds Inv-loop μ-loop
 loop-holds c =
-    record { done = []; wrote = add-nil _; rest = refl; behind = refl; ready = c .before .before .before .before .before .before .before .pre .0; here = c .before .before .before .before .before .before .before .pre .1 .0 .0; next = c .place-at .ensures }
+    record {
+      done = [];
+      wrote = add-nil _;
+      rest = refl;
+      behind = refl;
+      ready = c .before .before .before .before .before .before .before .pre .0;
+      here =
+          c .before .before .before .before .before .before .before .pre .1 .0 .0;
+      next = c .place-at .ensures;
+    }
 
 entry-at-requires : tie.Need-entry-at-requires Inv-loop μ-loop
 entry-at-requires c κs =
-    entire _ _ _ _ _ _ _ _ _ _ _ _ (c .before .loop .inv) (c .before .before .before .before .before .before .before .before .before .pre .1 .0 .1) (c .before .before .before .before .before .before .before .before .before .pre .1 .1) (c .loop-test .taken)
+    entire _ _ _ _ _ _ _ _ _ _ _ _ (c .before .loop .inv) (c .before .before .before .before .before .before .before .before .before .pre .1 .0 .1)
+    (c .before .before .before .before .before .before .before .before .before .pre .1 .1) (c .loop-test .taken)
 
 put-entry-requires : tie.Need-put-entry-requires Inv-loop μ-loop
 put-entry-requires c κs =
     let pre = c .before .before .before .before .before .before .before .before .before .before .before .before .pre in
-    asked _ _ _ _ _ _ _ _ _ _ _ _ (c .before .before .before .before .loop .inv) (pre .1 .0 .1) (pre .1 .1) (c .before .before .before .loop-test .taken) _ (c .before .before .entry-at .ensures) (omega (arith, c .before .before .before .before .before .before .before .before .before .before .before .before .good))
+    asked _ _ _ _ _ _ _ _ _ _ _ _ (c .before .before .before .before .loop .inv) (pre .1 .0 .1) (pre .1 .1) (c .before .before .before .loop-test .taken) _
+    (c .before .before .entry-at .ensures) (omega (arith, c .before .before .before .before .before .before .before .before .before .before .before .before .good))
 
 place-at-requires-2 : tie.Need-place-at-requires-2 Inv-loop μ-loop
 place-at-requires-2 c κs =
-    let pre = c .before .before .before .before .before .before .before .before .before .before .before .before .before .before .before .before .before .pre in
-    omega (arith, entire _ _ _ _ _ _ _ _ _ _ _ _ (c .before .before .before .before .before .before .before .before .before .loop .inv) (pre .1 .0 .1) (pre .1 .1) (c .before .before .before .before .before .before .before .before .loop-test .taken), c .before .before .before .before .put-entry .ensures .0 .1)
+    let at-put-entry = c .before .before .before .before in
+    let at-loop-test = at-put-entry .before .before .before .before in
+    let at-loop = at-loop-test .before in
+    let start = at-loop .before .before .before .before .before .before .before .before in
+    let pre = start .pre in
+    omega (
+      arith,
+      entire _ _ _ _ _ _ _ _ _ _ _ _ (at-loop .loop .inv) (pre .1 .0 .1) (pre .1 .1)
+          (at-loop-test .loop-test .taken),
+      at-put-entry .put-entry .ensures .0 .1,
+    )
 
 loop-less : tie.Need-loop-less Inv-loop μ-loop
 loop-less c =
-    let pre = c .before .before .before .before .before .before .before .before .before .before .before .before .before .before .before .before .before .before .pre in
-    omega (arith, entire _ _ _ _ _ _ _ _ _ _ _ _ (c .before .before .before .before .before .before .before .before .before .before .loop .inv) (pre .1 .0 .1) (pre .1 .1) (c .before .before .before .before .before .before .before .before .before .loop-test .taken), c .before .before .before .before .before .put-entry .ensures .0 .1)
+    let at-put-entry = c .before .before .before .before .before in
+    let at-loop-test = at-put-entry .before .before .before .before in
+    let at-loop = at-loop-test .before in
+    let start = at-loop .before .before .before .before .before .before .before .before in
+    let pre = start .pre in
+    omega (
+      arith,
+      entire _ _ _ _ _ _ _ _ _ _ _ _ (at-loop .loop .inv) (pre .1 .0 .1) (pre .1 .1)
+          (at-loop-test .loop-test .taken),
+      at-put-entry .put-entry .ensures .0 .1,
+    )
 
 loop-again : tie.Need-loop-again Inv-loop μ-loop
 loop-again c =
-    let pre = c .before .before .before .before .before .before .before .before .before .before .before .before .before .before .before .before .before .before .pre in
-    let e = c .before .before .before .before .before .put-entry .ensures in
-    turned _ _ _ _ _ _ _ _ _ _ _ _ (c .before .before .before .before .before .before .before .before .before .before .loop .inv) (pre .1 .0 .1) (pre .1 .1) (c .before .before .before .before .before .before .before .before .before .loop-test .taken) _ (c .before .before .before .before .before .before .before .before .entry-at .ensures) _ _ _ _ (e .0) (e .1 .0) (e .1 .1) (c .place-at2 .ensures)
+    let at-put-entry = c .before .before .before .before .before in
+    let at-entry-at = at-put-entry .before .before .before in
+    let at-loop-test = at-entry-at .before in
+    let at-loop = at-loop-test .before in
+    let start = at-loop .before .before .before .before .before .before .before .before in
+    let pre = start .pre in
+    let e = at-put-entry .put-entry .ensures in
+    turned _ _ _ _ _ _ _ _ _ _ _ _ (at-loop .loop .inv) (pre .1 .0 .1) (pre .1 .1)
+    (at-loop-test .loop-test .taken) _
+    (at-entry-at .entry-at .ensures) _ _ _ _ (e .0) (e .1 .0) (e .1 .1) (c .place-at2 .ensures)
 
 same-length : tie.Need-same-length Inv-loop μ-loop
 same-length c =
-    now-long _ _ _ _ _ _ _ _ _ _ _ _ (c .before .loop .inv) (c .before .before .before .before .before .before .before .before .before .pre .1 .0 .1) (c .before .before .before .before .before .before .before .before .before .pre .1 .1) .0
+    now-long _ _ _ _ _ _ _ _ _ _ _ _ (c .before .loop .inv) (c .before .before .before .before .before .before .before .before .before .pre .1 .0 .1)
+    (c .before .before .before .before .before .before .before .before .before .pre .1 .1) .0
 
 same-length-2 : tie.Need-same-length-2 Inv-loop μ-loop
 same-length-2 c =
-    now-long _ _ _ _ _ _ _ _ _ _ _ _ (c .before .loop .inv) (c .before .before .before .before .before .before .before .before .before .pre .1 .0 .1) (c .before .before .before .before .before .before .before .before .before .pre .1 .1) .1
+    now-long _ _ _ _ _ _ _ _ _ _ _ _ (c .before .loop .inv) (c .before .before .before .before .before .before .before .before .before .pre .1 .0 .1)
+    (c .before .before .before .before .before .before .before .before .before .pre .1 .1) .1
 
 returns : tie.Need-returns Inv-loop μ-loop
 returns c =
-    let e = ended _ _ _ _ _ _ _ _ _ _ _ _ (c .before .loop .inv) (c .before .before .before .before .before .before .before .before .before .pre .1 .0 .1) (c .before .before .before .before .before .before .before .before .before .pre .1 .1) (c .loop-test .left) _ (refl, refl, refl, refl, refl) in
+    let e = ended _ _ _ _ _ _ _ _ _ _ _ _ (c .before .loop .inv) (c .before .before .before .before .before .before .before .before .before .pre .1 .0 .1)
+    (c .before .before .before .before .before .before .before .before .before .pre .1 .1) (c .loop-test .left) _ (refl, refl, refl, refl, refl) in
     (e .0, (e .1, (e .2, refl)))
 
 pub skip-spec : {M : Type 1} → statement M
