@@ -164,7 +164,7 @@ for t in decl: o(f"use {sm(TIN.get(t, CR))}.declared.{t}.{{{t}}}")
 o(cfg["spec_uses"])
 o(f"use {pm(AIN)}.Again.{{LentAgain, lends-at, back-at, says-of, told, both}}")
 for t in decl: o(f"use {pm(TIN.get(t, CR))}.{t} as {t}-m\nuse {pm(TIN.get(t, CR))}.{t}.Laws as {t}-l")
-for f in fs: o(f"use {pm(fcr(f))}.{f} as {dash(f)}\nuse {pm(fcr(f))}.{f}.Symbol as {dash(f)}-def\nuse {pm(fcr(f))}.{f}.Symbol.{{name as #{fcr(f)}·{dash(f)}}}\nuse {pm(fcr(f))}.{f}.Met as {dash(f)}-thm")
+for f in fs: o(f"use {pm(fcr(f))}.{f} as {dash(f)}\nuse {pm(fcr(f))}.{f}.Symbol as {dash(f)}-def\nuse {pm(fcr(f))}.{f}.Symbol.{{name as #{dash(fcr(f))}·{dash(f)}}}\nuse {pm(fcr(f))}.{f}.Met as {dash(f)}-thm")
 o(f"""use {P}.{FMOD}{FN}.Key.{{name as {KEY}}}
 use {P}.{FMOD}{FN} as fn
 use {P}.{FMOD}{FN}.Statement as stated
@@ -353,7 +353,7 @@ o(f"""  exits : (u : Val){gv}{reqt}{tele(allk)} → ent 𝓤 (⋆ 𝓤 H A (‵ 
 """)
 # ---- the parts, from the last to the first
 rooms = "".join(f" (room-{n} : Room {elem(typ[n])} (length {n if kind[n] == 'sh' else n + '0'}))" for n in refs); roomsa = "".join(f" room-{n}" for n in refs)
-knowns = "".join(f" (known-{dash(f)} : Triple 𝓤 (𝓣 .C #{fcr(f)}·{dash(f)}) (C-{dash(f)} 𝓤 H A mem run))" for f in fs); knownsa = "".join(f" known-{dash(f)}" for f in fs)
+knowns = "".join(f" (known-{dash(f)} : Triple 𝓤 (𝓣 .C #{dash(fcr(f))}·{dash(f)}) (C-{dash(f)} 𝓤 H A mem run))" for f in fs); knownsa = "".join(f" known-{dash(f)}" for f in fs)
 def locs(vals):
     rows = []
     js = list(reversed(range(N)))
@@ -572,7 +572,7 @@ for i, (n, kd, t) in enumerate(PAR):
         ra.append(f"({pth('are', i)} .0 .1)")
 vals = lambda t: f"uint-vals {WD[t]}" if isint(t) else f"{'LL' if KIND[t] == 'struct' else 'EL'}.vals {t}-m.the-type {t}-l.the-laws"
 gll = {"sh": lambda n: f"goes-none-slice 𝓤 H A W {NL} ({lt[n]} ∷ []) tt (plain (λ _. {elem(typ[n])})) yes", "mut": lambda n: f"goes-slice 𝓤 H A W {NL} {lt[n]} tt (plain (λ _. {elem(typ[n])}))", "val": lambda n: f"goes-none 𝓤 H A W {NL} (λ _. {row(typ[n])}) yes (λ κs x f. refl)"}
-kt = "".join(f" → Triple 𝓤 (𝓣 .C #{fcr(f)}·{dash(f)}) (C-{dash(f)} 𝓤 H A mem run)" for f in fs)
+kt = "".join(f" → Triple 𝓤 (𝓣 .C #{dash(fcr(f))}·{dash(f)}) (C-{dash(f)} 𝓤 H A mem run)" for f in fs)
 o(f"""module _ {MOD} (W : Given 𝓤 H A) (mem : Memory → SProp 𝓤) (run : Routine → Fun 𝓤) where
   fn-walks : (𝓣 : Tables 𝓤 H) → FmC 𝓤 H (W .laws) (𝓣 .C){kt} → Walks 𝓤 H A fn.ended stayed (WpFn 𝓤 H (𝓣 .C) (𝓣 .Λ) fnX) (fn.clauses 𝓤 H A mem run)
   fn-walks 𝓣 fm{knownsa} = walked 𝓤 H A fn.ended stayed (fn.clauses 𝓤 H A mem run) (WpFn 𝓤 H (𝓣 .C) (𝓣 .Λ) fnX)
@@ -594,6 +594,6 @@ unfolding code.routine tablesOf
     entered 𝓤 H (tripleOf 𝓤 H (𝓖 .A) fn.signature (fn.spec 𝓤 H (𝓖 .A) (𝓜 .mem) (𝓡 .run)))
     (tables 𝓤 H 𝓜 𝓡 code.env .C) (tables 𝓤 H 𝓜 𝓡 code.env .Λ) {KEY} code.function (code.unfolded 𝓤 H 𝓜 𝓡)
     (fn-meets 𝓤 H (𝓖 .A) (givenOf 𝓤 H 𝓜 𝓖) (𝓜 .mem) (𝓡 .run) (tablesOf 𝓤 H 𝓜 (tables 𝓤 H 𝓜 𝓡 code.env))""")
-for f in fs: o(f"    (cited 𝓤 H (C-{dash(f)} 𝓤 H (𝓖 .A) (𝓜 .mem) (𝓡 .run)) 𝓜 𝓡 code.env #{fcr(f)}·{dash(f)} {dash(f)}-def.routine code.calls-{fcr(f)}·{dash(f)} ({dash(f)}-thm.met 𝓤 H 𝓜 𝓖 𝓡))")
+for f in fs: o(f"    (cited 𝓤 H (C-{dash(f)} 𝓤 H (𝓖 .A) (𝓜 .mem) (𝓡 .run)) 𝓜 𝓡 code.env #{dash(fcr(f))}·{dash(f)} {dash(f)}-def.routine code.calls-{dash(fcr(f))}·{dash(f)} ({dash(f)}-thm.met 𝓤 H 𝓜 𝓖 𝓡))")
 out[-1] += ")"
 print("\n".join(x for x in out if x != ""))

@@ -19,7 +19,7 @@ sm = lambda c: f"Rattle.{c}.specs" if c == CR else f"Rattle.{c}.specs"
 RIN, SIN, STIN, AIN = [cfg.get(x, CR) for x in ("record_in", "state_in", "step_in", "again_in")]   # the crates of the structs, of the step, and of Again.antt
 FMOD, SMOD = cfg.get("fn_mod", ""), cfg.get("step_mod", "")       # a module of the crate, as "a." for c::a::f
 dot = lambda q: q.replace(".", "·")
-KEY, SKEY = f"#{CR}·{dot(FMOD)}{dash(FN)}", f"#{STIN}·{dot(SMOD)}{dash(STEP)}"
+KEY, SKEY = f"#{dash(CR)}·{dot(FMOD)}{dash(FN)}", f"#{dash(STIN)}·{dot(SMOD)}{dash(STEP)}"
 W = {"u8": "w8", "u16": "w16", "u32": "w32", "u64": "w64", "usize": "w64"}
 shs = [(1 + j, n, e) for j, (n, e) in enumerate(SH)]
 mus = [(1 + k + j, n, e) for j, (n, e) in enumerate(MU)]

@@ -1,5 +1,5 @@
 // Replacing stretches of a recording's data (document 01, module 5): the steps of the scan and of the writing, and `write_replaced_flat`, whose records are flat numbers, four each, as C lends them.
-// `write_replaced` over a list of structs stands in crate `replaced`: one definition, two front doors.
+// `write_replaced` over a list of structs stands in crate `replace_records`: one definition, two front doors.
 // All records are scanned first, for refusal 8 and for the size of the result, and written only then. Both scans hand each record, with a state by value, to a step.
 // What the call answers and leaves is the `outcome` of the job `replace` in `layout/specs/Layout.antt`; the records behind the numbers are `recordsOf` of `specs/Records.antt`.
 use chars::LEADS;
@@ -21,10 +21,9 @@ ghost use mathlib.Core.List.{_∷_};
 ghost use lib.ListN.{length, drop};
 ghost use Rattle.recording.specs.Recording.{recording, items};
 ghost use Rattle.recording.specs.Edit.{edit};
-ghost use Rattle.recording.specs.Outcome.{answerOf, returned, lentAfter};
 ghost use Rattle.writer.specs.Write.{out, add, blank, Fits, Sound};
-ghost use Rattle.layout.specs.Layout.{badRecord, recordsFault, replaceOps, replace, outcome};
-ghost use Rattle.layout.specs.Lent.{lentOf, callOn};
+ghost use Rattle.layout.specs.Layout.{badRecord, recordsFault, replaceOps, replace};
+ghost use Rattle.layout.specs.Lent.{lentOf, Leaves};
 ghost use Rattle.replace.specs.Records.{replacement, recordsOf, capped, scan, checkStep, checkAll};
 ghost use Rattle.replace.specs.Turn.{Turn, Turned};
 
@@ -143,7 +142,8 @@ pub fn write_step(
     texts: &mut [u8],
 ) -> Cursor
     requires { ⌜ Turn (now content) (now entries) (now text) (now new) x c (out (now bytes) (now numbers) (now texts) c) ⌝ }
-    ensures { λ r. ⌜ Turned (now (content .entry)) (now (entries .entry)) (now (text .entry)) (now (new .entry)) x c r (out (now (bytes .entry)) (now (numbers .entry)) (now (texts .entry)) c) (out (now (bytes .exit)) (now (numbers .exit)) (now (texts .exit)) r) ⌝ }
+    ensures { λ r. ⌜ Turned (now (content .entry)) (now (entries .entry)) (now (text .entry)) (now (new .entry)) x c r
+        (out (now (bytes .entry)) (now (numbers .entry)) (now (texts .entry)) c) (out (now (bytes .exit)) (now (numbers .exit)) (now (texts .exit)) r) ⌝ }
 {
     let a = keep(
         bytes,
@@ -181,8 +181,11 @@ pub fn write_records(
 ) -> Cursor
     requires { ⌜ Sound (now content) (now entries) (now text) ⌝ }
     requires { ⌜ recordsFault 0 (length (now content)) (length (now new)) (recordsOf (now records)) ≡ 0 ⌝ }
-    requires { ⌜ Fits (edit (replaceOps (now new) 0 (recordsOf (now records))) (items (recording (now content) (now entries) (now text)))) (blank (now bytes) (now numbers) (now texts)) ⌝ }
-    ensures { λ r. ⌜ out (now (bytes .exit)) (now (numbers .exit)) (now (texts .exit)) r ≡ add (edit (replaceOps (now (new .entry)) 0 (recordsOf (now (records .entry)))) (items (recording (now (content .entry)) (now (entries .entry)) (now (text .entry))))) (blank (now (bytes .entry)) (now (numbers .entry)) (now (texts .entry))) ⌝ }
+    requires { ⌜ Fits (edit (replaceOps (now new) 0 (recordsOf (now records))) (items (recording (now content) (now entries) (now text))))
+        (blank (now bytes) (now numbers) (now texts)) ⌝ }
+    ensures { λ r. ⌜ out (now (bytes .exit)) (now (numbers .exit)) (now (texts .exit)) r
+        ≡ add (edit (replaceOps (now (new .entry)) 0 (recordsOf (now (records .entry)))) (items (recording (now (content .entry)) (now (entries .entry)) (now (text .entry)))))
+        (blank (now (bytes .entry)) (now (numbers .entry)) (now (texts .entry))) ⌝ }
 {
     let mut c = Cursor {
         at: 0,
@@ -229,10 +232,8 @@ pub fn write_replaced_flat(
     numbers: &mut [u32],
     texts: &mut [u8],
 ) -> Answer
-    ensures { λ r. ⌜ answerOf r ≡ returned (outcome (callOn (replace (recordsOf (now (records .entry))) (now (new .entry))) (now (bytes .entry)) (now (numbers .entry)) (now (texts .entry))) (recording (now (content .entry)) (now (entries .entry)) (now (text .entry)))) ⌝ }
-    ensures { λ r. ⌜ now (bytes .exit) ≡ lentAfter (outcome (callOn (replace (recordsOf (now (records .entry))) (now (new .entry))) (now (bytes .entry)) (now (numbers .entry)) (now (texts .entry))) (recording (now (content .entry)) (now (entries .entry)) (now (text .entry)))) (lentOf (now (bytes .entry)) (now (numbers .entry)) (now (texts .entry))) .dataBytes ⌝ }
-    ensures { λ r. ⌜ now (numbers .exit) ≡ lentAfter (outcome (callOn (replace (recordsOf (now (records .entry))) (now (new .entry))) (now (bytes .entry)) (now (numbers .entry)) (now (texts .entry))) (recording (now (content .entry)) (now (entries .entry)) (now (text .entry)))) (lentOf (now (bytes .entry)) (now (numbers .entry)) (now (texts .entry))) .entryNumbers ⌝ }
-    ensures { λ r. ⌜ now (texts .exit) ≡ lentAfter (outcome (callOn (replace (recordsOf (now (records .entry))) (now (new .entry))) (now (bytes .entry)) (now (numbers .entry)) (now (texts .entry))) (recording (now (content .entry)) (now (entries .entry)) (now (text .entry)))) (lentOf (now (bytes .entry)) (now (numbers .entry)) (now (texts .entry))) .text ⌝ }
+    ensures { λ r. ⌜ Leaves (replace (recordsOf (now (records .entry))) (now (new .entry))) (recording (now (content .entry)) (now (entries .entry)) (now (text .entry)))
+        (lentOf (now (bytes .entry)) (now (numbers .entry)) (now (texts .entry))) (lentOf (now (bytes .exit)) (now (numbers .exit)) (now (texts .exit))) r ⌝ }
 {
     let t = LEADS;
     let checked = check(&t, content, entries, text);

@@ -1,3 +1,2 @@
 pub mod PlanLaws
 pub mod SizeLaws
-pub mod CallLaws

@@ -1,27 +1,23 @@
--- The sizes of a wrapped content: the bytes that the lines show and a 0A between neighbours; entries and texts are the content's.
+-- How many data bytes a wrapped content has: those that the lines show and a 0A between neighbours; and sizes that have room.
 -- The idea: the lines are in order and within the data, so that each keep of the plan is as long as its line.
-use Prim.Native.Nat.{ℕ, suc, _+_, _-_, _*_, _≤_, _<_}
+use Prim.Native.Nat.{ℕ, suc, _+_, _-_, _≤_, _<_}
 use native.Mathlib.Omega.{arith}
 use mathlib.Core.Bool.{Bool, true, false, cond, _||_}
-use mathlib.Core.Path.{_≡_, refl, ap, _∙_}
+use mathlib.Core.Path.{_≡_, refl, sym, ap, _∙_}
 use mathlib.Core.List.{List, [], _∷_}
 use lib.Dec.{ltb, eqb}
 use lib.ListN.{length, take, drop, length-append, length-drop}
 use lib.Seq.{length-take-le}
 use borrow.Author.Tests.{ltb-false}
-use Rattle.recording.specs.Recording.{recording, Item, items, dataOf, textOf}
 use Rattle.recording.specs.Edit.{editData}
-use Rattle.recording.specs.Refusals.{recordingFault, firstOf, refuseIf, dataLimit, entryLimit, textLimit}
+use Rattle.recording.specs.Refusals.{firstOf, refuseIf, dataLimit, entryLimit, textLimit}
 use Rattle.recording.specs.Outcome.{Room}
 use Rattle.recording.proofs.Lists.{AllOf, all-append, or-left, or-right}
 use Rattle.recording.proofs.FaultLaws.{firstOf-zero, refuseIf-zero}
-use Rattle.recording.proofs.ItemsLaws.{data-items}
-use Rattle.recording.proofs.EditLaws.{edit-data}
-use Rattle.recording.proofs.SizeLaws.{entryCount, count-numbers, putCount, edit-count, putText, edit-text}
 use Rattle.writer.specs.Sizes.{sizesFault}
-use Rattle.writer.proofs.Sizes.{all-fit, numbers-items, quads-of}
+use Rattle.writer.proofs.Sizes.{all-fit}
 use Rattle.layout.specs.Wrap.{ontoFirst, splitLines, Word, Line, wholeLen, groupLines, wrappedLine, linesFrom, wrapLines}
-use Rattle.layout.specs.Layout.{wrapOps, wrap, resultItems}
+use Rattle.layout.specs.Layout.{wrapOps, writeWrapped, singleOps}
 use Rattle.layout.proofs.StepLaws.{Ordered}
 use Rattle.layout.proofs.WordLaws.{shown-whole, wholes, wholes-fitted, wrap-ordered}
 use Rattle.wrap_lines.specs.WrapBytes.{shownBytes}
@@ -94,32 +90,8 @@ lines-data : (n : ℕ) (ls : List Line) (d : List ℕ) → length d ≡ n → 0 
 lines-data n [] d e s o h = absurd (omega arith)
 lines-data n (l ∷ ls) d e s o h = omega (arith, plan-data n 0 l ls d (omega (arith, e)) o h)
 
--- ── no entry and no text is put in
-no-entries : (n at : ℕ) (ls : List Line) → (putCount (wrapOps n at ls) ≡ 0) × (putText (wrapOps n at ls) ≡ 0)
-no-entries n at [] = (refl, refl)
-no-entries n at (l ∷ []) = (refl, refl)
-no-entries n at (l ∷ m ∷ ls) = let k = no-entries n (l .end) (m ∷ ls) in (omega (arith, k .0), omega (arith, k .1))
-
--- ── the sizes of the result
-module _ (w : ℕ) (b : Bool) (ds ns ts : List ℕ) where
-  pub data-size : length (dataOf (resultItems (wrap w b) (recording ds ns ts))) ≡ joinedLen (wrapLines w b ds)
-  unfolding resultItems
-  data-size =
-      let ls : List Line = wrapLines w b ds in
-      let o = wrap-ordered w b ds in
-      ap length (edit-data (wrapOps (length ds) 0 ls) (items (recording ds ns ts))) ∙ ap (λ (d : List ℕ). length (editData (wrapOps (length ds) 0 ls) d)) (data-items (recording ds ns ts))
-      ∙ lines-data (length ds) ls ds refl (o .1) (o .0) (line-ends w b ds)
-
-  pub entry-size : recordingFault (recording ds ns ts) ≡ 0 → length ns ≡ 4 * entryCount (resultItems (wrap w b) (recording ds ns ts))
-  unfolding resultItems
-  entry-size h =
-      let ops = wrapOps (length ds) 0 (wrapLines w b ds) in
-      let is : List Item = items (recording ds ns ts) in
-      omega (arith, edit-count ops is, no-entries (length ds) 0 (wrapLines w b ds) .0, count-numbers is 0 0, numbers-items ds ns ts (quads-of ds ns ts h))
-
-  pub text-size : length (textOf (items (recording ds ns ts))) ≡ length (textOf (resultItems (wrap w b) (recording ds ns ts)))
-  unfolding resultItems
-  text-size = omega (arith, edit-text (wrapOps (length ds) 0 (wrapLines w b ds)) (items (recording ds ns ts)), no-entries (length ds) 0 (wrapLines w b ds) .1)
+pub data-size : (w : ℕ) (b : Bool) (d : List ℕ) → joinedLen (wrapLines w b d) ≡ length (editData (singleOps (writeWrapped w b) d) d)
+data-size w b d = let o = wrap-ordered w b d in sym (lines-data (length d) (wrapLines w b d) d refl (o .1) (o .0) (line-ends w b d))
 
 -- ── sizes that nothing refuses
 pub record Within (d e t l : ℕ) (o : Room) : Type 0 where

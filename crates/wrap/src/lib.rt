@@ -25,12 +25,12 @@ ghost use Rattle.chars.specs.Leads.{leadTable};
 ghost use Rattle.buffer.specs.Place.{over, overAt};
 ghost use Rattle.recording.specs.Recording.{recording};
 ghost use Rattle.recording.specs.Refusals.{dataLimit};
-ghost use Rattle.recording.specs.Outcome.{answerOf, returned, lentAfter};
 ghost use Rattle.writer.specs.Sizes.{sizesFault, roomOf, settledFault};
 ghost use Rattle.writer.specs.Write.{out, add, Fits, Ready, Sound, left, blank};
 ghost use Rattle.layout.specs.Wrap.{lineNumbers, wrapLines};
-ghost use Rattle.layout.specs.Layout as layout;
-ghost use Rattle.wrap.specs.Plan.{lineItems, lineLeft, joinedLen, lentLined, callLined};
+ghost use Rattle.layout.specs.Layout.{wrap, resultItems};
+ghost use Rattle.layout.specs.Lent.{lentLined, Leaves};
+ghost use Rattle.wrap.specs.Plan.{lineItems, lineLeft, joinedLen};
 
 // Where the writing has come to, and how many lines it has listed.
 pub struct Wrapped {
@@ -53,8 +53,11 @@ fn put_line(
     requires { ⌜ Ready (now content) (now entries) (now text) from ⌝ }
     requires { ⌜ (from .at ≤ first) × (first ≤ end) × (end ≤ length (now content)) ⌝ }
     requires { ⌜ Fits (lineItems (first - from .at) (end - first) (left (now content) (now entries) (now text) from)) (out (now bytes) (now numbers) (now texts) from) ⌝ }
-    ensures { λ r. ⌜ out (now (bytes .exit)) (now (numbers .exit)) (now (texts .exit)) r ≡ add (lineItems (first - from .at) (end - first) (left (now (content .entry)) (now (entries .entry)) (now (text .entry)) from)) (out (now (bytes .entry)) (now (numbers .entry)) (now (texts .entry)) from) ⌝ }
-    ensures { λ r. ⌜ left (now (content .entry)) (now (entries .entry)) (now (text .entry)) r ≡ lineLeft (first - from .at) (end - first) (left (now (content .entry)) (now (entries .entry)) (now (text .entry)) from) ⌝ }
+    ensures { λ r. ⌜ out (now (bytes .exit)) (now (numbers .exit)) (now (texts .exit)) r
+        ≡ add (lineItems (first - from .at) (end - first) (left (now (content .entry)) (now (entries .entry)) (now (text .entry)) from))
+        (out (now (bytes .entry)) (now (numbers .entry)) (now (texts .entry)) from) ⌝ }
+    ensures { λ r. ⌜ left (now (content .entry)) (now (entries .entry)) (now (text .entry)) r
+        ≡ lineLeft (first - from .at) (end - first) (left (now (content .entry)) (now (entries .entry)) (now (text .entry)) from) ⌝ }
     ensures { λ r. ⌜ Ready (now (content .entry)) (now (entries .entry)) (now (text .entry)) r × (r .at ≡ end) ⌝ }
 {
     let c = skip(bytes, numbers, texts, content, entries, text, from, first);
@@ -85,10 +88,13 @@ fn put_wrapped(
 ) -> Wrapped
     requires { ⌜ now t ≡ leadTable ⌝ }
     requires { ⌜ Sound (now content) (now entries) (now text) ⌝ }
-    requires { ⌜ Fits (layout.resultItems (layout.wrap width «break_words») (recording (now content) (now entries) (now text))) (blank (now bytes) (now numbers) (now texts)) ⌝ }
+    requires { ⌜ Fits (resultItems (wrap width «break_words») (recording (now content) (now entries) (now text))) (blank (now bytes) (now numbers) (now texts)) ⌝ }
     requires { ⌜ length (lineNumbers (wrapLines width «break_words» (now content))) ≤ length (now lines) ⌝ }
-    ensures { λ r. ⌜ out (now (bytes .exit)) (now (numbers .exit)) (now (texts .exit)) (r .cursor) ≡ add (layout.resultItems (layout.wrap width «break_words») (recording (now (content .entry)) (now (entries .entry)) (now (text .entry)))) (blank (now (bytes .entry)) (now (numbers .entry)) (now (texts .entry))) ⌝ }
-    ensures { λ r. ⌜ (now (lines .exit) ≡ over (lineNumbers (wrapLines width «break_words» (now (content .entry)))) (now (lines .entry))) × (r .count ≡ length (wrapLines width «break_words» (now (content .entry)))) ⌝ }
+    ensures { λ r. ⌜ out (now (bytes .exit)) (now (numbers .exit)) (now (texts .exit)) (r .cursor)
+        ≡ add (resultItems (wrap width «break_words») (recording (now (content .entry)) (now (entries .entry)) (now (text .entry))))
+        (blank (now (bytes .entry)) (now (numbers .entry)) (now (texts .entry))) ⌝ }
+    ensures { λ r. ⌜ (now (lines .exit) ≡ over (lineNumbers (wrapLines width «break_words» (now (content .entry)))) (now (lines .entry)))
+        × (r .count ≡ length (wrapLines width «break_words» (now (content .entry)))) ⌝ }
 {
     let mut c = Cursor {
         at: 0,
@@ -156,7 +162,9 @@ fn settle_wrapped(
 ) -> Settled
     requires { ⌜ now leads ≡ leadTable ⌝ }
     requires { ⌜ length (now content) ≤ dataLimit ⌝ }
-    ensures { λ r. ⌜ settledFault r ≡ sizesFault (joinedLen (wrapLines width «break_words» (now (content .entry)))) e t (length (lineNumbers (wrapLines width «break_words» (now (content .entry))))) (roomOf bytes numbers texts lines) ⌝ }
+    ensures { λ r. ⌜ settledFault r
+        ≡ sizesFault (joinedLen (wrapLines width «break_words» (now (content .entry)))) e t (length (lineNumbers (wrapLines width «break_words» (now (content .entry)))))
+        (roomOf bytes numbers texts lines) ⌝ }
 {
     let largest = settle(
         most_bytes(content, width, break_words),
@@ -200,8 +208,9 @@ pub fn write_wrapped(
     texts: &mut [u8],
     lines: &mut [u32],
 ) -> Answer
-    ensures { λ r. ⌜ answerOf r ≡ returned (layout.outcome (callLined (layout.wrap width «break_words») (now (bytes .entry)) (now (numbers .entry)) (now (texts .entry)) (now (lines .entry))) (recording (now (content .entry)) (now (entries .entry)) (now (text .entry)))) ⌝ }
-    ensures { λ r. ⌜ lentLined (now (bytes .exit)) (now (numbers .exit)) (now (texts .exit)) (now (lines .exit)) ≡ lentAfter (layout.outcome (callLined (layout.wrap width «break_words») (now (bytes .entry)) (now (numbers .entry)) (now (texts .entry)) (now (lines .entry))) (recording (now (content .entry)) (now (entries .entry)) (now (text .entry)))) (lentLined (now (bytes .entry)) (now (numbers .entry)) (now (texts .entry)) (now (lines .entry))) ⌝ }
+    ensures { λ r. ⌜ Leaves (wrap width «break_words») (recording (now (content .entry)) (now (entries .entry)) (now (text .entry)))
+        (lentLined (now (bytes .entry)) (now (numbers .entry)) (now (texts .entry)) (now (lines .entry)))
+        (lentLined (now (bytes .exit)) (now (numbers .exit)) (now (texts .exit)) (now (lines .exit))) r ⌝ }
 {
     let t = LEADS;
     let checked = check(&t, content, entries, text);

@@ -7,6 +7,7 @@ use lib.ListN.{length}
 use Rattle.recording.specs.Recording.{Recording}
 use Rattle.recording.specs.Refusals.{dataLimit, refuseIf}
 use Rattle.recording.specs.Outcome.{Room, Result, Faults, Outcome, settle, Lent}
+use Rattle.layout.specs.Lent.{lentLined}
 use Rattle.layout.specs.Wrap.{Line, lineOf, lineNumbers, wrapLines}
 use Rattle.wrap_lines.specs.declared.Lines.{Lines}
 
@@ -30,7 +31,7 @@ abbrev pub lineRoom : ℕ → Room
 lineRoom n = record { dataBytes = 0; entryNumbers = 0; text = 0; lines = n }
 
 abbrev pub lentLines : List ℕ → Lent
-lentLines ls = record { dataBytes = []; entryNumbers = []; text = []; lines = ls }
+lentLines ls = lentLined [] [] [] ls
 
 abbrev pub wrapFaults : List ℕ → Faults
 wrapFaults d = record { lengths = 0; content = refuseIf (ltb dataLimit (length d)) 1; second = 0; added = 0; plain = 0; own = 0 }

@@ -13,7 +13,7 @@ ghost use lib.ListN.{length};
 ghost use Rattle.chars.specs.Leads.{leadTable};
 ghost use Rattle.buffer.specs.Place.{over, overAt};
 ghost use Rattle.recording.specs.Refusals.{dataLimit};
-ghost use Rattle.recording.specs.Outcome.{answerOf, returned, lentAfter};
+ghost use Rattle.recording.specs.Outcome.{Promised};
 ghost use Rattle.layout.specs.Wrap.{lineOf, lineNumbers, wrapLines};
 ghost use Rattle.wrap_lines.specs.WrapBytes.{lineSize, linesOf, lentLines, wrapBytesOutcome};
 
@@ -114,9 +114,10 @@ fn lines_fit(t: &[u16; 256], data: &[u8], width: u32, break_words: bool, room: u
 
 // The lines that the data is wrapped into, in `lines`; the number that comes back is their count.
 pub fn wrap_bytes(data: &[u8], width: u32, break_words: bool, lines: &mut [u32]) -> Answer
-    ensures { λ r. ⌜ answerOf r ≡ returned (wrapBytesOutcome width «break_words» (now («data» .entry)) (length (now (lines .entry)))) ⌝ }
-    ensures { λ _. ⌜ now (lines .exit) ≡ lentAfter (wrapBytesOutcome width «break_words» (now («data» .entry)) (length (now (lines .entry)))) (lentLines (now (lines .entry))) .lines ⌝ }
-    ensures { λ _. ⌜ (length (now («data» .entry)) ≤ dataLimit → length (wrapLines width «break_words» (now («data» .entry))) ≤ length (now («data» .entry)) + 1) ⌝ }
+    ensures { λ r. ⌜ Promised (wrapBytesOutcome width «break_words» (now («data» .entry)) (length (now (lines .entry))))
+        (lentLines (now (lines .entry))) (lentLines (now (lines .exit))) r ⌝ }
+    ensures { λ _. ⌜ (length (now («data» .entry)) ≤ dataLimit
+        → length (wrapLines width «break_words» (now («data» .entry))) ≤ length (now («data» .entry)) + 1) ⌝ }
 {
     if DATA_LIMIT < data.len() {
         return Answer::Refused(Refusal::DataTooLong);

@@ -61,7 +61,7 @@ use Rattle.replace.proofs.check_step as step
 use Rattle.replace.proofs.check_step.Symbol as step-def
 use Rattle.replace.proofs.check_step.Symbol.{name as #replace·check-step}
 use Rattle.replace.proofs.check_step.Met as step-thm
-use Rattle.replace_records.proofs.check_each.Key.{name as #replaced·check-each}
+use Rattle.replace_records.proofs.check_each.Key.{name as #replace-records·check-each}
 use Rattle.replace_records.proofs.check_each as fn
 use Rattle.replace_records.proofs.check_each.Statement as stated
 use Rattle.replace_records.proofs.check_each.Code as code
@@ -331,6 +331,6 @@ pub check-each-spec : {M : Type 1} → stated.statement M
 unfolding code.routine tablesOf
 check-each-spec 𝓤 H 𝓜 𝓖 𝓡 =
     entered 𝓤 H (tripleOf 𝓤 H (𝓖 .A) fn.signature (fn.spec 𝓤 H (𝓖 .A) (𝓜 .mem) (𝓡 .run)))
-    (tables 𝓤 H 𝓜 𝓡 code.env .C) (tables 𝓤 H 𝓜 𝓡 code.env .Λ) #replaced·check-each code.function (code.unfolded 𝓤 H 𝓜 𝓡)
+    (tables 𝓤 H 𝓜 𝓡 code.env .C) (tables 𝓤 H 𝓜 𝓡 code.env .Λ) #replace-records·check-each code.function (code.unfolded 𝓤 H 𝓜 𝓡)
     (fn-meets 𝓤 H (𝓖 .A) (givenOf 𝓤 H 𝓜 𝓖) (𝓜 .mem) (𝓡 .run) (tablesOf 𝓤 H 𝓜 (tables 𝓤 H 𝓜 𝓡 code.env))
     (cited 𝓤 H (StepC 𝓤 H (𝓖 .A) (𝓜 .mem) (𝓡 .run)) 𝓜 𝓡 code.env #replace·check-step step-def.routine code.calls-replace·check-step (step-thm.met 𝓤 H 𝓜 𝓖 𝓡)))

@@ -59,9 +59,9 @@ use Rattle.replace_records.proofs.Work as S
 use Rattle.replace_records.proofs.Work.Laws as S′
 use Rattle.replace_records.proofs.write_turn as step
 use Rattle.replace_records.proofs.write_turn.Symbol as step-def
-use Rattle.replace_records.proofs.write_turn.Symbol.{name as #replaced·write-turn}
+use Rattle.replace_records.proofs.write_turn.Symbol.{name as #replace-records·write-turn}
 use Rattle.replace_records.proofs.write_turn.Met as step-thm
-use Rattle.replace_records.proofs.write_each.Key.{name as #replaced·write-each}
+use Rattle.replace_records.proofs.write_each.Key.{name as #replace-records·write-each}
 use Rattle.replace_records.proofs.write_each as fn
 use Rattle.replace_records.proofs.write_each.Statement as stated
 use Rattle.replace_records.proofs.write_each.Code as code
@@ -254,7 +254,7 @@ module _ {M : Type 1} (𝓤 : URA M) (H : Heap 𝓤) (A : Atoms 𝓤) (W : Given
       join ! $ move ! (1 ∷ 0 ∷ []) $ join ! $ frame ! $ nothing ! $ move ! (8 ∷ 0 ∷ []) $ fjoin ! $ move ! (7 ∷ 0 ∷ []) $ fjoin ! $ move ! (6 ∷ 0 ∷ []) $ fjoin ! $ move ! (5 ∷ 0 ∷ []) $ fjoin ! $ move ! (4 ∷ 0 ∷ []) $ fjoin ! $
       move ! (3 ∷ 0 ∷ []) $ fjoin ! $ move ! (2 ∷ 0 ∷ []) $ fjoin ! $ owned ! RS (Is RS) (LL.makes S.the-type S′.the-plain 𝓤 H A) s₀ (machS s₀ ∷ []) g₀ $ fjoin ! $ move ! (1 ∷ 0 ∷ []) $ fjoin ! $ frame ! $ owned ! RS (Is RS) (LL.makes S.the-type S′.the-plain 𝓤 H A) (w .work) (machS (w .work) ∷ []) g $ done !
 
-  module _ (𝓣 : Tables 𝓤 H) (fm : FmC 𝓤 H (W .laws) (𝓣 .C)) (known : Triple 𝓤 (𝓣 .C #replaced·write-turn) (StepC 𝓤 H A mem run)) (gn : Room R n) (r1 : Room u8 (length (x1 .now))) (r2 : Room u32 (length (x2 .now))) (r3 : Room u8 (length (x3 .now))) (r4 : Room u8 (length (x4 .now))) (r5 : Room u8 (length us5)) (r6 : Room u32 (length us6)) (r7 : Room u8 (length us7)) (g₀ : GoodS s₀) (l0 l1 l2 l3 l4 l5 l6 l7 l8 l9 l10 l11 l12 l13 l14 l15 l16 l17 l18 l19 l20 l21 : ℕ) where
+  module _ (𝓣 : Tables 𝓤 H) (fm : FmC 𝓤 H (W .laws) (𝓣 .C)) (known : Triple 𝓤 (𝓣 .C #replace-records·write-turn) (StepC 𝓤 H A mem run)) (gn : Room R n) (r1 : Room u8 (length (x1 .now))) (r2 : Room u32 (length (x2 .now))) (r3 : Room u8 (length (x3 .now))) (r4 : Room u8 (length (x4 .now))) (r5 : Room u8 (length us5)) (r6 : Room u32 (length us6)) (r7 : Room u8 (length us7)) (g₀ : GoodS s₀) (l0 l1 l2 l3 l4 l5 l6 l7 l8 l9 l10 l11 l12 l13 l14 l15 l16 l17 l18 l19 l20 l21 : ℕ) where
     abbrev C : Calls 𝓤 H
     C = 𝓣 .C
 
@@ -434,7 +434,7 @@ module _ {M : Type 1} (𝓤 : URA M) (H : Heap 𝓤) (A : Atoms 𝓤) (W : Given
         assigns ! (of-opd ! (load ! (from ! (stop !)) (look ! 38 refl))) (from ! (stop !)) (init ! 22 refl (LL.lawful S.the-type S′.the-laws 𝓤 H A W .typed s₀ _ g₀ .0)) $
         assigns ! (of-opd ! (lit ! tt)) (from ! (stop !)) (init ! 20 refl (tt, record { fits = lit< tt })) $ by ! (loops fit)
 
-  walk : (𝓣 : Tables 𝓤 H) → FmC 𝓤 H (W .laws) (𝓣 .C) → Triple 𝓤 (𝓣 .C #replaced·write-turn) (StepC 𝓤 H A mem run) → (gn : Room R n) → (r1 : Room u8 (length (x1 .now))) → (r2 : Room u32 (length (x2 .now))) → (r3 : Room u8 (length (x3 .now))) → (r4 : Room u8 (length (x4 .now))) → (r5 : Room u8 (length us5)) → (r6 : Room u32 (length us6)) → (r7 : Room u8 (length us7)) → GoodS s₀ → MayTurns (x1 .now) (x2 .now) (x3 .now) (x4 .now) ys w₀
+  walk : (𝓣 : Tables 𝓤 H) → FmC 𝓤 H (W .laws) (𝓣 .C) → Triple 𝓤 (𝓣 .C #replace-records·write-turn) (StepC 𝓤 H A mem run) → (gn : Room R n) → (r1 : Room u8 (length (x1 .now))) → (r2 : Room u32 (length (x2 .now))) → (r3 : Room u8 (length (x3 .now))) → (r4 : Room u8 (length (x4 .now))) → (r5 : Room u8 (length us5)) → (r6 : Room u32 (length us6)) → (r7 : Room u8 (length us7)) → GoodS s₀ → MayTurns (x1 .now) (x2 .now) (x3 .now) (x4 .now) ys w₀
       → ent 𝓤 (onEntry 𝓤 H A fn.signature (κ0, (κ1, (κ2, (κ3, (κ4, (κ5, (κ6, (κ7, tt)))))))) (q0, (q1, (q2, (q3, (q4, (q5, (q6, (q7, tt)))))))) args at) (WpFn 𝓤 H (𝓣 .C) (𝓣 .Λ) fnX (v0 ∷ machS s₀ ∷ v1 ∷ v2 ∷ v3 ∷ v4 ∷ v5 ∷ v6 ∷ v7 ∷ []) Post)
   walk 𝓣 fm known gn r1 r2 r3 r4 r5 r6 r7 g₀ fit =
       qed W ((‵ (flft κ0 q0) ⊛ (‵ (flft κ1 q1) ⊛ (‵ (flft κ2 q2) ⊛ (‵ (flft κ3 q3) ⊛ (‵ (flft κ4 q4) ⊛ (‵ (flft κ5 q5) ⊛ (‵ (flft κ6 q6) ⊛ (‵ (flft κ7 q7) ⊛ (‵ ftrue))))))))) ∷ ‵ (owns (ShrSlice (named 0) κ0 R ∷ RS ∷ ShrSlice (named 1) κ1 u8 ∷ ShrSlice (named 2) κ2 u32 ∷ ShrSlice (named 3) κ3 u8 ∷ ShrSlice (named 4) κ4 u8 ∷ MutSlice (named 5) κ5 u8 ∷ MutSlice (named 6) κ6 u32 ∷ MutSlice (named 7) κ7 u8 ∷ []) args at) ∷ []) ∵ enter ! (𝓣 .C) (𝓣 .Λ) fnX (v0 ∷ machS s₀ ∷ v1 ∷ v2 ∷ v3 ∷ v4 ∷ v5 ∷ v6 ∷ v7 ∷ []) _ $
@@ -448,14 +448,14 @@ module _ {M : Type 1} (𝓤 : URA M) (H : Heap 𝓤) (A : Atoms 𝓤) (W : Given
       keep ! (19 ∷ 20 ∷ 21 ∷ 22 ∷ 23 ∷ 24 ∷ 25 ∷ 26 ∷ 27 ∷ 28 ∷ 29 ∷ 30 ∷ 31 ∷ 32 ∷ 33 ∷ 34 ∷ 35 ∷ 36 ∷ 37 ∷ 38 ∷ 39 ∷ 40 ∷ 41 ∷ 42 ∷ 43 ∷ 44 ∷ 45 ∷ 46 ∷ 47 ∷ 48 ∷ 49 ∷ 50 ∷ 51 ∷ 52 ∷ 53 ∷ 54 ∷ 55 ∷ 56 ∷ 57 ∷ 58 ∷ 59 ∷ 60 ∷ 61 ∷ 62 ∷ 8 ∷ 18 ∷ 7 ∷ 16 ∷ 6 ∷ 15 ∷ 5 ∷ 14 ∷ 4 ∷ 13 ∷ 3 ∷ 12 ∷ 2 ∷ 11 ∷ 1 ∷ 10 ∷ []) $ by ! (begins 𝓣 fm known gn r1 r2 r3 r4 r5 r6 r7 g₀ l0 l1 l2 l3 l4 l5 l6 l7 l8 l9 l10 l11 l12 l13 l14 l15 l16 l17 l18 l19 l20 l21 fit)))))))))))))))))))))))
 
 module _ {M : Type 1} (𝓤 : URA M) (H : Heap 𝓤) (A : Atoms 𝓤) (W : Given 𝓤 H A) (mem : Memory → SProp 𝓤) (run : Routine → Fun 𝓤) where
-  fn-walks : (𝓣 : Tables 𝓤 H) → FmC 𝓤 H (W .laws) (𝓣 .C) → Triple 𝓤 (𝓣 .C #replaced·write-turn) (StepC 𝓤 H A mem run) → Walks 𝓤 H A fn.ended stayed (WpFn 𝓤 H (𝓣 .C) (𝓣 .Λ) fnX) (fn.clauses 𝓤 H A mem run)
+  fn-walks : (𝓣 : Tables 𝓤 H) → FmC 𝓤 H (W .laws) (𝓣 .C) → Triple 𝓤 (𝓣 .C #replace-records·write-turn) (StepC 𝓤 H A mem run) → Walks 𝓤 H A fn.ended stayed (WpFn 𝓤 H (𝓣 .C) (𝓣 .Λ) fnX) (fn.clauses 𝓤 H A mem run)
   fn-walks 𝓣 fm known = walked 𝓤 H A fn.ended stayed (fn.clauses 𝓤 H A mem run) (WpFn 𝓤 H (𝓣 .C) (𝓣 .Λ) fnX)
       (λ κs. (slice-vals, (LL.vals S.the-type S′.the-laws, (slice-vals, (slice-vals, (slice-vals, (slice-vals, (slice-vals, (slice-vals, (slice-vals, tt))))))))))
       (λ κs. (shr-slice-tells (named 0) (κs .0) R, (LL.tells S.the-type S′.the-laws, (shr-slice-tells (named 1) (κs .1 .0) u8, (shr-slice-tells (named 2) (κs .1 .1 .0) u32, (shr-slice-tells (named 3) (κs .1 .1 .1 .0) u8, (shr-slice-tells (named 4) (κs .1 .1 .1 .1 .0) u8, (mut-slice-tells (named 5) (κs .1 .1 .1 .1 .1 .0) u8, (mut-slice-tells (named 6) (κs .1 .1 .1 .1 .1 .1 .0) u32, (mut-slice-tells (named 7) (κs .1 .1 .1 .1 .1 .1 .1 .0) u8, tt))))))))))
       (λ κs qs bounds a g are. needs 𝓤 _ _ (λ fit.
       walk 𝓤 H A W mem run (κs .0) (qs .0) (a .0 .ptr .0) (a .0 .ptr .1) (a .0 .name) (a .0 .now) (a .1 .0) (κs .1 .0) (qs .1 .0) (a .1 .1 .0) (κs .1 .1 .0) (qs .1 .1 .0) (a .1 .1 .1 .0) (κs .1 .1 .1 .0) (qs .1 .1 .1 .0) (a .1 .1 .1 .1 .0) (κs .1 .1 .1 .1 .0) (qs .1 .1 .1 .1 .0) (a .1 .1 .1 .1 .1 .0) (κs .1 .1 .1 .1 .1 .0) (qs .1 .1 .1 .1 .1 .0) (a .1 .1 .1 .1 .1 .1 .0 .ptr .0) (a .1 .1 .1 .1 .1 .1 .0 .ptr .1) (a .1 .1 .1 .1 .1 .1 .0 .name) (a .1 .1 .1 .1 .1 .1 .0 .now) (κs .1 .1 .1 .1 .1 .1 .0) (qs .1 .1 .1 .1 .1 .1 .0) (a .1 .1 .1 .1 .1 .1 .1 .0 .ptr .0) (a .1 .1 .1 .1 .1 .1 .1 .0 .ptr .1) (a .1 .1 .1 .1 .1 .1 .1 .0 .name) (a .1 .1 .1 .1 .1 .1 .1 .0 .now) (κs .1 .1 .1 .1 .1 .1 .1 .0) (qs .1 .1 .1 .1 .1 .1 .1 .0) (a .1 .1 .1 .1 .1 .1 .1 .1 .0 .ptr .0) (a .1 .1 .1 .1 .1 .1 .1 .1 .0 .ptr .1) (a .1 .1 .1 .1 .1 .1 .1 .1 .0 .name) (a .1 .1 .1 .1 .1 .1 .1 .1 .0 .now) 𝓣 fm known (are .0 .0 .1) (are .1 .1 .0 .0 .1) (are .1 .1 .1 .0 .0 .1) (are .1 .1 .1 .1 .0 .0 .1) (are .1 .1 .1 .1 .1 .0 .0 .1) (are .1 .1 .1 .1 .1 .1 .0 .0 .1) (are .1 .1 .1 .1 .1 .1 .1 .0 .0 .1) (are .1 .1 .1 .1 .1 .1 .1 .1 .0 .0 .1) (are .1 .0) fit))
 
-fn-meets : {M : Type 1} (𝓤 : URA M) (H : Heap 𝓤) (A : Atoms 𝓤) → Given 𝓤 H A → (mem : Memory → SProp 𝓤) (run : Routine → Fun 𝓤) (𝓣 : Tables 𝓤 H) → Triple 𝓤 (𝓣 .C #replaced·write-turn) (StepC 𝓤 H A mem run)
+fn-meets : {M : Type 1} (𝓤 : URA M) (H : Heap 𝓤) (A : Atoms 𝓤) → Given 𝓤 H A → (mem : Memory → SProp 𝓤) (run : Routine → Fun 𝓤) (𝓣 : Tables 𝓤 H) → Triple 𝓤 (𝓣 .C #replace-records·write-turn) (StepC 𝓤 H A mem run)
     → Meets 𝓤 H A fn.signature (WpFn 𝓤 H (𝓣 .C) (𝓣 .Λ) code.function) (fn.spec 𝓤 H A mem run)
 fn-meets 𝓤 H A W mem run 𝓣 known =
     subst (λ (f : Fn). Meets 𝓤 H A fn.signature (WpFn 𝓤 H (𝓣 .C) (𝓣 .Λ) f) (fn.spec 𝓤 H A mem run)) same
@@ -466,6 +466,6 @@ pub write-each-spec : {M : Type 1} → stated.statement M
 unfolding code.routine tablesOf
 write-each-spec 𝓤 H 𝓜 𝓖 𝓡 =
     entered 𝓤 H (tripleOf 𝓤 H (𝓖 .A) fn.signature (fn.spec 𝓤 H (𝓖 .A) (𝓜 .mem) (𝓡 .run)))
-    (tables 𝓤 H 𝓜 𝓡 code.env .C) (tables 𝓤 H 𝓜 𝓡 code.env .Λ) #replaced·write-each code.function (code.unfolded 𝓤 H 𝓜 𝓡)
+    (tables 𝓤 H 𝓜 𝓡 code.env .C) (tables 𝓤 H 𝓜 𝓡 code.env .Λ) #replace-records·write-each code.function (code.unfolded 𝓤 H 𝓜 𝓡)
     (fn-meets 𝓤 H (𝓖 .A) (givenOf 𝓤 H 𝓜 𝓖) (𝓜 .mem) (𝓡 .run) (tablesOf 𝓤 H 𝓜 (tables 𝓤 H 𝓜 𝓡 code.env))
-    (cited 𝓤 H (StepC 𝓤 H (𝓖 .A) (𝓜 .mem) (𝓡 .run)) 𝓜 𝓡 code.env #replaced·write-turn step-def.routine code.calls-replaced·write-turn (step-thm.met 𝓤 H 𝓜 𝓖 𝓡)))
+    (cited 𝓤 H (StepC 𝓤 H (𝓖 .A) (𝓜 .mem) (𝓡 .run)) 𝓜 𝓡 code.env #replace-records·write-turn step-def.routine code.calls-replace-records·write-turn (step-thm.met 𝓤 H 𝓜 𝓖 𝓡)))

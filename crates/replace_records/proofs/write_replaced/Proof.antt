@@ -61,25 +61,25 @@ use Rattle.replace_records.proofs.Work as Work-m
 use Rattle.replace_records.proofs.Work.Laws as Work-l
 use Rattle.replace_records.proofs.check_each as check-each
 use Rattle.replace_records.proofs.check_each.Symbol as check-each-def
-use Rattle.replace_records.proofs.check_each.Symbol.{name as #replaced·check-each}
+use Rattle.replace_records.proofs.check_each.Symbol.{name as #replace-records·check-each}
 use Rattle.replace_records.proofs.check_each.Met as check-each-thm
 use Rattle.replace_records.proofs.finish as finish
 use Rattle.replace_records.proofs.finish.Symbol as finish-def
-use Rattle.replace_records.proofs.finish.Symbol.{name as #replaced·finish}
+use Rattle.replace_records.proofs.finish.Symbol.{name as #replace-records·finish}
 use Rattle.replace_records.proofs.finish.Met as finish-thm
 use Rattle.replace_records.proofs.first as first
 use Rattle.replace_records.proofs.first.Symbol as first-def
-use Rattle.replace_records.proofs.first.Symbol.{name as #replaced·first}
+use Rattle.replace_records.proofs.first.Symbol.{name as #replace-records·first}
 use Rattle.replace_records.proofs.first.Met as first-thm
 use Rattle.replace_records.proofs.plan as plan
 use Rattle.replace_records.proofs.plan.Symbol as plan-def
-use Rattle.replace_records.proofs.plan.Symbol.{name as #replaced·plan}
+use Rattle.replace_records.proofs.plan.Symbol.{name as #replace-records·plan}
 use Rattle.replace_records.proofs.plan.Met as plan-thm
 use Rattle.replace_records.proofs.write_each as write-each
 use Rattle.replace_records.proofs.write_each.Symbol as write-each-def
-use Rattle.replace_records.proofs.write_each.Symbol.{name as #replaced·write-each}
+use Rattle.replace_records.proofs.write_each.Symbol.{name as #replace-records·write-each}
 use Rattle.replace_records.proofs.write_each.Met as write-each-thm
-use Rattle.replace_records.proofs.write_replaced.Key.{name as #replaced·write-replaced}
+use Rattle.replace_records.proofs.write_replaced.Key.{name as #replace-records·write-replaced}
 use Rattle.replace_records.proofs.write_replaced as fn
 use Rattle.replace_records.proofs.write_replaced.Statement as stated
 use Rattle.replace_records.proofs.write_replaced.Code as code
@@ -319,7 +319,7 @@ module _ {M : Type 1} (𝓤 : URA M) (H : Heap 𝓤) (A : Atoms 𝓤) (W : Given
       move ! (5 ∷ 0 ∷ []) $ fjoin ! $ move ! (4 ∷ 0 ∷ []) $ fjoin ! $ move ! (3 ∷ 0 ∷ []) $ fjoin ! $ move ! (2 ∷ 0 ∷ []) $ fjoin ! $ move ! (1 ∷ 0 ∷ []) $ fjoin ! $
       owned ! row-Work (Is row-Work) (LL.makes Work-m.the-type Work-l.the-plain 𝓤 H A) w (mach-Work w ∷ []) g-w $ fjoin ! $ done !
 
-  module _ (𝓣 : Tables 𝓤 H) (fm : FmC 𝓤 H (W .laws) (𝓣 .C)) (known-check-each : Triple 𝓤 (𝓣 .C #replaced·check-each) (C-check-each 𝓤 H A mem run)) (known-finish : Triple 𝓤 (𝓣 .C #replaced·finish) (C-finish 𝓤 H A mem run)) (known-first : Triple 𝓤 (𝓣 .C #replaced·first) (C-first 𝓤 H A mem run)) (known-plan : Triple 𝓤 (𝓣 .C #replaced·plan) (C-plan 𝓤 H A mem run)) (known-write-each : Triple 𝓤 (𝓣 .C #replaced·write-each) (C-write-each 𝓤 H A mem run)) (room-content : Room u8 (length content)) (room-entries : Room u32 (length entries)) (room-text : Room u8 (length text)) (room-records : Room row-Replacement (length records)) (room-new : Room u8 (length new)) (room-bytes : Room u8 (length bytes0)) (room-numbers : Room u32 (length numbers0)) (room-texts : Room u8 (length texts0)) (l0 l1 l2 l3 l4 l5 l6 l7 l8 l9 l10 l11 l12 l13 l14 l15 l16 l17 l18 l19 l20 l21 l22 l23 l24 l25 l26 l27 : ℕ) where
+  module _ (𝓣 : Tables 𝓤 H) (fm : FmC 𝓤 H (W .laws) (𝓣 .C)) (known-check-each : Triple 𝓤 (𝓣 .C #replace-records·check-each) (C-check-each 𝓤 H A mem run)) (known-finish : Triple 𝓤 (𝓣 .C #replace-records·finish) (C-finish 𝓤 H A mem run)) (known-first : Triple 𝓤 (𝓣 .C #replace-records·first) (C-first 𝓤 H A mem run)) (known-plan : Triple 𝓤 (𝓣 .C #replace-records·plan) (C-plan 𝓤 H A mem run)) (known-write-each : Triple 𝓤 (𝓣 .C #replace-records·write-each) (C-write-each 𝓤 H A mem run)) (room-content : Room u8 (length content)) (room-entries : Room u32 (length entries)) (room-text : Room u8 (length text)) (room-records : Room row-Replacement (length records)) (room-new : Room u8 (length new)) (room-bytes : Room u8 (length bytes0)) (room-numbers : Room u32 (length numbers0)) (room-texts : Room u8 (length texts0)) (l0 l1 l2 l3 l4 l5 l6 l7 l8 l9 l10 l11 l12 l13 l14 l15 l16 l17 l18 l19 l20 l21 l22 l23 l24 l25 l26 l27 : ℕ) where
     abbrev En : Env 𝓤 H
     En = (Answer-l.mir, l0) ∷ (sliceTy (tyRef (named 0) imm (tyInt w8)), l1) ∷ (sliceTy (tyRef (named 1) imm (tyInt w32)), l2) ∷ (sliceTy (tyRef (named 2) imm (tyInt w8)), l3) ∷ (sliceTy (tyRef (named 3) imm (pointee (row-Replacement .written))), l4) ∷ (sliceTy (tyRef (named 4) imm (tyInt w8)), l5) ∷ (sliceTy (tyRef (named 5) mut (tyInt w8)), l6) ∷ (sliceTy (tyRef (named 6) mut (tyInt w32)), l7) ∷ (sliceTy (tyRef (named 7) mut (tyInt w8)), l8) ∷ (Scan-l.mir, l9) ∷ (Work-l.mir, l10) ∷ (Work-l.mir, l11) ∷ (Scan-l.mir, l12) ∷ (word, l13) ∷ (word, l14) ∷ (word, l15) ∷ (tyRef erased mut (tyInt w8), l16) ∷ (sliceTy (tyRef erased mut (tyInt w8)), l17) ∷ (tyRef erased mut (tyInt w32), l18) ∷ (sliceTy (tyRef erased mut (tyInt w32)), l19) ∷ (tyRef erased mut (tyInt w8), l20) ∷ (sliceTy (tyRef erased mut (tyInt w8)), l21) ∷ (tyRef erased mut (tyInt w8), l22) ∷ (sliceTy (tyRef erased mut (tyInt w8)), l23) ∷ (tyRef erased mut (tyInt w32), l24) ∷ (sliceTy (tyRef erased mut (tyInt w32)), l25) ∷ (tyRef erased mut (tyInt w8), l26) ∷ (sliceTy (tyRef erased mut (tyInt w8)), l27) ∷ []
 
@@ -552,7 +552,7 @@ module _ {M : Type 1} (𝓤 : URA M) (H : Heap 𝓤) (A : Atoms 𝓤) (W : Given
         keep ! (0 ∷ 1 ∷ 2 ∷ 3 ∷ 4 ∷ 5 ∷ 6 ∷ 7 ∷ 8 ∷ 9 ∷ 10 ∷ 11 ∷ 12 ∷ 13 ∷ 14 ∷ 15 ∷ 16 ∷ 17 ∷ 18 ∷ 19 ∷ 20 ∷ 21 ∷ 22 ∷ 23 ∷ 24 ∷ 25 ∷ 26 ∷ 27 ∷ 28 ∷ 29 ∷ 30 ∷ 31 ∷ 32 ∷ 33 ∷ 34 ∷ 35 ∷ 36 ∷ 37 ∷ 38 ∷ 39 ∷ 40 ∷ 41 ∷ 42 ∷ 43 ∷ 44 ∷ 45 ∷ 46 ∷ 47 ∷ 48 ∷ 49 ∷ 50 ∷ 51 ∷ 52 ∷ 53 ∷ 54 ∷ 55 ∷ 56 ∷ 57 ∷ 58 ∷ 59 ∷ 60 ∷ 61 ∷ 62 ∷ 63 ∷ 64 ∷ 65 ∷ 66 ∷ 67 ∷ 68 ∷ 69 ∷ 70 ∷ 71 ∷ []) $
         by ! (part-2 z (subst (Is row-Scan z) ((LL.tells Scan-m.the-type Scan-l.the-laws) z (u ∷ []) is) is) E-z))))))
 
-  walk : (𝓣 : Tables 𝓤 H) (fm : FmC 𝓤 H (W .laws) (𝓣 .C)) (known-check-each : Triple 𝓤 (𝓣 .C #replaced·check-each) (C-check-each 𝓤 H A mem run)) (known-finish : Triple 𝓤 (𝓣 .C #replaced·finish) (C-finish 𝓤 H A mem run)) (known-first : Triple 𝓤 (𝓣 .C #replaced·first) (C-first 𝓤 H A mem run)) (known-plan : Triple 𝓤 (𝓣 .C #replaced·plan) (C-plan 𝓤 H A mem run)) (known-write-each : Triple 𝓤 (𝓣 .C #replaced·write-each) (C-write-each 𝓤 H A mem run)) (room-content : Room u8 (length content)) (room-entries : Room u32 (length entries)) (room-text : Room u8 (length text)) (room-records : Room row-Replacement (length records)) (room-new : Room u8 (length new)) (room-bytes : Room u8 (length bytes0)) (room-numbers : Room u32 (length numbers0)) (room-texts : Room u8 (length texts0))
+  walk : (𝓣 : Tables 𝓤 H) (fm : FmC 𝓤 H (W .laws) (𝓣 .C)) (known-check-each : Triple 𝓤 (𝓣 .C #replace-records·check-each) (C-check-each 𝓤 H A mem run)) (known-finish : Triple 𝓤 (𝓣 .C #replace-records·finish) (C-finish 𝓤 H A mem run)) (known-first : Triple 𝓤 (𝓣 .C #replace-records·first) (C-first 𝓤 H A mem run)) (known-plan : Triple 𝓤 (𝓣 .C #replace-records·plan) (C-plan 𝓤 H A mem run)) (known-write-each : Triple 𝓤 (𝓣 .C #replace-records·write-each) (C-write-each 𝓤 H A mem run)) (room-content : Room u8 (length content)) (room-entries : Room u32 (length entries)) (room-text : Room u8 (length text)) (room-records : Room row-Replacement (length records)) (room-new : Room u8 (length new)) (room-bytes : Room u8 (length bytes0)) (room-numbers : Room u32 (length numbers0)) (room-texts : Room u8 (length texts0))
       → ent 𝓤 (onEntry 𝓤 H A fn.signature (κ-content, (κ-entries, (κ-text, (κ-records, (κ-new, (κ-bytes, (κ-numbers, (κ-texts, tt)))))))) (q-content, (q-entries, (q-text, (q-records, (q-new, (q-bytes, (q-numbers, (q-texts, tt)))))))) args at) (WpFn 𝓤 H (𝓣 .C) (𝓣 .Λ) fnX (v-content ∷ v-entries ∷ v-text ∷ v-records ∷ v-new ∷ v-bytes ∷ v-numbers ∷ v-texts ∷ []) Post)
   walk 𝓣 fm known-check-each known-finish known-first known-plan known-write-each room-content room-entries room-text room-records room-new room-bytes room-numbers room-texts =
       qed W ((‵ (flft κ-content q-content) ⊛ (‵ (flft κ-entries q-entries) ⊛ (‵ (flft κ-text q-text) ⊛ (‵ (flft κ-records q-records) ⊛ (‵ (flft κ-new q-new) ⊛ (‵ (flft κ-bytes q-bytes) ⊛ (‵ (flft κ-numbers q-numbers) ⊛ (‵ (flft κ-texts q-texts) ⊛ (‵ ftrue))))))))) ∷ ‵ (owns (ShrSlice (named 0) κ-content u8 ∷ ShrSlice (named 1) κ-entries u32 ∷ ShrSlice (named 2) κ-text u8 ∷ ShrSlice (named 3) κ-records row-Replacement ∷ ShrSlice (named 4) κ-new u8 ∷ MutSlice (named 5) κ-bytes u8 ∷ MutSlice (named 6) κ-numbers u32 ∷ MutSlice (named 7) κ-texts u8 ∷ []) args at) ∷ []) ∵ enter ! (𝓣 .C) (𝓣 .Λ) fnX (v-content ∷ v-entries ∷ v-text ∷ v-records ∷ v-new ∷ v-bytes ∷ v-numbers ∷ v-texts ∷ []) _ $
@@ -566,14 +566,14 @@ module _ {M : Type 1} (𝓤 : URA M) (H : Heap 𝓤) (A : Atoms 𝓤) (W : Given
       keep ! (18 ∷ 19 ∷ 20 ∷ 21 ∷ 22 ∷ 23 ∷ 24 ∷ 25 ∷ 26 ∷ 27 ∷ 28 ∷ 29 ∷ 30 ∷ 31 ∷ 32 ∷ 33 ∷ 34 ∷ 35 ∷ 36 ∷ 37 ∷ 38 ∷ 39 ∷ 40 ∷ 41 ∷ 42 ∷ 43 ∷ 44 ∷ 45 ∷ 46 ∷ 47 ∷ 48 ∷ 49 ∷ 50 ∷ 51 ∷ 52 ∷ 53 ∷ 54 ∷ 55 ∷ 56 ∷ 57 ∷ 58 ∷ 59 ∷ 60 ∷ 61 ∷ 62 ∷ 63 ∷ 64 ∷ 65 ∷ 66 ∷ 67 ∷ 68 ∷ 69 ∷ 70 ∷ 71 ∷ 72 ∷ 73 ∷ 8 ∷ 17 ∷ 7 ∷ 16 ∷ 6 ∷ 15 ∷ 5 ∷ 14 ∷ 4 ∷ 13 ∷ 3 ∷ 12 ∷ 2 ∷ 11 ∷ 1 ∷ 10 ∷ []) $ by ! (part-1 𝓣 fm known-check-each known-finish known-first known-plan known-write-each room-content room-entries room-text room-records room-new room-bytes room-numbers room-texts l0 l1 l2 l3 l4 l5 l6 l7 l8 l9 l10 l11 l12 l13 l14 l15 l16 l17 l18 l19 l20 l21 l22 l23 l24 l25 l26 l27)))))))))))))))))))))))))))))
 
 module _ {M : Type 1} (𝓤 : URA M) (H : Heap 𝓤) (A : Atoms 𝓤) (W : Given 𝓤 H A) (mem : Memory → SProp 𝓤) (run : Routine → Fun 𝓤) where
-  fn-walks : (𝓣 : Tables 𝓤 H) → FmC 𝓤 H (W .laws) (𝓣 .C) → Triple 𝓤 (𝓣 .C #replaced·check-each) (C-check-each 𝓤 H A mem run) → Triple 𝓤 (𝓣 .C #replaced·finish) (C-finish 𝓤 H A mem run) → Triple 𝓤 (𝓣 .C #replaced·first) (C-first 𝓤 H A mem run) → Triple 𝓤 (𝓣 .C #replaced·plan) (C-plan 𝓤 H A mem run) → Triple 𝓤 (𝓣 .C #replaced·write-each) (C-write-each 𝓤 H A mem run) → Walks 𝓤 H A fn.ended stayed (WpFn 𝓤 H (𝓣 .C) (𝓣 .Λ) fnX) (fn.clauses 𝓤 H A mem run)
+  fn-walks : (𝓣 : Tables 𝓤 H) → FmC 𝓤 H (W .laws) (𝓣 .C) → Triple 𝓤 (𝓣 .C #replace-records·check-each) (C-check-each 𝓤 H A mem run) → Triple 𝓤 (𝓣 .C #replace-records·finish) (C-finish 𝓤 H A mem run) → Triple 𝓤 (𝓣 .C #replace-records·first) (C-first 𝓤 H A mem run) → Triple 𝓤 (𝓣 .C #replace-records·plan) (C-plan 𝓤 H A mem run) → Triple 𝓤 (𝓣 .C #replace-records·write-each) (C-write-each 𝓤 H A mem run) → Walks 𝓤 H A fn.ended stayed (WpFn 𝓤 H (𝓣 .C) (𝓣 .Λ) fnX) (fn.clauses 𝓤 H A mem run)
   fn-walks 𝓣 fm known-check-each known-finish known-first known-plan known-write-each = walked 𝓤 H A fn.ended stayed (fn.clauses 𝓤 H A mem run) (WpFn 𝓤 H (𝓣 .C) (𝓣 .Λ) fnX)
       (λ κs. (slice-vals, (slice-vals, (slice-vals, (slice-vals, (slice-vals, (slice-vals, (slice-vals, (slice-vals, tt)))))))))
       (λ κs. (shr-slice-tells (named 0) (κs .0) u8, (shr-slice-tells (named 1) (κs .1 .0) u32, (shr-slice-tells (named 2) (κs .1 .1 .0) u8, (shr-slice-tells (named 3) (κs .1 .1 .1 .0) row-Replacement, (shr-slice-tells (named 4) (κs .1 .1 .1 .1 .0) u8, (mut-slice-tells (named 5) (κs .1 .1 .1 .1 .1 .0) u8, (mut-slice-tells (named 6) (κs .1 .1 .1 .1 .1 .1 .0) u32, (mut-slice-tells (named 7) (κs .1 .1 .1 .1 .1 .1 .1 .0) u8, tt)))))))))
       (λ κs qs bounds a g are. via 𝓤 _ (fst∗ 𝓤 _ (emp 𝓤)) (
       walk 𝓤 H A W mem run (κs .0) (qs .0) (a .0) (κs .1 .0) (qs .1 .0) (a .1 .0) (κs .1 .1 .0) (qs .1 .1 .0) (a .1 .1 .0) (κs .1 .1 .1 .0) (qs .1 .1 .1 .0) (a .1 .1 .1 .0) (κs .1 .1 .1 .1 .0) (qs .1 .1 .1 .1 .0) (a .1 .1 .1 .1 .0) (κs .1 .1 .1 .1 .1 .0) (qs .1 .1 .1 .1 .1 .0) (a .1 .1 .1 .1 .1 .0 .ptr .0) (a .1 .1 .1 .1 .1 .0 .ptr .1) (a .1 .1 .1 .1 .1 .0 .name) (a .1 .1 .1 .1 .1 .0 .now) (κs .1 .1 .1 .1 .1 .1 .0) (qs .1 .1 .1 .1 .1 .1 .0) (a .1 .1 .1 .1 .1 .1 .0 .ptr .0) (a .1 .1 .1 .1 .1 .1 .0 .ptr .1) (a .1 .1 .1 .1 .1 .1 .0 .name) (a .1 .1 .1 .1 .1 .1 .0 .now) (κs .1 .1 .1 .1 .1 .1 .1 .0) (qs .1 .1 .1 .1 .1 .1 .1 .0) (a .1 .1 .1 .1 .1 .1 .1 .0 .ptr .0) (a .1 .1 .1 .1 .1 .1 .1 .0 .ptr .1) (a .1 .1 .1 .1 .1 .1 .1 .0 .name) (a .1 .1 .1 .1 .1 .1 .1 .0 .now) 𝓣 fm known-check-each known-finish known-first known-plan known-write-each (are .0 .0 .1) (are .1 .0 .0 .1) (are .1 .1 .0 .0 .1) (are .1 .1 .1 .0 .0 .1) (are .1 .1 .1 .1 .0 .0 .1) (are .1 .1 .1 .1 .1 .0 .0 .1) (are .1 .1 .1 .1 .1 .1 .0 .0 .1) (are .1 .1 .1 .1 .1 .1 .1 .0 .0 .1)))
 
-fn-meets : {M : Type 1} (𝓤 : URA M) (H : Heap 𝓤) (A : Atoms 𝓤) → Given 𝓤 H A → (mem : Memory → SProp 𝓤) (run : Routine → Fun 𝓤) (𝓣 : Tables 𝓤 H) → Triple 𝓤 (𝓣 .C #replaced·check-each) (C-check-each 𝓤 H A mem run) → Triple 𝓤 (𝓣 .C #replaced·finish) (C-finish 𝓤 H A mem run) → Triple 𝓤 (𝓣 .C #replaced·first) (C-first 𝓤 H A mem run) → Triple 𝓤 (𝓣 .C #replaced·plan) (C-plan 𝓤 H A mem run) → Triple 𝓤 (𝓣 .C #replaced·write-each) (C-write-each 𝓤 H A mem run)
+fn-meets : {M : Type 1} (𝓤 : URA M) (H : Heap 𝓤) (A : Atoms 𝓤) → Given 𝓤 H A → (mem : Memory → SProp 𝓤) (run : Routine → Fun 𝓤) (𝓣 : Tables 𝓤 H) → Triple 𝓤 (𝓣 .C #replace-records·check-each) (C-check-each 𝓤 H A mem run) → Triple 𝓤 (𝓣 .C #replace-records·finish) (C-finish 𝓤 H A mem run) → Triple 𝓤 (𝓣 .C #replace-records·first) (C-first 𝓤 H A mem run) → Triple 𝓤 (𝓣 .C #replace-records·plan) (C-plan 𝓤 H A mem run) → Triple 𝓤 (𝓣 .C #replace-records·write-each) (C-write-each 𝓤 H A mem run)
     → Meets 𝓤 H A fn.signature (WpFn 𝓤 H (𝓣 .C) (𝓣 .Λ) code.function) (fn.spec 𝓤 H A mem run)
 fn-meets 𝓤 H A W mem run 𝓣 known-check-each known-finish known-first known-plan known-write-each =
     subst (λ (f : Fn). Meets 𝓤 H A fn.signature (WpFn 𝓤 H (𝓣 .C) (𝓣 .Λ) f) (fn.spec 𝓤 H A mem run)) same
@@ -584,10 +584,10 @@ pub write-replaced-spec : {M : Type 1} → stated.statement M
 unfolding code.routine tablesOf
 write-replaced-spec 𝓤 H 𝓜 𝓖 𝓡 =
     entered 𝓤 H (tripleOf 𝓤 H (𝓖 .A) fn.signature (fn.spec 𝓤 H (𝓖 .A) (𝓜 .mem) (𝓡 .run)))
-    (tables 𝓤 H 𝓜 𝓡 code.env .C) (tables 𝓤 H 𝓜 𝓡 code.env .Λ) #replaced·write-replaced code.function (code.unfolded 𝓤 H 𝓜 𝓡)
+    (tables 𝓤 H 𝓜 𝓡 code.env .C) (tables 𝓤 H 𝓜 𝓡 code.env .Λ) #replace-records·write-replaced code.function (code.unfolded 𝓤 H 𝓜 𝓡)
     (fn-meets 𝓤 H (𝓖 .A) (givenOf 𝓤 H 𝓜 𝓖) (𝓜 .mem) (𝓡 .run) (tablesOf 𝓤 H 𝓜 (tables 𝓤 H 𝓜 𝓡 code.env))
-    (cited 𝓤 H (C-check-each 𝓤 H (𝓖 .A) (𝓜 .mem) (𝓡 .run)) 𝓜 𝓡 code.env #replaced·check-each check-each-def.routine code.calls-replaced·check-each (check-each-thm.met 𝓤 H 𝓜 𝓖 𝓡))
-    (cited 𝓤 H (C-finish 𝓤 H (𝓖 .A) (𝓜 .mem) (𝓡 .run)) 𝓜 𝓡 code.env #replaced·finish finish-def.routine code.calls-replaced·finish (finish-thm.met 𝓤 H 𝓜 𝓖 𝓡))
-    (cited 𝓤 H (C-first 𝓤 H (𝓖 .A) (𝓜 .mem) (𝓡 .run)) 𝓜 𝓡 code.env #replaced·first first-def.routine code.calls-replaced·first (first-thm.met 𝓤 H 𝓜 𝓖 𝓡))
-    (cited 𝓤 H (C-plan 𝓤 H (𝓖 .A) (𝓜 .mem) (𝓡 .run)) 𝓜 𝓡 code.env #replaced·plan plan-def.routine code.calls-replaced·plan (plan-thm.met 𝓤 H 𝓜 𝓖 𝓡))
-    (cited 𝓤 H (C-write-each 𝓤 H (𝓖 .A) (𝓜 .mem) (𝓡 .run)) 𝓜 𝓡 code.env #replaced·write-each write-each-def.routine code.calls-replaced·write-each (write-each-thm.met 𝓤 H 𝓜 𝓖 𝓡)))
+    (cited 𝓤 H (C-check-each 𝓤 H (𝓖 .A) (𝓜 .mem) (𝓡 .run)) 𝓜 𝓡 code.env #replace-records·check-each check-each-def.routine code.calls-replace-records·check-each (check-each-thm.met 𝓤 H 𝓜 𝓖 𝓡))
+    (cited 𝓤 H (C-finish 𝓤 H (𝓖 .A) (𝓜 .mem) (𝓡 .run)) 𝓜 𝓡 code.env #replace-records·finish finish-def.routine code.calls-replace-records·finish (finish-thm.met 𝓤 H 𝓜 𝓖 𝓡))
+    (cited 𝓤 H (C-first 𝓤 H (𝓖 .A) (𝓜 .mem) (𝓡 .run)) 𝓜 𝓡 code.env #replace-records·first first-def.routine code.calls-replace-records·first (first-thm.met 𝓤 H 𝓜 𝓖 𝓡))
+    (cited 𝓤 H (C-plan 𝓤 H (𝓖 .A) (𝓜 .mem) (𝓡 .run)) 𝓜 𝓡 code.env #replace-records·plan plan-def.routine code.calls-replace-records·plan (plan-thm.met 𝓤 H 𝓜 𝓖 𝓡))
+    (cited 𝓤 H (C-write-each 𝓤 H (𝓖 .A) (𝓜 .mem) (𝓡 .run)) 𝓜 𝓡 code.env #replace-records·write-each write-each-def.routine code.calls-replace-records·write-each (write-each-thm.met 𝓤 H 𝓜 𝓖 𝓡)))

@@ -5,6 +5,8 @@ use borrow.Author.Tests.{leb-true, leb-false, not-true, not-false}
 use Rattle.wrap_lines.proofs.WrapLaws as laws
 use Rattle.wrap_lines.proofs.BoundLaws.{lines-few}
 use Rattle.recording.specs.Outcome.{answerOf, returned, lentAfter}
+use Rattle.buffer.specs.Place.{over}
+use Rattle.wrap_lines.specs.WrapBytes.{lentLines}
 use Rattle.chars.specs.Leads.{leadTable}
 use lib.ListN.{length}
 use mathlib.Core.Path.{refl, sym, _∙_}
@@ -19,7 +21,7 @@ returns : tie.Need-returns
 unfolding answerOf returned lentAfter
 returns c =
     let a = c .before .before .before .args in
-    rw (laws.outcome-long (a .width) (a .break-words) (a .«data» .now) (length (a .lines .now)) (c .if1 .taken)) (refl, (refl, λ h. absurd (omega (arith, h, c .if1 .taken))))
+    (rw (laws.outcome-long (a .width) (a .break-words) (a .«data» .now) (length (a .lines .now)) (c .if1 .taken)) (refl, refl), λ h. absurd (omega (arith, h, c .if1 .taken)))
 
 lines-fit-requires : tie.Need-lines-fit-requires
 unfolding leadTable
@@ -30,8 +32,10 @@ unfolding answerOf returned lentAfter
 returns-2 c =
     let a = c .before .before .before .before .before .before .args in
     let f = c .before .lines-fit in
-    let h = leb-false _ _ (sym (f .ensures) ∙ not-true (f .result) (c .if2 .taken)) in
-    rw (laws.outcome-short (a .width) (a .break-words) (a .«data» .now) (length (a .lines .now)) (c .before .before .before .if1 .left) h) (refl, (refl, λ d. lines-few (a .width) (a .break-words) (a .«data» .now) d))
+    let h = leb-false _ _ (sym (f .ensures) ∙ not-true (f .result) (c .if2 .taken)) in (
+      rw (laws.outcome-short (a .width) (a .break-words) (a .«data» .now) (length (a .lines .now)) (c .before .before .before .if1 .left) h) (refl, refl),
+      λ d. lines-few (a .width) (a .break-words) (a .«data» .now) d,
+    )
 
 write-lines-requires : tie.Need-write-lines-requires
 unfolding leadTable
@@ -43,14 +47,16 @@ same-length : tie.Need-same-length
 same-length c = search needs
 
 returns-3 : tie.Need-returns-3
-unfolding answerOf returned lentAfter
+unfolding answerOf returned lentAfter over
 returns-3 c =
     let a = c .before .before .before .before .before .before .before .before .before .before .before .args in
     let f = c .before .before .before .before .before .before .lines-fit in
     let w = c .before .before .write-lines .ensures in
-    let h = leb-true _ _ (sym (f .ensures) ∙ not-false (f .result) (c .before .before .before .before .before .if2 .left)) in
-    rw (laws.outcome-done (a .width) (a .break-words) (a .«data» .now) (length (a .lines .now)) (c .before .before .before .before .before .before .before .before .if1 .left) h)
-    (λ i. record { refusal = 0; dataBytes = 0; entryNumbers = 0; text = 0; number = w .1 i }, (w .0, λ d. lines-few (a .width) (a .break-words) (a .«data» .now) d))
+    let h = leb-true _ _ (sym (f .ensures) ∙ not-false (f .result) (c .before .before .before .before .before .if2 .left)) in (
+      rw (laws.outcome-done (a .width) (a .break-words) (a .«data» .now) (length (a .lines .now)) (c .before .before .before .before .before .before .before .before .if1 .left) h)
+          (λ i. record { refusal = 0; dataBytes = 0; entryNumbers = 0; text = 0; number = w .1 i }, λ i. lentLines (w .0 i)),
+      λ d. lines-few (a .width) (a .break-words) (a .«data» .now) d,
+    )
 
 pub wrap-bytes-spec : {M : Type 1} → statement M
 wrap-bytes-spec =
