@@ -1,10 +1,10 @@
 // Indenting: `write_indented` (document 01, module 3), the prefix, a recording, before every line that is not empty.
-// It has one equation: answer and buffers are those of `outcome` (layout) for the job `indent`.
+// It keeps one promise, `Leaves` (layout), for the job `indent`.
 // `bytes`, `numbers` and `texts` are the lent buffers; `content`, `entries` and `text` the recording that is indented.
 use chars::LEADS;
 use recording::Answer;
-use recording::Checked;
-use recording::check;
+use recording::CheckedBoth;
+use recording::check_both;
 use writer::Cursor;
 use writer::Settled;
 use writer::keep;
@@ -17,10 +17,9 @@ ghost use lib.Dec.{ltb};
 ghost use lib.ListN.{length, drop};
 ghost use Rattle.recording.specs.Recording.{recording, items};
 ghost use Rattle.recording.specs.Edit.{edit};
-ghost use Rattle.recording.specs.Outcome.{answerOf, returned, lentAfter};
 ghost use Rattle.writer.specs.Write.{out, add, blank, Fits, Sound};
-ghost use Rattle.layout.specs.Layout.{indentOps, indent, outcome};
-ghost use Rattle.layout.specs.Lent.{lentOf, callOn};
+ghost use Rattle.layout.specs.Layout.{indentOps, indent};
+ghost use Rattle.layout.specs.Lent.{lentOf, Leaves};
 ghost use Rattle.indent.specs.Lines.{filledLines, toNext, toBreak};
 
 // Whether one of the 16 bytes from `at` on is 0A. Without an early exit, so that all of them are compared at once.
@@ -123,8 +122,11 @@ fn put_indented(
     prefix_text: &[u8],
 ) -> Cursor
     requires { ⌜ Sound (now content) (now entries) (now text) × Sound (now prefix) (now «prefix_entries») (now «prefix_text») ⌝ }
-    requires { ⌜ Fits (edit (indentOps (items (recording (now prefix) (now «prefix_entries») (now «prefix_text»))) true (now content)) (items (recording (now content) (now entries) (now text)))) (blank (now bytes) (now numbers) (now texts)) ⌝ }
-    ensures { λ r. ⌜ out (now (bytes .exit)) (now (numbers .exit)) (now (texts .exit)) r ≡ add (edit (indentOps (items (recording (now (prefix .entry)) (now («prefix_entries» .entry)) (now («prefix_text» .entry)))) true (now (content .entry))) (items (recording (now (content .entry)) (now (entries .entry)) (now (text .entry))))) (blank (now (bytes .entry)) (now (numbers .entry)) (now (texts .entry))) ⌝ }
+    requires { ⌜ Fits (edit (indentOps (items (recording (now prefix) (now «prefix_entries») (now «prefix_text»))) true (now content))
+        (items (recording (now content) (now entries) (now text)))) (blank (now bytes) (now numbers) (now texts)) ⌝ }
+    ensures { λ r. ⌜ out (now (bytes .exit)) (now (numbers .exit)) (now (texts .exit)) r
+        ≡ add (edit (indentOps (items (recording (now (prefix .entry)) (now («prefix_entries» .entry)) (now («prefix_text» .entry)))) true (now (content .entry)))
+        (items (recording (now (content .entry)) (now (entries .entry)) (now (text .entry))))) (blank (now (bytes .entry)) (now (numbers .entry)) (now (texts .entry))) ⌝ }
 {
     let mut c = Cursor {
         at: 0,
@@ -171,31 +173,31 @@ pub fn write_indented(
     numbers: &mut [u32],
     texts: &mut [u8],
 ) -> Answer
-    ensures { λ r. ⌜ answerOf r ≡ returned (outcome (callOn (indent (recording (now (prefix .entry)) (now («prefix_entries» .entry)) (now («prefix_text» .entry)))) (now (bytes .entry)) (now (numbers .entry)) (now (texts .entry))) (recording (now (content .entry)) (now (entries .entry)) (now (text .entry)))) ⌝ }
-    ensures { λ r. ⌜ now (bytes .exit) ≡ lentAfter (outcome (callOn (indent (recording (now (prefix .entry)) (now («prefix_entries» .entry)) (now («prefix_text» .entry)))) (now (bytes .entry)) (now (numbers .entry)) (now (texts .entry))) (recording (now (content .entry)) (now (entries .entry)) (now (text .entry)))) (lentOf (now (bytes .entry)) (now (numbers .entry)) (now (texts .entry))) .dataBytes ⌝ }
-    ensures { λ r. ⌜ now (numbers .exit) ≡ lentAfter (outcome (callOn (indent (recording (now (prefix .entry)) (now («prefix_entries» .entry)) (now («prefix_text» .entry)))) (now (bytes .entry)) (now (numbers .entry)) (now (texts .entry))) (recording (now (content .entry)) (now (entries .entry)) (now (text .entry)))) (lentOf (now (bytes .entry)) (now (numbers .entry)) (now (texts .entry))) .entryNumbers ⌝ }
-    ensures { λ r. ⌜ now (texts .exit) ≡ lentAfter (outcome (callOn (indent (recording (now (prefix .entry)) (now («prefix_entries» .entry)) (now («prefix_text» .entry)))) (now (bytes .entry)) (now (numbers .entry)) (now (texts .entry))) (recording (now (content .entry)) (now (entries .entry)) (now (text .entry)))) (lentOf (now (bytes .entry)) (now (numbers .entry)) (now (texts .entry))) .text ⌝ }
+    ensures { λ r. ⌜ Leaves (indent (recording (now (prefix .entry)) (now («prefix_entries» .entry)) (now («prefix_text» .entry))))
+        (recording (now (content .entry)) (now (entries .entry)) (now (text .entry)))
+        (lentOf (now (bytes .entry)) (now (numbers .entry)) (now (texts .entry))) (lentOf (now (bytes .exit)) (now (numbers .exit)) (now (texts .exit))) r ⌝ }
 {
     let t = LEADS;
-    let checked = check(&t, content, entries, text);
-    let size = match checked {
-        Checked::Refused(f) => {
+    let checked = check_both(
+        &t,
+        content,
+        entries,
+        text,
+        prefix,
+        prefix_entries,
+        prefix_text,
+    );
+    let sizes = match checked {
+        CheckedBoth::Refused(f) => {
             return Answer::Refused(f);
         }
-        Checked::Fine(n) => n,
-    };
-    let second = check(&t, prefix, prefix_entries, prefix_text);
-    let prefix_size = match second {
-        Checked::Refused(f) => {
-            return Answer::Refused(f);
-        }
-        Checked::Fine(n) => n,
+        CheckedBoth::Fine(n) => n,
     };
     let count = filled_lines(content);
     let verdict = settle(
         content.len() + count * prefix.len(),
         entries.len() + count * prefix_entries.len(),
-        size + count * prefix_size,
+        sizes.content + count * sizes.second,
         0,
         bytes.len(),
         numbers.len(),

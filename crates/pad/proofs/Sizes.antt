@@ -1,12 +1,12 @@
--- How much padding writes: n times the fill's bytes, its entries and texts once a side; and what the three calls are as jobs of the layout.
+-- How much padding writes: n times the fill's bytes, its entries and texts once a side; and that this is what the three calls leave (`padded-measured`).
 use mathlib.Core.Path.{_≡_, refl, sym, ap, _∙_}
 use mathlib.Core.List.{List, [], _∷_, _++_, append-nil}
 use Prim.Native.Nat.{ℕ, zero, suc, _+_, _-_, _*_, _≤_}
-use native.Mathlib.Nat.{zero-mul, suc-mul, mul-add, add-mul, mul-le-mul}
+use native.Mathlib.Nat.{zero-mul, suc-mul, mul-add, add-mul}
 use native.Mathlib.Omega.{arith}
 use lib.ListN.{length, length-append}
-use Rattle.recording.specs.Recording.{Recording, recording, Item, byte, push, pop, raw, byteItems, items, dataOf, textOf}
-use Rattle.recording.specs.Refusals.{recordingFault}
+use Rattle.recording.specs.declared.TextSizes.{TextSizes}
+use Rattle.recording.specs.Recording.{Recording, Item, byte, push, pop, raw, byteItems, items, dataOf, textOf}
 use Rattle.recording.proofs.ItemsLaws.{data-bytes}
 use Rattle.recording.proofs.SizeLaws.{text-append, entryCount, count-append}
 use Rattle.recording.proofs.CheckLaws.{text-none}
@@ -14,11 +14,11 @@ use Rattle.writer.specs.Write.{Out, add, Fits}
 use Rattle.writer.proofs.Laws.{text-size, data-size}
 use Rattle.writer.proofs.Steps.{fits-first, fits-then, then}
 use Rattle.writer.proofs.Carry.{count-none}
-use Rattle.layout.specs.Layout.{copies, repeatPieces, padding, fillCount, resultItems, linesLeft, number, secondFault, ownFault}
-use Rattle.outcomes.proofs.SecondLaws.{Fine}
+use Rattle.layout.specs.Layout.{copies, repeatPieces, padding, fillCount, Kind, withSecond, resultItems}
+use Rattle.outcomes.proofs.SecondLaws.{Given, content, second, BothFine, Measured}
 use Rattle.pad.specs.declared.Side.{Side}
 use Rattle.pad.specs.declared.Side.the-variants.{Start, End, Centered}
-use Rattle.pad.specs.Padding.{repeated, onceIf, sides, leftOf, jobOf}
+use Rattle.pad.specs.Padding.{repeated, onceIf, sides, leftOf, kindOf}
 use Rattle.pad.proofs.Laws.{copies-bytes}
 
 -- ── pieces repeated
@@ -61,51 +61,19 @@ text-repeated n q (pop ∷ is) = text-append (copies n q) (pop ∷ repeatPieces 
 text-repeated n q (raw t ∷ is) = text-append (copies n q) (raw t ∷ repeatPieces n [] is) ∙ rw (text-copies n q, text-repeated n [] is)
 
 -- ── one padding
-pub padding-data : (n : ℕ) (f : List Item) → length (dataOf (padding n f)) ≡ n * length (dataOf f)
+padding-data : (n : ℕ) (f : List Item) → length (dataOf (padding n f)) ≡ n * length (dataOf f)
 padding-data zero f = sym (zero-mul (length (dataOf f)))
 padding-data (suc n) f = data-repeated (suc n) [] f ∙ ap (λ (m : ℕ). suc n * m) (omega arith)
 
-pub padding-count : (n x : ℕ) (f : List Item) → x ≡ 4 * entryCount f → onceIf n x ≡ 4 * entryCount (padding n f)
+padding-count : (n x : ℕ) (f : List Item) → x ≡ 4 * entryCount f → onceIf n x ≡ 4 * entryCount (padding n f)
 unfolding onceIf
 padding-count zero x f h = refl
 padding-count (suc n) x f h = omega (arith, h, count-repeated (suc n) [] f)
 
-pub padding-text : (n x : ℕ) (f : List Item) → x ≡ length (textOf f) → onceIf n x ≡ length (textOf (padding n f))
+padding-text : (n x : ℕ) (f : List Item) → x ≡ length (textOf f) → onceIf n x ≡ length (textOf (padding n f))
 unfolding onceIf
 padding-text zero x f h = refl
 padding-text (suc n) x f h = h ∙ ap length (sym (text-repeated (suc n) [] f))
-
--- ── both sides, of n times in all
-module _ (ds ns ts fs gs us : List ℕ) (a b n l : ℕ) (le : l ≤ n) (p : Fine ds ns ts a) (q : Fine fs gs us b) where
-  abbrev is : List Item
-  is = items (recording ds ns ts)
-
-  abbrev fill : List Item
-  fill = items (recording fs gs us)
-
-  abbrev all : List Item
-  all = sides l (n - l) fill is
-
-  pub sides-data : length ds + n * length fs ≡ length (dataOf all)
-  unfolding sides
-  sides-data =
-      let e : l + (n - l) ≡ n = omega arith in
-      let s : n * length fs ≡ l * length (dataOf fill) + (n - l) * length (dataOf fill) = (λ i. sym e i * q .data-size i) ∙ add-mul l (n - l) (length (dataOf fill)) in
-      omega (arith, s, p .data-size, data-size (padding l fill) (is ++ padding (n - l) fill), data-size is (padding (n - l) fill), padding-data l fill, padding-data (n - l) fill)
-
-  pub sides-entries : (e₁ e₂ : ℕ) → e₁ ≡ onceIf l (length gs) → e₂ ≡ onceIf (n - l) (length gs) → (length ns + e₁) + e₂ ≡ 4 * entryCount all
-  unfolding sides
-  sides-entries e₁ e₂ h₁ h₂ =
-      omega (arith, h₁, h₂, p .entry-size, count-append (padding l fill) (is ++ padding (n - l) fill), count-append is (padding (n - l) fill), padding-count l (length gs) fill (q .entry-size), padding-count (n - l) (length gs) fill (q .entry-size))
-
-  pub sides-text : (t₁ t₂ : ℕ) → t₁ ≡ onceIf l b → t₂ ≡ onceIf (n - l) b → (a + t₁) + t₂ ≡ length (textOf all)
-  unfolding sides
-  sides-text t₁ t₂ h₁ h₂ =
-      omega (arith, h₁, h₂, p .text-size, text-size (padding l fill) (is ++ padding (n - l) fill), text-size is (padding (n - l) fill), padding-text l b fill (q .text-size), padding-text (n - l) b fill (q .text-size))
-
--- the product is exact: a count of 32 bits and a fill within its limit
-pub product-small : (n m : ℕ) → n ≤ 4294967295 → m ≤ 1048576 → n * m ≤ 4503599626321920
-product-small n m h k = mul-le-mul h k
 
 -- ── three steps write both sides
 module _ (l r : ℕ) (f is : List Item) (o : Out) (fits : Fits (sides l r f is) o) where
@@ -131,33 +99,10 @@ module _ (l r : ℕ) (f is : List Item) (o : Out) (fits : Fits (sides l r f is) 
       all-three o₃ w₃ =
           then (padding l f) (is ++ padding r f) (sides l r f is) o o₁ o₃ split fits w₁ (then is (padding r f) (is ++ padding r f) o₁ o₂ o₃ refl fits₂ w₂ w₃)
 
--- ── the jobs
-pub second-of : (s : Side) (m : ℕ) (f : Recording) → secondFault (jobOf s m f) ≡ recordingFault f
-unfolding jobOf secondFault
-second-of Start m f = refl
-second-of End m f = refl
-second-of Centered m f = refl
-
-pub records-of : (s : Side) (m : ℕ) (f c : Recording) → ownFault (jobOf s m f) c ≡ 0
-unfolding jobOf ownFault
-records-of Start m f c = refl
-records-of End m f c = refl
-records-of Centered m f c = refl
-
-pub lines-of : (s : Side) (m : ℕ) (f c : Recording) → linesLeft (jobOf s m f) c ≡ []
-unfolding jobOf linesLeft
-lines-of Start m f c = refl
-lines-of End m f c = refl
-lines-of Centered m f c = refl
-
-pub number-of : (s : Side) (m : ℕ) (f c : Recording) → number (jobOf s m f) c ≡ 0
-unfolding jobOf number
-number-of Start m f c = refl
-number-of End m f c = refl
-number-of Centered m f c = refl
-
-sided : (s : Side) (m : ℕ) (f c : Recording) → resultItems (jobOf s m f) c ≡ sides (leftOf s (fillCount m (c .dataBytes))) (fillCount m (c .dataBytes) - leftOf s (fillCount m (c .dataBytes))) (items f) (items c)
-unfolding jobOf resultItems sides leftOf
+-- ── what the call of a side leaves
+sided : (s : Side) (m : ℕ) (f c : Recording)
+    → let n = fillCount m (c .dataBytes) in resultItems (withSecond (kindOf s) m f) c ≡ sides (leftOf s n) (n - leftOf s n) (items f) (items c)
+unfolding kindOf resultItems sides leftOf
 sided Start m f c =
     let n : ℕ = fillCount m (c .dataBytes) in
     let e : n - n ≡ 0 = omega arith in
@@ -168,5 +113,51 @@ sided End m f c =
     ap (λ (k : ℕ). items c ++ padding k (items f)) (sym e)
 sided Centered m f c = refl
 
-pub items-of : (s : Side) (m n l : ℕ) (f c : Recording) → n ≡ fillCount m (c .dataBytes) → l ≡ leftOf s n → resultItems (jobOf s m f) c ≡ sides l (n - l) (items f) (items c)
-items-of s m n l f c e h = sided s m f c ∙ ap (λ (k : ℕ). sides (leftOf s k) (k - leftOf s k) (items f) (items c)) (sym e) ∙ ap (λ (k : ℕ). sides k (n - k) (items f) (items c)) (sym h)
+-- ── both sides, k times in all, l of them before the content: the items that the call leaves have the sizes that are settled
+module _ (x : Given) (n : TextSizes) (fine : BothFine x n) (k l : ℕ) (le : l ≤ k) where
+  abbrev is : List Item
+  is = items (content x)
+
+  abbrev fill : List Item
+  fill = items (second x)
+
+  abbrev before : List Item
+  before = padding l fill
+
+  abbrev behind : List Item
+  behind = padding (k - l) fill
+
+  abbrev all : List Item
+  all = sides l (k - l) fill is
+
+  sides-data : length (x .ds) + k * length (x .fs) ≡ length (dataOf all)
+  unfolding sides
+  sides-data =
+      let e : l + (k - l) ≡ k = omega arith in
+      let s : k * length (x .fs) ≡ l * length (dataOf fill) + (k - l) * length (dataOf fill) = (λ i. sym e i * fine .1 .data-size i) ∙ add-mul l (k - l) (length (dataOf fill)) in
+      omega (arith, s, fine .0 .data-size, data-size before (is ++ behind), data-size is behind, padding-data l fill, padding-data (k - l) fill)
+
+  sides-entries : (e₁ e₂ : ℕ) → e₁ ≡ onceIf l (length (x .gs)) → e₂ ≡ onceIf (k - l) (length (x .gs)) → (length (x .ns) + e₁) + e₂ ≡ 4 * entryCount all
+  unfolding sides
+  sides-entries e₁ e₂ h₁ h₂ =
+      let once : (j : ℕ) → onceIf j (length (x .gs)) ≡ 4 * entryCount (padding j fill) = λ j. padding-count j (length (x .gs)) fill (fine .1 .entry-size) in
+      omega (arith, h₁, h₂, fine .0 .entry-size, count-append before (is ++ behind), count-append is behind, once l, once (k - l))
+
+  sides-text : (t₁ t₂ : ℕ) → t₁ ≡ onceIf l (n .second) → t₂ ≡ onceIf (k - l) (n .second) → (n .content + t₁) + t₂ ≡ length (textOf all)
+  unfolding sides
+  sides-text t₁ t₂ h₁ h₂ =
+      let once : (j : ℕ) → onceIf j (n .second) ≡ length (textOf (padding j fill)) = λ j. padding-text j (n .second) fill (fine .1 .text-size) in
+      omega (arith, h₁, h₂, fine .0 .text-size, text-size before (is ++ behind), text-size is behind, once l, once (k - l))
+
+  pub padded-measured : (s : Side) → x .kind ≡ kindOf s → k ≡ fillCount (x .width) (x .ds) → l ≡ leftOf s k
+      → (e₁ e₂ t₁ t₂ : ℕ) → e₁ ≡ onceIf l (length (x .gs)) → e₂ ≡ onceIf (k - l) (length (x .gs)) → t₁ ≡ onceIf l (n .second) → t₂ ≡ onceIf (k - l) (n .second)
+      → Measured x all (length (x .ds) + k * length (x .fs)) ((length (x .ns) + e₁) + e₂) ((n .content + t₁) + t₂)
+  padded-measured s ek en el e₁ e₂ t₁ t₂ h₁ h₂ h₃ h₄ =
+      record {
+        leaves =
+            ap (λ (j : Kind). resultItems (withSecond j (x .width) (second x)) (content x)) ek ∙ sided s (x .width) (second x) (content x)
+            ∙ ap (λ (m : ℕ). sides (leftOf s m) (m - leftOf s m) fill is) (sym en) ∙ ap (λ (m : ℕ). sides m (k - m) fill is) (sym el);
+        data-size = sides-data;
+        entry-size = sides-entries e₁ e₂ h₁ h₂;
+        text-size = sides-text t₁ t₂ h₃ h₄;
+      }

@@ -1,8 +1,8 @@
 -- Padding as the code does it: the bytes of a piece n times over, what is written once a side, and the three calls as one with a side.
 use Prim.Native.Nat.{ℕ, zero, suc, _/_}
 use mathlib.Core.List.{List, [], _++_}
-use Rattle.recording.specs.Recording.{Recording, Item}
-use Rattle.layout.specs.Layout.{padding, Job, padStart, padEnd, padCentered}
+use Rattle.recording.specs.Recording.{Item}
+use Rattle.layout.specs.Layout.{padding, Kind, writePaddedStart, writePaddedEnd, writePaddedCentered}
 use Rattle.pad.specs.declared.Side.{Side}
 use Rattle.pad.specs.declared.Side.the-variants.{Start, End, Centered}
 
@@ -26,8 +26,8 @@ leftOf Start n = n
 leftOf End n = 0
 leftOf Centered n = n / 2
 
--- the call
-unfoldable pub jobOf : Side → ℕ → Recording → Job
-jobOf Start m f = padStart m f
-jobOf End m f = padEnd m f
-jobOf Centered m f = padCentered m f
+-- the kind of the call
+unfoldable pub kindOf : Side → Kind
+kindOf Start = writePaddedStart
+kindOf End = writePaddedEnd
+kindOf Centered = writePaddedCentered

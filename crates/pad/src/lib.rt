@@ -1,12 +1,12 @@
 // Padding: `write_padded_start`, `write_padded_end`, `write_padded_centered` (document 01, module 3).
-// Each has one equation: answer and buffers are those of `outcome` (layout) for its job. All three are `write_padded` with a side.
+// Each keeps one promise, `Leaves` (layout), for its job. All three are `write_padded` with a side.
 // `bytes`, `numbers` and `texts` are the lent buffers; `content`, `entries` and `text` the recording that is padded.
 use buffer::put;
 use chars::LEADS;
 use chars::text_width;
 use recording::Answer;
-use recording::Checked;
-use recording::check;
+use recording::CheckedBoth;
+use recording::check_both;
 use recording::entry_at;
 use writer::Cursor;
 use writer::Settled;
@@ -22,10 +22,9 @@ ghost use lib.ListN.{length};
 ghost use Rattle.buffer.specs.Place.{overAt, part};
 ghost use Rattle.recording.specs.Recording.{recording, items};
 ghost use Rattle.writer.specs.Write.{out, add, blank, Fits, Sound};
-ghost use Rattle.recording.specs.Outcome.{answerOf, returned, lentAfter};
-ghost use Rattle.layout.specs.Layout.{padding, fillCount, padStart, padEnd, padCentered, outcome};
-ghost use Rattle.layout.specs.Lent.{lentOf, callOn};
-ghost use Rattle.pad.specs.Padding.{repeated, onceIf, sides, leftOf, jobOf};
+ghost use Rattle.layout.specs.Layout.{padding, fillCount, withSecond, padStart, padEnd, padCentered};
+ghost use Rattle.layout.specs.Lent.{lentOf, Leaves};
+ghost use Rattle.pad.specs.Padding.{repeated, onceIf, sides, leftOf, kindOf};
 
 // Where the fill goes.
 pub enum Side {
@@ -107,7 +106,8 @@ fn put_padding(
 ) -> Cursor
     requires { ⌜ Sound (now fill) (now entries) (now text) ⌝ }
     requires { ⌜ Fits (padding n (items (recording (now fill) (now entries) (now text)))) (out (now bytes) (now numbers) (now texts) c) ⌝ }
-    ensures { λ r. ⌜ out (now (bytes .exit)) (now (numbers .exit)) (now (texts .exit)) r ≡ add (padding n (items (recording (now (fill .entry)) (now (entries .entry)) (now (text .entry))))) (out (now (bytes .entry)) (now (numbers .entry)) (now (texts .entry)) c) ⌝ }
+    ensures { λ r. ⌜ out (now (bytes .exit)) (now (numbers .exit)) (now (texts .exit)) r
+        ≡ add (padding n (items (recording (now (fill .entry)) (now (entries .entry)) (now (text .entry))))) (out (now (bytes .entry)) (now (numbers .entry)) (now (texts .entry)) c) ⌝ }
 {
     if n == 0 {
         return c;
@@ -179,8 +179,11 @@ fn put_padded(
     right: usize,
 ) -> Cursor
     requires { ⌜ Sound (now content) (now entries) (now text) × Sound (now fill) (now «fill_entries») (now «fill_text») ⌝ }
-    requires { ⌜ Fits (sides left right (items (recording (now fill) (now «fill_entries») (now «fill_text»))) (items (recording (now content) (now entries) (now text)))) (blank (now bytes) (now numbers) (now texts)) ⌝ }
-    ensures { λ r. ⌜ out (now (bytes .exit)) (now (numbers .exit)) (now (texts .exit)) r ≡ add (sides left right (items (recording (now (fill .entry)) (now («fill_entries» .entry)) (now («fill_text» .entry)))) (items (recording (now (content .entry)) (now (entries .entry)) (now (text .entry))))) (blank (now (bytes .entry)) (now (numbers .entry)) (now (texts .entry))) ⌝ }
+    requires { ⌜ Fits (sides left right (items (recording (now fill) (now «fill_entries») (now «fill_text»))) (items (recording (now content) (now entries) (now text))))
+        (blank (now bytes) (now numbers) (now texts)) ⌝ }
+    ensures { λ r. ⌜ out (now (bytes .exit)) (now (numbers .exit)) (now (texts .exit)) r
+        ≡ add (sides left right (items (recording (now (fill .entry)) (now («fill_entries» .entry)) (now («fill_text» .entry))))
+        (items (recording (now (content .entry)) (now (entries .entry)) (now (text .entry))))) (blank (now (bytes .entry)) (now (numbers .entry)) (now (texts .entry))) ⌝ }
 {
     let start = Cursor {
         at: 0,
@@ -226,25 +229,17 @@ fn write_padded(
     numbers: &mut [u32],
     texts: &mut [u8],
 ) -> Answer
-    ensures { λ r. ⌜ answerOf r ≡ returned (outcome (callOn (jobOf side «min_width» (recording (now (fill .entry)) (now («fill_entries» .entry)) (now («fill_text» .entry)))) (now (bytes .entry)) (now (numbers .entry)) (now (texts .entry))) (recording (now (content .entry)) (now (entries .entry)) (now (text .entry)))) ⌝ }
-    ensures { λ r. ⌜ now (bytes .exit) ≡ lentAfter (outcome (callOn (jobOf side «min_width» (recording (now (fill .entry)) (now («fill_entries» .entry)) (now («fill_text» .entry)))) (now (bytes .entry)) (now (numbers .entry)) (now (texts .entry))) (recording (now (content .entry)) (now (entries .entry)) (now (text .entry)))) (lentOf (now (bytes .entry)) (now (numbers .entry)) (now (texts .entry))) .dataBytes ⌝ }
-    ensures { λ r. ⌜ now (numbers .exit) ≡ lentAfter (outcome (callOn (jobOf side «min_width» (recording (now (fill .entry)) (now («fill_entries» .entry)) (now («fill_text» .entry)))) (now (bytes .entry)) (now (numbers .entry)) (now (texts .entry))) (recording (now (content .entry)) (now (entries .entry)) (now (text .entry)))) (lentOf (now (bytes .entry)) (now (numbers .entry)) (now (texts .entry))) .entryNumbers ⌝ }
-    ensures { λ r. ⌜ now (texts .exit) ≡ lentAfter (outcome (callOn (jobOf side «min_width» (recording (now (fill .entry)) (now («fill_entries» .entry)) (now («fill_text» .entry)))) (now (bytes .entry)) (now (numbers .entry)) (now (texts .entry))) (recording (now (content .entry)) (now (entries .entry)) (now (text .entry)))) (lentOf (now (bytes .entry)) (now (numbers .entry)) (now (texts .entry))) .text ⌝ }
+    ensures { λ r. ⌜ Leaves (withSecond (kindOf side) «min_width» (recording (now (fill .entry)) (now («fill_entries» .entry)) (now («fill_text» .entry))))
+        (recording (now (content .entry)) (now (entries .entry)) (now (text .entry)))
+        (lentOf (now (bytes .entry)) (now (numbers .entry)) (now (texts .entry))) (lentOf (now (bytes .exit)) (now (numbers .exit)) (now (texts .exit))) r ⌝ }
 {
     let t = LEADS;
-    let checked = check(&t, content, entries, text);
-    let size = match checked {
-        Checked::Refused(f) => {
+    let checked = check_both(&t, content, entries, text, fill, fill_entries, fill_text);
+    let sizes = match checked {
+        CheckedBoth::Refused(f) => {
             return Answer::Refused(f);
         }
-        Checked::Fine(n) => n,
-    };
-    let second = check(&t, fill, fill_entries, fill_text);
-    let fill_size = match second {
-        Checked::Refused(f) => {
-            return Answer::Refused(f);
-        }
-        Checked::Fine(n) => n,
+        CheckedBoth::Fine(n) => n,
     };
     let count = fill_count(&t, content, min_width);
     let left = left_count(side, count);
@@ -252,7 +247,7 @@ fn write_padded(
     let verdict = settle(
         content.len() + count * fill.len(),
         entries.len() + once_if(left, fill_entries.len()) + once_if(right, fill_entries.len()),
-        size + once_if(left, fill_size) + once_if(right, fill_size),
+        sizes.content + once_if(left, sizes.second) + once_if(right, sizes.second),
         0,
         bytes.len(),
         numbers.len(),
@@ -299,10 +294,9 @@ pub fn write_padded_start(
     numbers: &mut [u32],
     texts: &mut [u8],
 ) -> Answer
-    ensures { λ r. ⌜ answerOf r ≡ returned (outcome (callOn (padStart «min_width» (recording (now (fill .entry)) (now («fill_entries» .entry)) (now («fill_text» .entry)))) (now (bytes .entry)) (now (numbers .entry)) (now (texts .entry))) (recording (now (content .entry)) (now (entries .entry)) (now (text .entry)))) ⌝ }
-    ensures { λ r. ⌜ now (bytes .exit) ≡ lentAfter (outcome (callOn (padStart «min_width» (recording (now (fill .entry)) (now («fill_entries» .entry)) (now («fill_text» .entry)))) (now (bytes .entry)) (now (numbers .entry)) (now (texts .entry))) (recording (now (content .entry)) (now (entries .entry)) (now (text .entry)))) (lentOf (now (bytes .entry)) (now (numbers .entry)) (now (texts .entry))) .dataBytes ⌝ }
-    ensures { λ r. ⌜ now (numbers .exit) ≡ lentAfter (outcome (callOn (padStart «min_width» (recording (now (fill .entry)) (now («fill_entries» .entry)) (now («fill_text» .entry)))) (now (bytes .entry)) (now (numbers .entry)) (now (texts .entry))) (recording (now (content .entry)) (now (entries .entry)) (now (text .entry)))) (lentOf (now (bytes .entry)) (now (numbers .entry)) (now (texts .entry))) .entryNumbers ⌝ }
-    ensures { λ r. ⌜ now (texts .exit) ≡ lentAfter (outcome (callOn (padStart «min_width» (recording (now (fill .entry)) (now («fill_entries» .entry)) (now («fill_text» .entry)))) (now (bytes .entry)) (now (numbers .entry)) (now (texts .entry))) (recording (now (content .entry)) (now (entries .entry)) (now (text .entry)))) (lentOf (now (bytes .entry)) (now (numbers .entry)) (now (texts .entry))) .text ⌝ }
+    ensures { λ r. ⌜ Leaves (padStart «min_width» (recording (now (fill .entry)) (now («fill_entries» .entry)) (now («fill_text» .entry))))
+        (recording (now (content .entry)) (now (entries .entry)) (now (text .entry)))
+        (lentOf (now (bytes .entry)) (now (numbers .entry)) (now (texts .entry))) (lentOf (now (bytes .exit)) (now (numbers .exit)) (now (texts .exit))) r ⌝ }
 {
     write_padded(
         content,
@@ -332,10 +326,9 @@ pub fn write_padded_end(
     numbers: &mut [u32],
     texts: &mut [u8],
 ) -> Answer
-    ensures { λ r. ⌜ answerOf r ≡ returned (outcome (callOn (padEnd «min_width» (recording (now (fill .entry)) (now («fill_entries» .entry)) (now («fill_text» .entry)))) (now (bytes .entry)) (now (numbers .entry)) (now (texts .entry))) (recording (now (content .entry)) (now (entries .entry)) (now (text .entry)))) ⌝ }
-    ensures { λ r. ⌜ now (bytes .exit) ≡ lentAfter (outcome (callOn (padEnd «min_width» (recording (now (fill .entry)) (now («fill_entries» .entry)) (now («fill_text» .entry)))) (now (bytes .entry)) (now (numbers .entry)) (now (texts .entry))) (recording (now (content .entry)) (now (entries .entry)) (now (text .entry)))) (lentOf (now (bytes .entry)) (now (numbers .entry)) (now (texts .entry))) .dataBytes ⌝ }
-    ensures { λ r. ⌜ now (numbers .exit) ≡ lentAfter (outcome (callOn (padEnd «min_width» (recording (now (fill .entry)) (now («fill_entries» .entry)) (now («fill_text» .entry)))) (now (bytes .entry)) (now (numbers .entry)) (now (texts .entry))) (recording (now (content .entry)) (now (entries .entry)) (now (text .entry)))) (lentOf (now (bytes .entry)) (now (numbers .entry)) (now (texts .entry))) .entryNumbers ⌝ }
-    ensures { λ r. ⌜ now (texts .exit) ≡ lentAfter (outcome (callOn (padEnd «min_width» (recording (now (fill .entry)) (now («fill_entries» .entry)) (now («fill_text» .entry)))) (now (bytes .entry)) (now (numbers .entry)) (now (texts .entry))) (recording (now (content .entry)) (now (entries .entry)) (now (text .entry)))) (lentOf (now (bytes .entry)) (now (numbers .entry)) (now (texts .entry))) .text ⌝ }
+    ensures { λ r. ⌜ Leaves (padEnd «min_width» (recording (now (fill .entry)) (now («fill_entries» .entry)) (now («fill_text» .entry))))
+        (recording (now (content .entry)) (now (entries .entry)) (now (text .entry)))
+        (lentOf (now (bytes .entry)) (now (numbers .entry)) (now (texts .entry))) (lentOf (now (bytes .exit)) (now (numbers .exit)) (now (texts .exit))) r ⌝ }
 {
     write_padded(
         content,
@@ -365,10 +358,9 @@ pub fn write_padded_centered(
     numbers: &mut [u32],
     texts: &mut [u8],
 ) -> Answer
-    ensures { λ r. ⌜ answerOf r ≡ returned (outcome (callOn (padCentered «min_width» (recording (now (fill .entry)) (now («fill_entries» .entry)) (now («fill_text» .entry)))) (now (bytes .entry)) (now (numbers .entry)) (now (texts .entry))) (recording (now (content .entry)) (now (entries .entry)) (now (text .entry)))) ⌝ }
-    ensures { λ r. ⌜ now (bytes .exit) ≡ lentAfter (outcome (callOn (padCentered «min_width» (recording (now (fill .entry)) (now («fill_entries» .entry)) (now («fill_text» .entry)))) (now (bytes .entry)) (now (numbers .entry)) (now (texts .entry))) (recording (now (content .entry)) (now (entries .entry)) (now (text .entry)))) (lentOf (now (bytes .entry)) (now (numbers .entry)) (now (texts .entry))) .dataBytes ⌝ }
-    ensures { λ r. ⌜ now (numbers .exit) ≡ lentAfter (outcome (callOn (padCentered «min_width» (recording (now (fill .entry)) (now («fill_entries» .entry)) (now («fill_text» .entry)))) (now (bytes .entry)) (now (numbers .entry)) (now (texts .entry))) (recording (now (content .entry)) (now (entries .entry)) (now (text .entry)))) (lentOf (now (bytes .entry)) (now (numbers .entry)) (now (texts .entry))) .entryNumbers ⌝ }
-    ensures { λ r. ⌜ now (texts .exit) ≡ lentAfter (outcome (callOn (padCentered «min_width» (recording (now (fill .entry)) (now («fill_entries» .entry)) (now («fill_text» .entry)))) (now (bytes .entry)) (now (numbers .entry)) (now (texts .entry))) (recording (now (content .entry)) (now (entries .entry)) (now (text .entry)))) (lentOf (now (bytes .entry)) (now (numbers .entry)) (now (texts .entry))) .text ⌝ }
+    ensures { λ r. ⌜ Leaves (padCentered «min_width» (recording (now (fill .entry)) (now («fill_entries» .entry)) (now («fill_text» .entry))))
+        (recording (now (content .entry)) (now (entries .entry)) (now (text .entry)))
+        (lentOf (now (bytes .entry)) (now (numbers .entry)) (now (texts .entry))) (lentOf (now (bytes .exit)) (now (numbers .exit)) (now (texts .exit))) r ⌝ }
 {
     write_padded(
         content,

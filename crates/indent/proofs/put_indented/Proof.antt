@@ -23,6 +23,23 @@ abbrev μ-loop : tie.MeasureT-loop
 μ-loop bytes₀ numbers₀ texts₀ content entries text prefix prefix-entries prefix-text c₀ p₀ bytes numbers texts c p =
     length content - p
 
+-- ── the places on the way, and what is known there
+-- at the loop: what the function asks
+abbrev start : tie.At-loop Inv-loop μ-loop → tie.Start Inv-loop μ-loop
+start c = c .before .before .before .before .before .before .before .before .before .before .before
+
+-- in a turn, after the content up to the line and after the prefix
+abbrev turn : tie.After-keep Inv-loop μ-loop → tie.In-loop Inv-loop μ-loop
+turn c = c .before .before .before .before
+
+abbrev kept : tie.After-put-recording Inv-loop μ-loop → tie.After-keep Inv-loop μ-loop
+kept c = c .before .before .before .before .before .before .before .before .before .before
+
+-- after the loop and the rest of the content
+abbrev ended : tie.After-keep2 Inv-loop μ-loop → tie.After-loop Inv-loop μ-loop
+ended c = c .before .before .before .before
+
+-- ── what is asked on the way
 next-line-requires : tie.Need-next-line-requires Inv-loop μ-loop
 next-line-requires c κs =
     omega arith
@@ -34,51 +51,68 @@ loop-holds c =
 
 keep-requires : tie.Need-keep-requires Inv-loop μ-loop
 keep-requires c κs =
-    let s = c .before .before .before .before .loop .inv in
-    (s .ready, ((before _ _ _ _ _ _ _ _ s (c .before .before .before .before .before .before .before .before .before .before .before .before .before .before .before .pre .1), s .within), room-keep _ _ _ _ _ _ _ _ s (c .before .before .before .before .before .before .before .before .before .before .before .before .before .before .before .pre .1) (c .before .before .before .loop-test .taken)))
+    let t = c .before .before .before in
+    let s = t .before .loop .inv in
+    let z = start (t .before) .pre .1 in
+    (s .ready, ((before _ _ _ _ _ _ _ _ s z, s .within), room-keep _ _ _ _ _ _ _ _ s z (t .loop-test .taken)))
 
 put-recording-requires : tie.Need-put-recording-requires Inv-loop μ-loop
 put-recording-requires c κs =
-    (c .before .before .before .before .before .before .before .before .before .before .before .before .before .before .before .before .before .before .before .before .before .before .before .before .before .pre .0 .1, room-prefix _ _ _ _ _ _ _ _ (c .before .before .before .before .before .before .before .before .before .before .before .before .before .before .loop .inv) (c .before .before .before .before .before .before .before .before .before .before .before .before .before .before .before .before .before .before .before .before .before .before .before .before .before .pre .1) (c .before .before .before .before .before .before .before .before .before .before .before .before .before .loop-test .taken) _ (c .before .before .before .before .before .before .before .before .before .keep .ensures .0))
+    let k = c .before .before .before .before .before .before .before .before .before in
+    let t = turn k in
+    let z = start (t .before) .pre in
+    (z .0 .1, room-prefix _ _ _ _ _ _ _ _ (t .before .loop .inv) (z .1) (t .loop-test .taken) _ (k .keep .ensures .0))
 
 next-line-requires-2 : tie.Need-next-line-requires-2 Inv-loop μ-loop
-next-line-requires-2 c κs =
-    c .before .before .before .before .before .before .before .before .before .before .before .before .before .before .before .before .before .before .before .before .before .loop .inv .within
+next-line-requires-2 c κs = turn (kept (c .before .before .before .before .before .before)) .before .loop .inv .within
 
 loop-less : tie.Need-loop-less Inv-loop μ-loop
 loop-less c =
-    omega (arith, c .next-line2 .ensures .0, c .before .before .before .before .before .before .before .before .before .before .before .before .before .before .before .before .before .before .before .before .before .loop-test .taken, next-past (c .before .before .before .before .before .before .before .before .before .before .before .before .before .before .before .before .before .before .before .before .before .before .loop .p) (c .before .before .before .before .before .before .before .before .before .before .before .before .before .before .before .before .before .before .before .before .before .before .before .before .before .before .before .before .before .before .before .before .before .args .content .now) (c .before .before .before .before .before .before .before .before .before .before .before .before .before .before .before .before .before .before .before .before .before .loop-test .taken))
+    let t = turn (kept (c .before .before .before .before .before .before .before)) in
+    omega (arith, c .next-line2 .ensures .0, t .loop-test .taken, next-past (t .before .loop .p) (start (t .before) .args .content .now) (t .loop-test .taken))
 
 loop-again : tie.Need-loop-again Inv-loop μ-loop
 loop-again c =
-    let k = c .before .before .before .before .before .before .before .before .before .before .before .before .before .before .before .before .before .keep .ensures in
-    let r = c .before .before .before .before .before .before .before .put-recording .ensures in
+    let w = c .before .before .before .before .before .before .before in
+    let t = turn (kept w) in
+    let k = kept w .keep .ensures in
+    let r = w .put-recording .ensures in
     let n = c .next-line2 .ensures in
-    step _ _ _ _ _ _ _ _ (c .before .before .before .before .before .before .before .before .before .before .before .before .before .before .before .before .before .before .before .before .before .before .loop .inv) (c .before .before .before .before .before .before .before .before .before .before .before .before .before .before .before .before .before .before .before .before .before .before .before .before .before .before .before .before .before .before .before .before .before .pre .1) (c .before .before .before .before .before .before .before .before .before .before .before .before .before .before .before .before .before .before .before .before .before .loop-test .taken) _ (k .0) _ _ _ _ (r .0) (k .1 .0) (k .1 .1 .0) (k .1 .1 .1) (r .1 .0) (r .1 .1) (n .0) (n .1 .1)
+    step _ _ _ _ _ _ _ _ (t .before .loop .inv) (start (t .before) .pre .1) (t .loop-test .taken) _ (k .0) _ _ _ _ (r .0) (k .1 .0) (k .1 .1 .0) (k .1 .1 .1) (r .1 .0) (r .1 .1) (n .0) (n .1 .1)
 
 keep-requires-2 : tie.Need-keep-requires-2 Inv-loop μ-loop
 keep-requires-2 c κs =
-    let s = c .before .before .before .before .loop .inv in
-    (s .ready, ((here _ _ _ _ _ _ _ _ s (c .before .before .before .before .before .before .before .before .before .before .before .before .before .before .before .pre .1), omega arith), room-last _ _ _ _ _ _ _ _ s (c .before .before .before .before .before .before .before .before .before .before .before .before .before .before .before .pre .1) (c .before .before .before .loop-test .left)))
+    let l = c .before .before .before in
+    let s = l .before .loop .inv in
+    let z = start (l .before) .pre .1 in
+    (s .ready, ((here _ _ _ _ _ _ _ _ s z, omega arith), room-last _ _ _ _ _ _ _ _ s z (l .loop-test .left)))
 
 same-length : tie.Need-same-length Inv-loop μ-loop
 unfolding out
 same-length c =
-    c .before .before .before .before .before .before .keep2 .kept .0 ∙ long-now _ _ _ _ _ _ _ _ (c .before .before .before .before .before .before .before .before .before .before .before .loop .inv) (c .before .before .before .before .before .before .before .before .before .before .before .before .before .before .before .before .before .before .before .before .before .before .pre .1) .dataBytes
+    let k = c .before .before .before .before .before .before in
+    let l = ended k .before in
+    k .keep2 .kept .0 ∙ long-now _ _ _ _ _ _ _ _ (l .loop .inv) (start l .pre .1) .dataBytes
 
 same-length-2 : tie.Need-same-length-2 Inv-loop μ-loop
 unfolding out
 same-length-2 c =
-    c .before .before .before .before .before .before .keep2 .kept .1 .0 ∙ long-now _ _ _ _ _ _ _ _ (c .before .before .before .before .before .before .before .before .before .before .before .loop .inv) (c .before .before .before .before .before .before .before .before .before .before .before .before .before .before .before .before .before .before .before .before .before .before .pre .1) .entryNumbers
+    let k = c .before .before .before .before .before .before in
+    let l = ended k .before in
+    k .keep2 .kept .1 .0 ∙ long-now _ _ _ _ _ _ _ _ (l .loop .inv) (start l .pre .1) .entryNumbers
 
 same-length-3 : tie.Need-same-length-3 Inv-loop μ-loop
 unfolding out
 same-length-3 c =
-    c .before .before .before .before .before .before .keep2 .kept .1 .1 .0 ∙ long-now _ _ _ _ _ _ _ _ (c .before .before .before .before .before .before .before .before .before .before .before .loop .inv) (c .before .before .before .before .before .before .before .before .before .before .before .before .before .before .before .before .before .before .before .before .before .before .pre .1) .text
+    let k = c .before .before .before .before .before .before in
+    let l = ended k .before in
+    k .keep2 .kept .1 .1 .0 ∙ long-now _ _ _ _ _ _ _ _ (l .loop .inv) (start l .pre .1) .text
 
 returns : tie.Need-returns Inv-loop μ-loop
 returns c =
-    finish _ _ _ _ _ _ _ _ (c .before .before .before .before .before .before .before .before .before .before .before .loop .inv) (c .before .before .before .before .before .before .before .before .before .before .before .before .before .before .before .before .before .before .before .before .before .before .pre .1) (c .before .before .before .before .before .before .before .before .before .before .loop-test .left) _ (c .before .before .before .before .before .before .keep2 .ensures .0)
+    let k = c .before .before .before .before .before .before in
+    let l = ended k in
+    finish _ _ _ _ _ _ _ _ (l .before .loop .inv) (start (l .before) .pre .1) (l .loop-test .left) _ (k .keep2 .ensures .0)
 
 pub put-indented-spec : {M : Type 1} → statement M
 put-indented-spec =

@@ -1,7 +1,7 @@
 -- The loop over the fill's entries keeps `State` (`proofs/Loop.antt`): what is done, and that the pieces of what is left, repeated, are the rest. At count 0 nothing is written.
 use native.Mathlib.Omega.{arith}
 use borrow.Author.Needs.{needs}
-use Prim.Native.Nat.{ℕ, _-_}
+use Prim.Native.Nat.{ℕ, _+_, _-_, _≤_}
 use mathlib.Core.Path.{_≡_, refl, sym, ap, _∙_}
 use mathlib.Core.List.{List, []}
 use lib.ListN.{length}
@@ -20,16 +20,17 @@ use Rattle.recording.proofs.entry_at.Reads as entry-at-reads
 use Rattle.writer.proofs.place_at.Reads as place-at-reads
 use Rattle.writer.proofs.put_entry.Reads as put-entry-reads
 
--- at a count above 0 the padding is the pieces repeated; the fill is read from its start
-module _ (n : ℕ) (ds ns ts od oe ot : List ℕ) (c : Cursor) (more : n ≡ 0 → ⊥) where
-  abbrev from : Cursor
-  from = record { at = 0; k = 0; d = c .d; e = c .e; t = c .t }
+-- the fill is read from its start
+abbrev from : Cursor → Cursor
+from c = record { at = 0; k = 0; d = c .d; e = c .e; t = c .t }
 
-  room-of : Fits (padding n (items (recording ds ns ts))) (out od oe ot c) → Fits (repeatPieces n [] (items (recording ds ns ts))) (out od oe ot from)
+-- at a count above 0 the padding is the pieces repeated
+module _ (n : ℕ) (ds ns ts od oe ot : List ℕ) (c : Cursor) (more : n ≡ 0 → ⊥) where
+  room-of : Fits (padding n (items (recording ds ns ts))) (out od oe ot c) → Fits (repeatPieces n [] (items (recording ds ns ts))) (out od oe ot (from c))
   unfolding out
   room-of f = rw (padding-more n (items (recording ds ns ts)) more) at f
 
-  back-to : add (repeatPieces n [] (items (recording ds ns ts))) (out od oe ot from) ≡ add (padding n (items (recording ds ns ts))) (out od oe ot c)
+  back-to : add (repeatPieces n [] (items (recording ds ns ts))) (out od oe ot (from c)) ≡ add (padding n (items (recording ds ns ts))) (out od oe ot c)
   unfolding out
   back-to = ap (λ (l : List Item). add l (out od oe ot c)) (sym (padding-more n (items (recording ds ns ts)) more))
 
@@ -41,6 +42,26 @@ abbrev μ-loop : tie.MeasureT-loop
 μ-loop bytes₀ numbers₀ texts₀ fill entries text n f₀ p₀ bytes numbers texts f p =
     length entries - f .k
 
+-- ── the places on the way, and what is known there
+-- at the loop
+abbrev start : tie.At-loop Inv-loop μ-loop → tie.Start Inv-loop μ-loop
+start c = c .before .before .before .before .before .before .before .before .before
+
+room : (c : tie.At-loop Inv-loop μ-loop)
+    → let a = start c .args in Fits (repeatPieces (a .n) [] (items (recording (a .fill .now) (a .entries .now) (a .text .now)))) (out (a .bytes .now) (a .numbers .now) (a .texts .now) (from (a .c)))
+room c = room-of _ _ _ _ _ _ _ _ (c .before .before .if1 .left) (start c .pre .1)
+
+-- in a turn
+whole : (c : tie.In-loop Inv-loop μ-loop) → c .before .loop .f .k + 4 ≤ length (start (c .before) .args .entries .now)
+whole c = entire _ _ _ _ _ _ _ _ _ _ _ _ _ (c .before .loop .inv) (room (c .before)) (c .loop-test .taken)
+
+abbrev turn : tie.After-put-times Inv-loop μ-loop → tie.In-loop Inv-loop μ-loop
+turn c = c .before .before .before
+
+abbrev times : tie.After-put-entry Inv-loop μ-loop → tie.After-put-times Inv-loop μ-loop
+times c = c .before .before .before .before .before
+
+-- ── what is asked on the way
 returns : tie.Need-returns Inv-loop μ-loop
 returns c =
     let a = c .before .before .before .before .before .before .before .args in
@@ -54,53 +75,62 @@ loop-holds c =
     state-first _ _ _ _ _ _ _ refl refl (c .before .before .before .before .before .before .before .before .pre .0) (c .place-at .ensures)
 
 entry-at-requires : tie.Need-entry-at-requires Inv-loop μ-loop
-entry-at-requires c κs =
-    entire _ _ _ _ _ _ _ _ _ _ _ _ _ (c .before .loop .inv) (room-of _ _ _ _ _ _ _ _ (c .before .before .before .if1 .left) (c .before .before .before .before .before .before .before .before .before .before .pre .1)) (c .loop-test .taken)
+entry-at-requires c κs = whole c
 
 put-times-requires : tie.Need-put-times-requires Inv-loop μ-loop
 put-times-requires c κs =
-    times-asked _ _ _ _ _ _ _ _ _ _ _ _ _ (c .before .before .before .loop .inv) (room-of _ _ _ _ _ _ _ _ (c .before .before .before .before .before .if1 .left) (c .before .before .before .before .before .before .before .before .before .before .before .before .pre .1)) (c .before .before .loop-test .taken) _ (c .before .entry-at .ensures)
+    let t = c .before .before in
+    times-asked _ _ _ _ _ _ _ _ _ _ _ _ _ (t .before .loop .inv) (room (t .before)) (t .loop-test .taken) _ (c .before .entry-at .ensures)
 
 put-entry-requires : tie.Need-put-entry-requires Inv-loop μ-loop
 put-entry-requires c κs =
-    entry-asked _ _ _ _ _ _ _ _ _ _ _ _ _ (c .before .before .before .before .before .before .before .before .loop .inv) (room-of _ _ _ _ _ _ _ _ (c .before .before .before .before .before .before .before .before .before .before .if1 .left) (c .before .before .before .before .before .before .before .before .before .before .before .before .before .before .before .before .before .pre .1)) (c .before .before .before .before .before .before .before .loop-test .taken) _ (c .before .before .before .before .before .before .entry-at .ensures) _ (c .before .before .before .before .put-times .ensures .0) (omega (arith, c .before .before .before .before .before .before .before .before .before .before .before .before .before .before .before .before .before .good))
+    let b = c .before .before .before .before in
+    let t = turn b in
+    entry-asked _ _ _ _ _ _ _ _ _ _ _ _ _ (t .before .loop .inv) (room (t .before)) (t .loop-test .taken) _ (b .before .before .entry-at .ensures) _ (b .put-times .ensures .0) (omega (arith, start (t .before) .good))
 
 place-at-requires-2 : tie.Need-place-at-requires-2 Inv-loop μ-loop
 place-at-requires-2 c κs =
-    let w = entire _ _ _ _ _ _ _ _ _ _ _ _ _ (c .before .before .before .before .before .before .before .before .before .before .before .before .before .loop .inv) (room-of _ _ _ _ _ _ _ _ (c .before .before .before .before .before .before .before .before .before .before .before .before .before .before .before .if1 .left) (c .before .before .before .before .before .before .before .before .before .before .before .before .before .before .before .before .before .before .before .before .before .before .pre .1)) (c .before .before .before .before .before .before .before .before .before .before .before .before .loop-test .taken) in
-    omega (arith, w, c .before .before .before .before .before .before .before .before .before .put-times .ensures .0 .1, c .before .before .before .before .put-entry .ensures .0 .1)
+    let e = c .before .before .before .before in
+    omega (arith, whole (turn (times e)), times e .put-times .ensures .0 .1, e .put-entry .ensures .0 .1)
 
 loop-less : tie.Need-loop-less Inv-loop μ-loop
 loop-less c =
-    let w = entire _ _ _ _ _ _ _ _ _ _ _ _ _ (c .before .before .before .before .before .before .before .before .before .before .before .before .before .before .loop .inv) (room-of _ _ _ _ _ _ _ _ (c .before .before .before .before .before .before .before .before .before .before .before .before .before .before .before .before .if1 .left) (c .before .before .before .before .before .before .before .before .before .before .before .before .before .before .before .before .before .before .before .before .before .before .before .pre .1)) (c .before .before .before .before .before .before .before .before .before .before .before .before .before .loop-test .taken) in
-    omega (arith, w, c .before .before .before .before .before .before .before .before .before .before .put-times .ensures .0 .1, c .before .before .before .before .before .put-entry .ensures .0 .1)
+    let e = c .before .before .before .before .before in
+    omega (arith, whole (turn (times e)), times e .put-times .ensures .0 .1, e .put-entry .ensures .0 .1)
 
 loop-again : tie.Need-loop-again Inv-loop μ-loop
 loop-again c =
-    let b = c .before .before .before .before .before .before .before .before .before .before .put-times .ensures in
-    let e = c .before .before .before .before .before .put-entry .ensures in
-    turned _ _ _ _ _ _ _ _ _ _ _ _ _ (c .before .before .before .before .before .before .before .before .before .before .before .before .before .before .loop .inv) (room-of _ _ _ _ _ _ _ _ (c .before .before .before .before .before .before .before .before .before .before .before .before .before .before .before .before .if1 .left) (c .before .before .before .before .before .before .before .before .before .before .before .before .before .before .before .before .before .before .before .before .before .before .before .pre .1)) (c .before .before .before .before .before .before .before .before .before .before .before .before .before .loop-test .taken) _ (c .before .before .before .before .before .before .before .before .before .before .before .before .entry-at .ensures) _ _ _ _ _ _ (b .1) (b .0) (e .0) (e .1 .0) (e .1 .1) (c .place-at2 .ensures)
+    let e = c .before .before .before .before .before in
+    let b = times e in
+    let t = turn b in
+    turned _ _ _ _ _ _ _ _ _ _ _ _ _ (t .before .loop .inv) (room (t .before)) (t .loop-test .taken) _ (b .before .before .entry-at .ensures)
+    _ _ _ _ _ _ (b .put-times .ensures .1) (b .put-times .ensures .0) (e .put-entry .ensures .0) (e .put-entry .ensures .1 .0) (e .put-entry .ensures .1 .1) (c .place-at2 .ensures)
 
 put-times-requires-2 : tie.Need-put-times-requires-2 Inv-loop μ-loop
 put-times-requires-2 c κs =
-    last-asked _ _ _ _ _ _ _ _ _ _ _ _ _ (c .before .before .loop .inv) (room-of _ _ _ _ _ _ _ _ (c .before .before .before .before .if1 .left) (c .before .before .before .before .before .before .before .before .before .before .before .pre .1)) (c .before .loop-test .left)
+    let l = c .before .before in
+    last-asked _ _ _ _ _ _ _ _ _ _ _ _ _ (l .loop .inv) (room l) (c .before .loop-test .left)
 
 same-length : tie.Need-same-length Inv-loop μ-loop
 same-length c =
-    c .before .before .put-times2 .kept .0 ∙ now-long _ _ _ _ _ _ _ _ _ _ _ _ _ (c .before .before .before .before .before .loop .inv) (room-of _ _ _ _ _ _ _ _ (c .before .before .before .before .before .before .before .if1 .left) (c .before .before .before .before .before .before .before .before .before .before .before .before .before .before .pre .1)) .0
+    let l = c .before .before .before .before .before in
+    c .before .before .put-times2 .kept .0 ∙ now-long _ _ _ _ _ _ _ _ _ _ _ _ _ (l .loop .inv) (room l) .0
 
 same-length-2 : tie.Need-same-length-2 Inv-loop μ-loop
 same-length-2 c =
-    now-long _ _ _ _ _ _ _ _ _ _ _ _ _ (c .before .before .before .before .before .loop .inv) (room-of _ _ _ _ _ _ _ _ (c .before .before .before .before .before .before .before .if1 .left) (c .before .before .before .before .before .before .before .before .before .before .before .before .before .before .pre .1)) .1
+    let l = c .before .before .before .before .before in
+    now-long _ _ _ _ _ _ _ _ _ _ _ _ _ (l .loop .inv) (room l) .1
 
 same-length-3 : tie.Need-same-length-3 Inv-loop μ-loop
 same-length-3 c =
-    now-long _ _ _ _ _ _ _ _ _ _ _ _ _ (c .before .before .before .before .before .loop .inv) (room-of _ _ _ _ _ _ _ _ (c .before .before .before .before .before .before .before .if1 .left) (c .before .before .before .before .before .before .before .before .before .before .before .before .before .before .pre .1)) .2
+    let l = c .before .before .before .before .before in
+    now-long _ _ _ _ _ _ _ _ _ _ _ _ _ (l .loop .inv) (room l) .2
 
 returns-2 : tie.Need-returns-2 Inv-loop μ-loop
 returns-2 c =
     let b = c .before .before .put-times2 .ensures in
-    ended _ _ _ _ _ _ _ _ _ _ _ _ _ (c .before .before .before .before .before .loop .inv) (room-of _ _ _ _ _ _ _ _ (c .before .before .before .before .before .before .before .if1 .left) (c .before .before .before .before .before .before .before .before .before .before .before .before .before .before .pre .1)) (c .before .before .before .before .loop-test .left) _ _ (b .1) (b .0) ∙ back-to _ _ _ _ _ _ _ _ (c .before .before .before .before .before .before .before .if1 .left)
+    let l = c .before .before .before .before .before in
+    ended _ _ _ _ _ _ _ _ _ _ _ _ _ (l .loop .inv) (room l) (c .before .before .before .before .loop-test .left) _ _ (b .1) (b .0) ∙ back-to _ _ _ _ _ _ _ _ (l .before .before .if1 .left)
 
 pub put-padding-spec : {M : Type 1} → statement M
 put-padding-spec =
