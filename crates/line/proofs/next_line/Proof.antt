@@ -72,14 +72,12 @@ headed : (c : tie.After-head-at Inv-loop μ-loop Inv-words μ-words)
     × (c .head-at .result .width ≡ headWidth (limitOf (c .before .before .before .before .before .before .before .before .before .before .before .args .width)
     (c .before .before .before .before .before .before .before .before .before .before .before .args .break-words)) (c .before .before .before .before .before .before .before .words .word .now))
 headed c =
-    let at-words = c .before .before .before .before .before .before .before in
-    let at-limit-of = at-words .before .before in
     let e = ended (c .before) in
-    let h = laws.head-law (at-limit-of .limit-of .result)
-    (at-words .words .word .now) (c .before .if2 .cut) _ (e .0) (e .1) in
-    let m = at-limit-of .limit-of .ensures in (
-      ap (λ (x : Head). x .len) (c .head-at .ensures) ∙ h .0 ∙ ap (λ (n : ℕ). headLen n (at-words .words .word .now)) m,
-      ap (λ (x : Head). x .width) (c .head-at .ensures) ∙ h .1 ∙ ap (λ (n : ℕ). headWidth n (at-words .words .word .now)) m,
+    let h = laws.head-law (c .before .before .before .before .before .before .before .before .before .limit-of .result)
+    (c .before .before .before .before .before .before .before .words .word .now) (c .before .if2 .cut) _ (e .0) (e .1) in
+    let m = c .before .before .before .before .before .before .before .before .before .limit-of .ensures in (
+      ap (λ (x : Head). x .len) (c .head-at .ensures) ∙ h .0 ∙ ap (λ (n : ℕ). headLen n (c .before .before .before .before .before .before .before .words .word .now)) m,
+      ap (λ (x : Head). x .width) (c .head-at .ensures) ∙ h .1 ∙ ap (λ (n : ℕ). headWidth n (c .before .before .before .before .before .before .before .words .word .now)) m,
     )
 
 sized : (c : tie.After-head-at Inv-loop μ-loop Inv-words μ-words)
@@ -133,17 +131,16 @@ sub-fits c = omega (arith, further c .left-within)
 
 fits-requires : tie.Need-fits-requires Inv-loop μ-loop Inv-words μ-words
 fits-requires c κs =
-    let at-words = c .before .before .before .before .before .before .before .before .before in
     omega (
       arith,
       further c .within,
       further c .small,
-      word-le (at-words .words .word .now),
+      word-le (c .before .before .before .before .before .before .before .before .before .words .word .now),
       whole
-          (at-words),
-      at-words .words .inv .small,
-      at-words .words .inv .past,
-      room (at-words),
+          (c .before .before .before .before .before .before .before .before .before),
+      c .before .before .before .before .before .before .before .before .before .words .inv .small,
+      c .before .before .before .before .before .before .before .before .before .words .inv .past,
+      room (c .before .before .before .before .before .before .before .before .before),
     )
 
 loop-less : tie.Need-loop-less Inv-loop μ-loop Inv-words μ-words
@@ -196,34 +193,25 @@ part-word-end-2 c = search needs
 
 words-less : tie.Need-words-less Inv-loop μ-loop Inv-words μ-words
 words-less c =
-    let at-4 = c .before .before .before .before in
-    let at-if1 = at-4 .before .before .before .before .before in
-    let at-in-line = at-if1 .before in
-    let at-words = at-in-line .before in
-    let start = at-words .before .before .before .before in
-    let m = limitOf (start .args .width)
-    (start .args .break-words) in
+    let m = limitOf (c .before .before .before .before .before .before .before .before .before .before .before .before .before .before .before .args .width)
+    (c .before .before .before .before .before .before .before .before .before .before .before .before .before .before .before .args .break-words) in
     let s = c .before .spaces-at in
     omega (
       arith,
-      whole (at-words),
+      whole (c .before .before .before .before .before .before .before .before .before .before .before),
       s .ensures .1,
       laws.moves _ _ _ _ _ _ _ _ _
-          (at-words .words .inv) m _ _
-          (sym (at-in-line .in-line .ensures)
-          ∙ at-if1 .if1 .taken) (headed (at-4) .0) (s .ensures .0),
+          (c .before .before .before .before .before .before .before .before .before .before .before .words .inv) m _ _
+          (sym (c .before .before .before .before .before .before .before .before .before .before .in-line .ensures)
+          ∙ c .before .before .before .before .before .before .before .before .before .if1 .taken) (headed (c .before .before .before .before) .0) (s .ensures .0),
     )
 
 words-again : tie.Need-words-again Inv-loop μ-loop Inv-words μ-words
 words-again c =
-    let at-4 = c .before .before .before .before in
-    let at-if1 = at-4 .before .before .before .before .before in
-    let at-in-line = at-if1 .before in
-    let at-words = at-in-line .before in
     let s = c .before .spaces-at in
-    laws.state-next _ _ _ _ _ _ _ _ _ (at-words .words .inv) _ _ _ (omega arith)
-    (sym (at-in-line .in-line .ensures)
-    ∙ at-if1 .if1 .taken) (headed (at-4) .0) (headed (at-4) .1)
+    laws.state-next _ _ _ _ _ _ _ _ _ (c .before .before .before .before .before .before .before .before .before .before .before .words .inv) _ _ _ (omega arith)
+    (sym (c .before .before .before .before .before .before .before .before .before .before .in-line .ensures)
+    ∙ c .before .before .before .before .before .before .before .before .before .if1 .taken) (headed (c .before .before .before .before) .0) (headed (c .before .before .before .before) .1)
     (s .ensures .0) (s .ensures .1) (sym (c .before .before .before .fits3 .ensures) ∙ not-false (c .before .before .before .fits3 .result) (c .before .before .if5 .left))
 
 after-line-requires : tie.Need-after-line-requires Inv-loop μ-loop Inv-words μ-words
@@ -231,11 +219,9 @@ after-line-requires c κs = omega (arith, whole (c .before .before))
 
 returns : tie.Need-returns Inv-loop μ-loop Inv-words μ-words
 returns c =
-    let at-limit-of = c .before .before .before .before .before in
-    let start = at-limit-of .before .before in
     let I = c .before .before .before .words .inv in
-    let P = laws.Promise (start .args .«data» .now) (start .args .at)
-    (start .args .width) (start .args .break-words) in
+    let P = laws.Promise (c .before .before .before .before .before .before .before .args .«data» .now) (c .before .before .before .before .before .before .before .args .at)
+    (c .before .before .before .before .before .before .before .args .width) (c .before .before .before .before .before .before .before .args .break-words) in
     let R : P (c .after-line .result) =
     rw (c .after-line .ensures)
     (⊎-elim
@@ -260,8 +246,8 @@ returns c =
       struct-known3 = w .7;
     } in
     let g = w .2 .result in
-    laws.state-early _ _ _ _ _ _ _ _ _ I (at-limit-of .limit-of .result)
-    (at-limit-of .limit-of .result - (w .1 .left - g .width)) (at-limit-of .limit-of .ensures)
+    laws.state-early _ _ _ _ _ _ _ _ _ I (c .before .before .before .before .before .limit-of .result)
+    (c .before .before .before .before .before .limit-of .result - (w .1 .left - g .width)) (c .before .before .before .before .before .limit-of .ensures)
     (room (c .before .before .before)) (sym (c .before .before .in-line .ensures) ∙ w .0 .taken)
     (omega (arith, further h .place, w .4 .left)) (omega (arith, further h .width)) (sym (w .8 .ensures) ∙ not-true (w .8 .result) (w .9 .taken)))
     (λ w.
