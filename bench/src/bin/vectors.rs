@@ -1,6 +1,6 @@
-//! Makes the list of vectors that `crates/vectors` replays, and what it must print: `vectors FOLDER [--seed N]` writes FOLDER/stdin and
-//! FOLDER/stdout. What a vector expects comes from the originals and from document 01's refusals; the library is never asked.
-//! How a line is read: `crates/vectors/src/main.rt`. The same seed gives the same list.
+//! Makes the second part of the lines that `crates/vectors` replays, and what it must print: `vectors FOLDER [--seed N]` writes FOLDER/stdin from its
+//! line MARK on, and FOLDER/stdout. What a line expects comes from the originals and from document 01's refusals; the library is never asked.
+//! How a line is read: `crates/vectors/src/main.rt`. The same seed gives the same lines.
 use std::collections::{HashMap, HashSet};
 use std::fmt::Write as _;
 
@@ -36,26 +36,40 @@ const CALLS: &[(&str, Maker)] = &[
     ("raw", |n| adding(n, 3)),
 ];
 
+/// The program's names after these calls; only the first part of the list has lines of them.
+const OTHERS: [&str; 3] = ["char_width", "read_char", "trim_start_zero_width_chars"];
+
+/// What the first line of the second part starts with.
+const MARK: &str = "# ── Made by bench/vectors";
+
 /// The first calls, which are on a text and have no refusal.
 const TEXTS: usize = 5;
 /// How many vectors a call has, and how many of them are refused if it refuses at all.
 const COUNT: usize = 200;
 const REFUSED: usize = 40;
-/// The longest fields and list: the program's buffers are as long.
+/// The longest lists of one line, and of the whole: the program's buffer is as long.
 const MOST_BYTES: usize = 256;
 const MOST_NUMBERS: usize = 128;
-const MOST_LIST: usize = 1 << 20;
+const MOST_LIST: usize = 1 << 21;
 
-/// What a line holds but for its first two fields.
+/// What holds each place of a lent buffer that is not written.
+const BYTE: u8 = 0xA5;
+const NUMBER: u32 = 0xA5A5_A5A5;
+
+/// What a line holds: what the call is given, and what it must answer and leave. The lent buffers are here in full.
 #[derive(Clone, Default)]
 struct Vector {
     content: Lists,
     second: Lists,
+    /// Of the calls that add: how much of the content's buffers is used.
+    used: Vec<usize>,
     number: u64,
     flag: bool,
     answer: [u64; 5],
     out: Lists,
     lines: Vec<u32>,
+    /// How much of each buffer holds a result.
+    kept: [usize; 4],
 }
 
 impl Vector {
@@ -65,15 +79,55 @@ impl Vector {
             && self.lines.len() <= MOST_NUMBERS
     }
 
+    /// The call's name and the fields that it has.
     fn line(&self, call: usize, right: bool) -> String {
-        let mut made = format!("{call} {}", right as u8);
-        for lists in [&self.content, &self.second] {
-            write!(made, " {} {} {}", bytes(&lists.data), numbers(&lists.entries), bytes(&lists.text)).unwrap();
+        let name = CALLS[call].0;
+        let adds = !self.used.is_empty();
+        let mut made = format!("{}{name}", if right { "" } else { "!" });
+        let mut add = |key: &str, list: String| {
+            if !list.is_empty() {
+                write!(made, " {key}={list}").unwrap();
+            }
+        };
+        let (content, second, out) = (&self.content, &self.second, &self.out);
+        if adds {
+            let held = |k: usize, len: usize| self.used[k].min(len);
+            add("data", lent(&content.data, held(0, content.data.len()), BYTE, bytes));
+            add("entries", lent(&content.entries, held(1, content.entries.len()), NUMBER, entries));
+            add("text", lent(&content.text, held(2, content.text.len()), BYTE, bytes));
+            add("used", self.used.iter().map(usize::to_string).collect::<Vec<_>>().join(","));
+        } else {
+            add("data", bytes(&content.data));
+            add("entries", entries(&content.entries));
+            add("text", bytes(&content.text));
         }
-        write!(made, " {} {}", self.number, self.flag as u8).unwrap();
-        self.answer.iter().for_each(|n| write!(made, " {n}").unwrap());
-        let out = &self.out;
-        write!(made, " {} {} {} {}", bytes(&out.data), numbers(&out.entries), bytes(&out.text), numbers(&self.lines)).unwrap();
+        match name {
+            "write_replaced" => {
+                add("records", groups(&second.entries, 4));
+                add("new", bytes(&second.data));
+            }
+            _ => {
+                add(if adds { "added" } else { "second" }, bytes(&second.data));
+                add("second_entries", entries(&second.entries));
+                add("second_text", bytes(&second.text));
+            }
+        }
+        let wide = ["trunc", "padded", "wrap", "elide"].iter().any(|part| name.contains(part));
+        add("width", if wide { self.number.to_string() } else { String::new() });
+        add("break", if name.contains("wrap") { (self.flag as u8).to_string() } else { String::new() });
+        let numbers = if call < TEXTS { if wide { 2 } else { 1 } } else if self.answer[0] == 0 || self.answer[1..] != [0; 4] { 5 } else { 1 };
+        add("answer", self.answer[..numbers].iter().map(u64::to_string).collect::<Vec<_>>().join(","));
+        let (plain, lists) = (name.starts_with("elide") || name == "complete_newline", name.contains("wrap"));
+        if call >= TEXTS && name != "wrap_bytes" {
+            add("out", lent(&out.data, self.kept[0], BYTE, bytes));
+        }
+        if call >= TEXTS && name != "wrap_bytes" && !plain {
+            add("out_entries", lent(&out.entries, self.kept[1], NUMBER, entries));
+            add("out_text", lent(&out.text, self.kept[2], BYTE, bytes));
+        }
+        if lists {
+            add("lines", lent(&self.lines, self.kept[3], NUMBER, |s| groups(s, 2)));
+        }
         made
     }
 
@@ -94,12 +148,60 @@ impl Vector {
     }
 }
 
-fn bytes(s: &[u8]) -> String {
-    if s.is_empty() { "-".into() } else { s.iter().map(|b| format!("{b:02x}")).collect() }
+/// A lent buffer: its length, and what its first places hold. Those that are left out were not written.
+fn lent<T: Copy + PartialEq>(buffer: &[T], kept: usize, unwritten: T, list: impl Fn(&[T]) -> String) -> String {
+    let written = buffer.iter().rposition(|x| *x != unwritten).map_or(0, |last| last + 1);
+    format!("{}:{}", buffer.len(), list(&buffer[..written.max(kept)]))
 }
 
-fn numbers(s: &[u32]) -> String {
-    if s.is_empty() { "-".into() } else { s.iter().map(|n| format!("{n:08x}")).collect() }
+/// A text between quotes. Printable ASCII, Latin letters and characters of two columns (but the wide space) stand for themselves.
+fn bytes(s: &[u8]) -> String {
+    if s.is_empty() {
+        return String::new();
+    }
+    let (mut made, mut at) = (String::from("\""), 0);
+    while at < s.len() {
+        match s[at] {
+            b'\n' => made.push_str("\\n"),
+            b'\t' => made.push_str("\\t"),
+            b'\\' => made.push_str("\\\\"),
+            b @ 0x20..=0x7E if b != b'"' => made.push(b as char),
+            b => match character(&s[at..]).filter(|c| shown(*c)) {
+                Some(c) => {
+                    made.push(c);
+                    at += c.len_utf8() - 1;
+                }
+                None => write!(made, "\\x{b:02x}").unwrap(),
+            },
+        }
+        at += 1;
+    }
+    made + "\""
+}
+
+/// The well-formed character of more than one byte that a text starts with.
+fn character(s: &[u8]) -> Option<char> {
+    (2..=s.len().min(4)).find_map(|n| std::str::from_utf8(&s[..n]).ok()).and_then(|t| t.chars().next())
+}
+
+fn shown(c: char) -> bool {
+    ('\u{C0}'..='\u{24F}').contains(&c) || oracle::text_width(c.to_string().as_bytes()) == 2 && c != '\u{3000}'
+}
+
+/// Numbers in groups.
+fn groups(s: &[u32], size: usize) -> String {
+    s.chunks(size).map(|g| g.iter().map(u32::to_string).collect::<Vec<_>>().join(",")).collect::<Vec<_>>().join(";")
+}
+
+/// Entries, with words for their kinds.
+fn entries(s: &[u32]) -> String {
+    let word = |(k, n): (usize, &u32)| match (k, n) {
+        (1, 0) => "push".into(),
+        (1, 1) => "pop".into(),
+        (1, 2) => "raw".into(),
+        _ => n.to_string(),
+    };
+    s.chunks(4).map(|e| e.iter().enumerate().map(word).collect::<Vec<_>>().join(",")).collect::<Vec<_>>().join(";")
 }
 
 /// The first that `make` gives within a length: 16 bytes mostly, 40 in one of eight.
@@ -170,12 +272,9 @@ fn lend(lent: Lent, made: Vector, expected: Expected, numbers: &mut Numbers) -> 
     let (result, lines) = if got.refusal == 0 { (expected.result, expected.lines) } else { Default::default() };
     Vector {
         answer: [got.refusal, got.data, got.entries, got.text, got.number],
-        out: Lists {
-            data: filled(result.data, room.0, 0xA5),
-            entries: filled(result.entries, room.1, 0xA5A5_A5A5),
-            text: filled(result.text, room.2, 0xA5),
-        },
-        lines: filled(lines, room.3, 0xA5A5_A5A5),
+        kept: [result.data.len(), result.entries.len(), result.text.len(), lines.len()],
+        out: Lists { data: filled(result.data, room.0, BYTE), entries: filled(result.entries, room.1, NUMBER), text: filled(result.text, room.2, BYTE) },
+        lines: filled(lines, room.3, NUMBER),
         ..made
     }
 }
@@ -336,16 +435,18 @@ fn adding(numbers: &mut Numbers, kind: u64) -> Vector {
     expected.faults.insert(0, if above { 10 } else { 0 });
     let got = expected.answer(room);
     let lent = |l: &Lists| Lists {
-        data: filled(l.data.clone(), room.0, 0xA5),
-        entries: filled(l.entries.clone(), room.1, 0xA5A5_A5A5),
-        text: filled(l.text.clone(), room.2, 0xA5),
+        data: filled(l.data.clone(), room.0, BYTE),
+        entries: filled(l.entries.clone(), room.1, NUMBER),
+        text: filled(l.text.clone(), room.2, BYTE),
     };
-    let used = [lists.data.len(), lists.entries.len(), lists.text.len()].map(|n| n as u32).to_vec();
+    let left = if got.refusal == 0 { &expected.result } else { &lists };
     Vector {
         content: lent(&lists),
-        second: Lists { data: added, entries: used, text: vec![] },
+        second: Lists { data: added, ..Lists::default() },
+        used: vec![lists.data.len(), lists.entries.len(), lists.text.len()],
         answer: [got.refusal, got.data, got.entries, got.text, got.number],
-        out: lent(if got.refusal == 0 { &expected.result } else { &lists }),
+        kept: [left.data.len().min(room.0), left.entries.len().min(room.1), left.text.len().min(room.2), 0],
+        out: lent(left),
         ..Vector::default()
     }
 }
@@ -387,14 +488,15 @@ fn main() -> std::io::Result<()> {
             _ => folder = word,
         }
     }
-    let mut list = format!("# Made by bench/vectors with seed {seed} from the originals; src/main.rt says how a line is read.\n");
-    let (mut table, mut spoilt) = (String::new(), String::from("# One place of what is expected is wrong.\n"));
+    let old = std::fs::read_to_string(format!("{folder}/stdin"))?;
+    let first = &old[..old.find(MARK).expect("the line that starts the second part")];
+    let mut list = format!("{first}{MARK} with seed {seed} from the Rust originals: all from here on. Change it there.\n");
+    let mut spoilt = String::from("# One place of what is expected is wrong.\n");
     for (call, (name, _)) in CALLS.iter().enumerate() {
         let mut numbers = Numbers::new(seed * 1000 + call as u64 * 2);
         let made = chosen(call, &mut numbers);
-        writeln!(list, "# {call} {name}").unwrap();
+        writeln!(list, "# {name}").unwrap();
         made.iter().for_each(|v| writeln!(list, "{}", v.line(call, true)).unwrap());
-        writeln!(table, "{name} {} {}", made.len(), made.len()).unwrap();
         let mut wrong = made[numbers.within(0, made.len() as u64 - 1) as usize].clone();
         wrong.spoil(&mut numbers);
         writeln!(spoilt, "{}", wrong.line(call, false)).unwrap();
@@ -402,9 +504,17 @@ fn main() -> std::io::Result<()> {
         each.sort_unstable();
         println!("{name}: {} vectors, {} refused: {each:?}", made.len(), each.len());
     }
-    writeln!(table, "wrong {} {}", CALLS.len(), CALLS.len()).unwrap();
     let list = list + &spoilt;
     assert!(list.len() <= MOST_LIST, "the program reads no more");
-    std::fs::write(format!("{folder}/stdin"), list)?;
-    std::fs::write(format!("{folder}/stdout"), table)
+    std::fs::write(format!("{folder}/stdout"), table(&list))?;
+    std::fs::write(format!("{folder}/stdin"), list)
+}
+
+/// What the program must print: each name with its lines, all of which agree, and last those that are wrong on purpose.
+fn table(list: &str) -> String {
+    let names = || list.lines().filter(|line| !line.is_empty() && !line.starts_with('#')).map(|line| line.split(' ').next().unwrap());
+    let row = |name: &str, count: usize| format!("{name} {count} {count}\n");
+    let calls = CALLS.iter().map(|(name, _)| *name).chain(OTHERS);
+    let rows: String = calls.map(|name| row(name, names().filter(|n| *n == name).count())).collect();
+    rows + &row("wrong", names().filter(|n| n.starts_with('!')).count())
 }

@@ -1,18 +1,10 @@
-// Replays the vectors of the file `stdin`, which `bench/vectors` made from the Rust originals, and prints for each call how many there are and how many agree;
-// last, of those that expect something wrong, how many there are and how many were found. A line that does not do as it should is told by its number.
+// Replays the lines of the file `stdin`, each a call with what it must answer and leave, and prints for each call how many lines there are and how many agree;
+// last, of the lines that expect something wrong, how many there are and how many were found. A line that does not do as it should is told by its number.
 // What is proved of a program is that it is safe; what it should print stands in the file `stdout`.
 //
-// A line is a vector, nineteen fields with one space between them; a line that starts with no call's number says nothing.
-//   0         the call's number: its place among the names in `row`
-//   1         1, or 0 if what is expected is wrong in one place, which must be found
-//   2 3 4     the content: data, entry numbers, text
-//   5 6 7     the second recording (ellipsis, fill, prefix)
-//   8 9       the width; break_words, 0 or 1
-//   10 to 14  the answer: refusal, lengths of data, entry numbers and text, number
-//   15 to 18  the lent buffers in full as the call leaves them: data, entry numbers, text, line list. Before the call they hold A5
-// Bytes are two hexadecimal digits each, entry numbers and lines eight digits a number, `-` is none; all else is decimal.
-// What differs: the calls on a text have it in 2 and their one or two results in 10 and 11; plain texts stand in 2 and 5; `write_replaced` has its records in 6
-// and its text in 5; the calls that add have the lent buffers as they are before in 2 3 4, how much of each is used as three numbers in 6, and what is added in 5.
+// A line: a call's name, then fields `key=value` with one space between them. Which keys there are and how a value is written: the head of the file `stdin`.
+// `!` before the name marks a line that is wrong on purpose. A name or a key that is not in the tables here (in `main` and `value_in`) makes a line differ.
+// The calls go through the C names, so that the boundary is replayed too; three are the library's own, which C has not: `char_width`, `read_char`, `trim_start_zero_width_chars`.
 use capi::ruszvedok_complete_newline;
 use capi::ruszvedok_elide_end;
 use capi::ruszvedok_elide_start;
@@ -35,142 +27,666 @@ use capi::ruszvedok_write_truncated_end;
 use capi::ruszvedok_write_truncated_start;
 use capi::ruszvedok_write_wrapped;
 use capi::ruszvedok_zero_width_len;
-use sheet::decimal_in;
+use chars::LEADS;
+use chars::char_width;
+use chars::read_char;
+use chars::seen_at;
+use chars::trim_start_zero_width_chars;
 use sheet::find;
-use sheet::unhex;
-ghost use Prim.Native.Nat.{_≤_};
+ghost use mathlib.Core.Path.{_≡_};
+ghost use Prim.Native.Nat.{_≤_, _<_};
 ghost use lib.ListN.{length};
+ghost use Rattle.chars.specs.Leads.{leadTable};
+
+// What stands for a word that is no number.
+const NONE: u64 = 18446744073709551615;
+
+// The keys of fields: their places in the table of `value_in`.
+const DATA: usize = 0;
+
+const ENTRIES: usize = 1;
+
+const TEXT: usize = 2;
+
+const SECOND: usize = 3;
+
+const SECOND_ENTRIES: usize = 4;
+
+const SECOND_TEXT: usize = 5;
+
+const RECORDS: usize = 6;
+
+const NEW: usize = 7;
+
+const ADDED: usize = 8;
+
+const USED: usize = 9;
+
+const WIDTH: usize = 10;
+
+const BREAK: usize = 11;
+
+const CODE: usize = 12;
+
+const ANSWER: usize = 13;
+
+const OUT: usize = 14;
+
+const OUT_ENTRIES: usize = 15;
+
+const OUT_TEXT: usize = 16;
+
+const LINES: usize = 17;
+
+const CHARACTERS: usize = 18;
+
+const KEYS: usize = 19;
 
 // ── fields
 
-// Where the field after the one at `at` starts, or the end.
-fn next_field(line: &[u8], at: usize) -> usize
+// Where the field at `at` ends: at the next space that is not between quotes.
+fn field_end(line: &[u8], at: usize) -> usize
     requires { ⌜ at ≤ length (now line) ⌝ }
-    ensures { λ r. ⌜ r ≤ length (now (line .entry)) ⌝ }
+    ensures { λ r. ⌜ (at ≤ r) × (r ≤ length (now (line .entry))) ⌝ }
 {
-    let e = find(line, at, 0x20);
-    if e == line.len() {
-        return e;
+    let mut i = at;
+    let mut quoted = false;
+    while i < line.len() {
+        let b = line[i];
+        if b == 0x22 {
+            quoted = !quoted;
+        }
+        if b == 0x20 {
+            if !quoted {
+                return i;
+            }
+        }
+        i += 1;
     }
-    e + 1
+    i
 }
 
-// Where the k-th field starts, or the end.
-fn field_start(line: &[u8], k: usize) -> usize
-    ensures { λ r. ⌜ r ≤ length (now (line .entry)) ⌝ }
+// The k-th of the parts between separators; none if there are fewer.
+fn part_start(s: &[u8], separator: u8, k: usize) -> usize
+    ensures { λ r. ⌜ r ≤ length (now (s .entry)) ⌝ }
 {
     let mut at = 0;
     let mut i = 0;
     while i < k {
-        at = next_field(line, at);
+        let e = find(s, at, separator);
+        if e == s.len() {
+            return e;
+        }
+        at = e + 1;
         i += 1;
     }
     at
 }
 
-fn field(line: &[u8], k: usize) -> &[u8] {
-    let a = field_start(line, k);
-    let e = find(line, a, 0x20);
+fn part(s: &[u8], separator: u8, k: usize) -> &[u8] {
+    let a = part_start(s, separator, k);
+    let e = find(s, a, separator);
+    &s[a..e]
+}
+
+// Where the value starts in a field that has this name and `=` before it, or 0.
+fn behind(f: &[u8], name: &[u8]) -> usize
+    ensures { λ r. ⌜ r ≤ length (now (f .entry)) ⌝ }
+{
+    let n = name.len();
+    if f.len() <= n {
+        return 0;
+    }
+    if f[n] != 0x3D {
+        return 0;
+    }
+    if !check::same(&f[0..n], name) {
+        return 0;
+    }
+    n + 1
+}
+
+// Where the value of a field with this key starts, or 0.
+fn value_in(f: &[u8], key: usize) -> usize
+    ensures { λ r. ⌜ r ≤ length (now (f .entry)) ⌝ }
+{
+    behind(
+        f,
+        part(
+            b"data entries text second second_entries second_text records new added used width break code answer out out_entries out_text lines characters",
+            0x20,
+            key,
+        ),
+    )
+}
+
+// Where the value of a key starts, or the end.
+fn value_start(line: &[u8], key: usize) -> usize
+    ensures { λ r. ⌜ r ≤ length (now (line .entry)) ⌝ }
+{
+    let mut at = 0;
+    while at < line.len() {
+        let e = field_end(line, at);
+        let v = value_in(&line[at..e], key);
+        if 0 < v {
+            return at + v;
+        }
+        at = e + 1;
+    }
+    line.len()
+}
+
+// The value of a key; none if the line has no such field.
+fn value(line: &[u8], key: usize) -> &[u8] {
+    let a = value_start(line, key);
+    let e = field_end(line, a);
     &line[a..e]
 }
 
-fn number_in(line: &[u8], k: usize) -> u64
-    ensures { λ r. ⌜ r ≤ 4294967296 ⌝ }
-{
-    decimal_in(field(line, k))
-}
-
-// The bytes of a field, in `out`, and how many they are; none if they are too many.
-fn bytes_in(line: &[u8], k: usize, out: &mut [u8]) -> usize
-    ensures { λ r. ⌜ r ≤ length (now (out .exit)) ⌝ }
-{
-    let digits = field(line, k);
-    if out.len() < digits.len() / 2 {
-        return 0;
-    }
-    unhex(digits, out)
-}
-
-fn word(a: u8, b: u8, c: u8, d: u8) -> u32 {
-    a as u32 * 16777216 + b as u32 * 65536 + c as u32 * 256 + d as u32
-}
-
-// The numbers of four bytes each, in `out`, and how many they are.
-fn join(raw: &[u8], out: &mut [u32]) -> usize
-    ensures { λ r. ⌜ r ≤ length (now (out .exit)) ⌝ }
-{
+// Which of the words of a list this one is; the count of them if none.
+fn place_in(list: &[u8], word: &[u8]) -> usize {
+    let mut at = 0;
     let mut k = 0;
-    let mut p = 0;
-    while k < out.len() {
-        if raw.len() < 4 {
+    while at < list.len() {
+        let e = find(list, at, 0x20);
+        if check::same(&list[at..e], word) {
             return k;
         }
-        if raw.len() - 4 < p {
-            return k;
-        }
-        out[k] = word(raw[p], raw[p + 1], raw[p + 2], raw[p + 3]);
+        at = e + 1;
         k += 1;
-        p += 4;
     }
     k
 }
 
-// The numbers of a field, in `out`, and how many they are.
-fn numbers_in(line: &[u8], k: usize, out: &mut [u32]) -> usize
-    ensures { λ r. ⌜ r ≤ length (now (out .exit)) ⌝ }
+// ── numbers
+
+fn wide(b: u8) -> u64
+    ensures { λ r. ⌜ r ≤ 255 ⌝ }
 {
-    let mut raw: [u8; 512] = [0; 512];
-    let n = bytes_in(line, k, &mut raw);
-    join(&raw[0..n], out)
+    b as u64
 }
 
-// ── comparing with what is expected
-
-// Whether a buffer holds the bytes of a field, and A5 beyond them.
-fn same_bytes(line: &[u8], k: usize, got: &[u8]) -> bool {
-    let mut want: [u8; 256] = [0xA5; 256];
-    let n = bytes_in(line, k, &mut want);
-    let m = got.len();
-    if m < n {
-        return false;
-    }
-    if 256 < m {
-        return false;
-    }
-    check::same(&want[0..m], got)
-}
-
-fn equal(a: &[u32], b: &[u32]) -> bool {
-    if a.len() != b.len() {
-        return false;
-    }
+fn decimal(s: &[u8]) -> u64 {
     let mut i = 0;
-    while i < a.len() {
-        if a[i] != b[i] {
-            return false;
+    let mut n: u64 = 0;
+    while i < s.len() {
+        let b = s[i];
+        if b < 0x30 {
+            return NONE;
+        }
+        if 0x39 < b {
+            return NONE;
+        }
+        if 1844674407370955160 < n {
+            return NONE;
+        }
+        n = n * 10 + (b - 0x30) as u64;
+        i += 1;
+    }
+    n
+}
+
+// The value of a hexadecimal digit.
+fn digit(b: u8) -> u8
+    ensures { λ r. ⌜ r ≤ 15 ⌝ }
+{
+    if b < 0x30 {
+        return 0;
+    }
+    if b <= 0x39 {
+        return b - 0x30;
+    }
+    if b < 0x61 {
+        return 0;
+    }
+    if 0x66 < b {
+        return 0;
+    }
+    b - 0x57
+}
+
+fn hexadecimal(s: &[u8]) -> u64 {
+    let mut i = 0;
+    let mut n: u64 = 0;
+    while i < s.len() {
+        if 0xFFFFFFFF < n {
+            return NONE;
+        }
+        n = n * 16 + wide(digit(s[i]));
+        i += 1;
+    }
+    n
+}
+
+// The number that a word says.
+fn number(word: &[u8]) -> u64 {
+    if check::same(word, b"push") {
+        return 0;
+    }
+    if check::same(word, b"pop") {
+        return 1;
+    }
+    if check::same(word, b"raw") {
+        return 2;
+    }
+    if word.len() < 3 {
+        return decimal(word);
+    }
+    if word[1] == 0x78 {
+        return hexadecimal(&word[2..]);
+    }
+    decimal(word)
+}
+
+fn number_of(line: &[u8], key: usize) -> u64 {
+    number(value(line, key))
+}
+
+fn narrow(n: u64) -> u32 {
+    if 0xFFFFFFFF < n {
+        return 0xFFFFFFFF;
+    }
+    n as u32
+}
+
+fn low(n: u64) -> u8 {
+    (n % 256) as u8
+}
+
+// ── lists
+
+// Where in a list the next element stands: the part it is in starts at `from` and was gone through `round` times.
+struct Place {
+    at: usize,
+    from: usize,
+    round: u64,
+    quoted: bool,
+}
+
+// The first place of the part that starts at `at`.
+fn part_at(s: &[u8], at: usize) -> Place
+    requires { ⌜ at ≤ length (now s) ⌝ }
+    ensures { λ r. ⌜ (r .at ≤ length (now (s .entry))) × (r .from ≤ length (now (s .entry))) ⌝ }
+{
+    if at < s.len() {
+        if s[at] == 0x22 {
+            return Place {
+                at: at + 1,
+                from: at + 1,
+                round: 0,
+                quoted: true,
+            };
+        }
+    }
+    Place {
+        at: at,
+        from: at,
+        round: 0,
+        quoted: false,
+    }
+}
+
+fn ends_at(s: &[u8], at: usize, quoted: bool) -> bool
+    requires { ⌜ at < length (now s) ⌝ }
+{
+    let b = s[at];
+    if quoted {
+        return b == 0x22;
+    }
+    if b == 0x2A {
+        return true;
+    }
+    b == 0x2B
+}
+
+// How often a part is to be gone through: `*N`, or once.
+fn times(s: &[u8]) -> u64 {
+    if s.len() < 2 {
+        return 1;
+    }
+    decimal(&s[1..])
+}
+
+// Where a part's elements end, past the closing quote.
+fn past_quote(s: &[u8], at: usize, quoted: bool) -> usize
+    requires { ⌜ at < length (now s) ⌝ }
+    ensures { λ r. ⌜ r ≤ length (now (s .entry)) ⌝ }
+{
+    if quoted {
+        return at + 1;
+    }
+    at
+}
+
+// From a part's end to its start again, to the next part or to the list's end.
+fn turned(s: &[u8], p: Place) -> Place
+    requires { ⌜ (p .at < length (now s)) × (p .from ≤ length (now s)) ⌝ }
+    ensures { λ r. ⌜ (r .at ≤ length (now (s .entry))) × (r .from ≤ length (now (s .entry))) ⌝ }
+{
+    let a = past_quote(s, p.at, p.quoted);
+    let e = find(s, a, 0x2B);
+    let round = std::num::wrapping_add_u64(p.round, 1);
+    if round < times(&s[a..e]) {
+        return Place {
+            at: p.from,
+            from: p.from,
+            round: round,
+            quoted: p.quoted,
+        };
+    }
+    if e == s.len() {
+        return part_at(s, e);
+    }
+    part_at(s, e + 1)
+}
+
+// The place of the next element, or the list's end.
+fn settled(s: &[u8], p: Place) -> Place
+    requires { ⌜ (p .at ≤ length (now s)) × (p .from ≤ length (now s)) ⌝ }
+    ensures { λ r. ⌜ (r .at ≤ length (now (s .entry))) × (r .from ≤ length (now (s .entry))) ⌝ }
+{
+    if p.at == s.len() {
+        return p;
+    }
+    if ends_at(s, p.at, p.quoted) {
+        return turned(s, p);
+    }
+    p
+}
+
+// An element and where the next one may stand.
+struct Element {
+    value: u64,
+    next: usize,
+}
+
+fn byte_at(s: &[u8], i: usize) -> u8 {
+    if i < s.len() {
+        return s[i];
+    }
+    0
+}
+
+// What stands for the letter after a backslash.
+fn escaped(letter: u8) -> u8 {
+    match letter {
+        0x6E => 0x0A,
+        0x74 => 0x09,
+        _ => letter,
+    }
+}
+
+fn within(n: usize, most: usize) -> usize
+    ensures { λ r. ⌜ (r ≤ most) × (r ≤ n) ⌝ }
+{
+    if n < most {
+        return n;
+    }
+    most
+}
+
+// A byte of a text: itself, or after a backslash.
+fn byte_element(s: &[u8], at: usize) -> Element
+    requires { ⌜ at < length (now s) ⌝ }
+    ensures { λ r. ⌜ r .next ≤ length (now (s .entry)) ⌝ }
+{
+    let b = s[at];
+    if b != 0x5C {
+        return Element {
+            value: wide(b),
+            next: at + 1,
+        };
+    }
+    let rest = &s[at..];
+    let letter = byte_at(rest, 1);
+    if letter != 0x78 {
+        return Element {
+            value: wide(escaped(letter)),
+            next: at + within(2, rest.len()),
+        };
+    }
+    Element {
+        value: wide(digit(byte_at(rest, 2))) * 16 + wide(digit(byte_at(rest, 3))),
+        next: at + within(4, rest.len()),
+    }
+}
+
+fn separates(b: u8) -> bool {
+    match b {
+        0x2C | 0x3B => true,
+        _ => false,
+    }
+}
+
+// Where the word at `at` ends.
+fn word_end(s: &[u8], at: usize) -> usize
+    requires { ⌜ at ≤ length (now s) ⌝ }
+    ensures { λ r. ⌜ (at ≤ r) × (r ≤ length (now (s .entry))) ⌝ }
+{
+    let mut i = at;
+    while i < s.len() {
+        let b = s[i];
+        if separates(b) {
+            return i;
+        }
+        if b == 0x2A {
+            return i;
+        }
+        if b == 0x2B {
+            return i;
         }
         i += 1;
     }
-    true
+    i
 }
 
-fn same_numbers(line: &[u8], k: usize, got: &[u32]) -> bool {
-    let mut want: [u32; 128] = [0xA5A5A5A5; 128];
-    let n = numbers_in(line, k, &mut want);
-    let m = got.len();
-    if m < n {
-        return false;
+// A number, and the place after its separator.
+fn number_element(s: &[u8], at: usize) -> Element
+    requires { ⌜ at < length (now s) ⌝ }
+    ensures { λ r. ⌜ r .next ≤ length (now (s .entry)) ⌝ }
+{
+    let e = word_end(s, at);
+    let n = number(&s[at..e]);
+    if separates(byte_at(s, e)) {
+        return Element {
+            value: n,
+            next: within(e + 1, s.len()),
+        };
     }
-    if 128 < m {
-        return false;
-    }
-    equal(&want[0..m], got)
+    Element { value: n, next: e }
 }
 
+fn element_at(s: &[u8], at: usize, quoted: bool) -> Element
+    requires { ⌜ at < length (now s) ⌝ }
+    ensures { λ r. ⌜ r .next ≤ length (now (s .entry)) ⌝ }
+{
+    if quoted {
+        return byte_element(s, at);
+    }
+    number_element(s, at)
+}
+
+// The next element of a list, if there is one, and the place after it.
+struct Next {
+    some: bool,
+    value: u64,
+    place: Place,
+}
+
+fn next_from(s: &[u8], p: Place) -> Next
+    requires { ⌜ (p .at ≤ length (now s)) × (p .from ≤ length (now s)) ⌝ }
+    ensures { λ r. ⌜ (r .place .at ≤ length (now (s .entry))) × (r .place .from ≤ length (now (s .entry))) ⌝ }
+{
+    let q = settled(s, p);
+    if q.at == s.len() {
+        return Next {
+            some: false,
+            value: 0xA5,
+            place: q,
+        };
+    }
+    let e = element_at(s, q.at, q.quoted);
+    Next {
+        some: true,
+        value: e.value,
+        place: Place {
+            at: e.next,
+            from: q.from,
+            round: q.round,
+            quoted: q.quoted,
+        },
+    }
+}
+
+// The bytes of a list, in `out`, and how many they are.
+fn read_bytes(s: &[u8], out: &mut [u8]) -> usize
+    ensures { λ r. ⌜ r ≤ length (now (out .exit)) ⌝ }
+{
+    let mut p = part_at(s, 0);
+    let mut k = 0;
+    while k < out.len() {
+        let n = next_from(s, p);
+        if !n.some {
+            return k;
+        }
+        out[k] = low(n.value);
+        p = n.place;
+        k += 1;
+    }
+    k
+}
+
+fn read_numbers(s: &[u8], out: &mut [u32]) -> usize
+    ensures { λ r. ⌜ r ≤ length (now (out .exit)) ⌝ }
+{
+    let mut p = part_at(s, 0);
+    let mut k = 0;
+    while k < out.len() {
+        let n = next_from(s, p);
+        if !n.some {
+            return k;
+        }
+        out[k] = narrow(n.value);
+        p = n.place;
+        k += 1;
+    }
+    k
+}
+
+// Whether a buffer holds the bytes of a list, and A5 beyond them.
+fn holds_bytes(s: &[u8], got: &[u8]) -> bool {
+    let mut p = part_at(s, 0);
+    let mut k = 0;
+    while k < got.len() {
+        let n = next_from(s, p);
+        let want = if n.some { low(n.value) } else { 0xA5 };
+        if want != got[k] {
+            return false;
+        }
+        p = n.place;
+        k += 1;
+    }
+    let n = next_from(s, p);
+    !n.some
+}
+
+fn holds_numbers(s: &[u8], got: &[u32]) -> bool {
+    let mut p = part_at(s, 0);
+    let mut k = 0;
+    while k < got.len() {
+        let n = next_from(s, p);
+        let want = if n.some { narrow(n.value) } else { 0xA5A5A5A5 };
+        if want != got[k] {
+            return false;
+        }
+        p = n.place;
+        k += 1;
+    }
+    let n = next_from(s, p);
+    !n.some
+}
+
+// ── buffers
+
+// Where the list of a field starts: behind the length of a lent buffer and a colon, if it has one.
+fn list_start(f: &[u8]) -> usize
+    ensures { λ r. ⌜ r ≤ length (now (f .entry)) ⌝ }
+{
+    if byte_at(f, 0) == 0x22 {
+        return 0;
+    }
+    let c = find(f, 0, 0x3A);
+    if c == f.len() {
+        return 0;
+    }
+    c + 1
+}
+
+// How long the lent buffer of a field is: what stands before the colon.
+fn room(f: &[u8], most: usize) -> usize
+    ensures { λ r. ⌜ r ≤ most ⌝ }
+{
+    let n = decimal(part(f, 0x3A, 0));
+    within(n as usize, most)
+}
+
+// The bytes of a field, in `out`, and how many places of it are theirs: as many as they are, or as long as the lent buffer is.
+fn bytes_in(line: &[u8], key: usize, out: &mut [u8]) -> usize
+    ensures { λ r. ⌜ r ≤ length (now (out .exit)) ⌝ }
+{
+    let f = value(line, key);
+    let a = list_start(f);
+    let n = read_bytes(&f[a..], out);
+    if a == 0 {
+        return n;
+    }
+    room(f, out.len())
+}
+
+fn numbers_in(line: &[u8], key: usize, out: &mut [u32]) -> usize
+    ensures { λ r. ⌜ r ≤ length (now (out .exit)) ⌝ }
+{
+    let f = value(line, key);
+    let a = list_start(f);
+    let n = read_numbers(&f[a..], out);
+    if a == 0 {
+        return n;
+    }
+    room(f, out.len())
+}
+
+// How much of a buffer is looked at: what is lent of it, and eight places more.
+fn looked_at(f: &[u8], most: usize) -> usize
+    ensures { λ r. ⌜ r ≤ most ⌝ }
+{
+    let n = room(f, most);
+    if most - n < 8 {
+        return most;
+    }
+    n + 8
+}
+
+// Whether a buffer holds the list of a field and A5 beyond it.
+fn same_bytes(line: &[u8], key: usize, got: &[u8]) -> bool {
+    let f = value(line, key);
+    let a = list_start(f);
+    let n = looked_at(f, got.len());
+    holds_bytes(&f[a..], &got[0..n])
+}
+
+fn same_numbers(line: &[u8], key: usize, got: &[u32]) -> bool {
+    let f = value(line, key);
+    let a = list_start(f);
+    let n = looked_at(f, got.len());
+    holds_numbers(&f[a..], &got[0..n])
+}
+
+// Whether these are the numbers of the answer; those that are left out are 0.
 fn same_answer(line: &[u8], res: &[u64; 5]) -> bool {
+    let f = value(line, ANSWER);
     let mut k = 0;
     while k < 5 {
-        if number_in(line, 10 + k) != res[k] {
+        if number(part(f, 0x2C, k)) != res[k] {
             return false;
         }
         k += 1;
@@ -178,47 +694,17 @@ fn same_answer(line: &[u8], res: &[u64; 5]) -> bool {
     true
 }
 
-// Whether the answer and the lent buffers are as expected.
-fn agrees(
-    line: &[u8],
-    res: &[u64; 5],
-    data: &[u8],
-    entries: &[u32],
-    text: &[u8],
-    lines: &[u32],
-) -> bool {
-    if !same_answer(line, res) {
-        return false;
-    }
-    if !same_bytes(line, 15, data) {
-        return false;
-    }
-    if !same_numbers(line, 16, entries) {
-        return false;
-    }
-    if !same_bytes(line, 17, text) {
-        return false;
-    }
-    same_numbers(line, 18, lines)
+// ── the calls, by their places in the table of names
+
+// Buffers hold what the limits ask for, one element past them too, and eight places more. One this long comes from a function: the prover does not write it out.
+fn data_buffer() -> [u8; 1048600] {
+    [0xA5; 1048600]
 }
 
-// The same of whole arrays, whose lengths their types say.
-fn arrays_agree(
-    line: &[u8],
-    res: &[u64; 5],
-    data: &[u8; 256],
-    entries: &[u32; 128],
-    text: &[u8; 256],
-    lines: &[u32; 128],
-) -> bool {
-    agrees(line, res, data, entries, text, lines)
-}
-
-// ── the calls, by their numbers
-
-fn text_agrees(line: &[u8], call: u64, s: &[u8]) -> bool {
+// The calls on a text.
+fn text_agrees(line: &[u8], call: usize, s: &[u8]) -> bool {
     let mut res: [u64; 5] = [0; 5];
-    let max = number_in(line, 8);
+    let max = number_of(line, WIDTH);
     match call {
         0 => {
             res[0] = ruszvedok_text_width(s);
@@ -243,8 +729,42 @@ fn text_agrees(line: &[u8], call: u64, s: &[u8]) -> bool {
     same_answer(line, &res)
 }
 
-fn layout_call(
-    call: u64,
+// Whether the answer and the lent buffers are as expected.
+fn agrees(
+    line: &[u8],
+    res: &[u64; 5],
+    data: &[u8],
+    entries: &[u32],
+    text: &[u8],
+    lines: &[u32],
+) -> bool {
+    if !same_answer(line, res) {
+        return false;
+    }
+    if !same_bytes(line, OUT, data) {
+        return false;
+    }
+    if !same_numbers(line, OUT_ENTRIES, entries) {
+        return false;
+    }
+    if !same_bytes(line, OUT_TEXT, text) {
+        return false;
+    }
+    same_numbers(line, LINES, lines)
+}
+
+fn room_of(line: &[u8], key: usize, most: usize) -> usize
+    ensures { λ r. ⌜ r ≤ most ⌝ }
+{
+    let f = value(line, key);
+    if list_start(f) == 0 {
+        return 0;
+    }
+    room(f, most)
+}
+
+fn padding_call(
+    call: usize,
     content: &[u8],
     entries: &[u32],
     text: &[u8],
@@ -252,41 +772,12 @@ fn layout_call(
     second_entries: &[u32],
     second_text: &[u8],
     width: u32,
-    breaks: bool,
     bytes: &mut [u8],
     numbers: &mut [u32],
     texts: &mut [u8],
-    lines: &mut [u32],
     res: &mut [u64; 5],
 ) {
     match call {
-        5 => ruszvedok_replay(content, entries, text, bytes, numbers, texts, res),
-        6 => ruszvedok_write_truncated_start(
-            content,
-            entries,
-            text,
-            second,
-            second_entries,
-            second_text,
-            width,
-            bytes,
-            numbers,
-            texts,
-            res,
-        ),
-        7 => ruszvedok_write_truncated_end(
-            content,
-            entries,
-            text,
-            second,
-            second_entries,
-            second_text,
-            width,
-            bytes,
-            numbers,
-            texts,
-            res,
-        ),
         8 => ruszvedok_write_padded_start(
             content,
             entries,
@@ -313,7 +804,7 @@ fn layout_call(
             texts,
             res,
         ),
-        10 => ruszvedok_write_padded_centered(
+        _ => ruszvedok_write_padded_centered(
             content,
             entries,
             text,
@@ -326,7 +817,51 @@ fn layout_call(
             texts,
             res,
         ),
-        11 => ruszvedok_write_indented(
+    }
+}
+
+fn cutting_call(
+    call: usize,
+    content: &[u8],
+    entries: &[u32],
+    text: &[u8],
+    second: &[u8],
+    second_entries: &[u32],
+    second_text: &[u8],
+    width: u32,
+    bytes: &mut [u8],
+    numbers: &mut [u32],
+    texts: &mut [u8],
+    res: &mut [u64; 5],
+) {
+    match call {
+        6 => ruszvedok_write_truncated_start(
+            content,
+            entries,
+            text,
+            second,
+            second_entries,
+            second_text,
+            width,
+            bytes,
+            numbers,
+            texts,
+            res,
+        ),
+        7 => ruszvedok_write_truncated_end(
+            content,
+            entries,
+            text,
+            second,
+            second_entries,
+            second_text,
+            width,
+            bytes,
+            numbers,
+            texts,
+            res,
+        ),
+        _ => ruszvedok_write_indented(
             content,
             entries,
             text,
@@ -338,7 +873,26 @@ fn layout_call(
             texts,
             res,
         ),
-        12 => ruszvedok_wrap_bytes(content, width, breaks, lines, res),
+    }
+}
+
+fn other_call(
+    call: usize,
+    content: &[u8],
+    entries: &[u32],
+    text: &[u8],
+    records: &[u32],
+    new: &[u8],
+    width: u32,
+    breaks: bool,
+    bytes: &mut [u8],
+    numbers: &mut [u32],
+    texts: &mut [u8],
+    lines: &mut [u32],
+    res: &mut [u64; 5],
+) {
+    match call {
+        5 => ruszvedok_replay(content, entries, text, bytes, numbers, texts, res),
         13 => ruszvedok_write_wrapped(
             content,
             entries,
@@ -351,58 +905,122 @@ fn layout_call(
             lines,
             res,
         ),
-        14 => ruszvedok_write_replaced(
+        _ => ruszvedok_write_replaced(
             content,
             entries,
             text,
-            second_entries,
-            second,
+            records,
+            new,
             bytes,
             numbers,
             texts,
             res,
         ),
-        15 => ruszvedok_elide_start(content, second, width, bytes, res),
-        16 => ruszvedok_elide_end(content, second, width, bytes, res),
-        _ => ruszvedok_complete_newline(content, bytes, res),
     }
 }
 
-fn width_in(line: &[u8]) -> u32 {
-    let n = number_in(line, 8);
-    if 4294967295 < n {
-        return 0;
+fn layout_call(
+    call: usize,
+    content: &[u8],
+    entries: &[u32],
+    text: &[u8],
+    second: &[u8],
+    second_entries: &[u32],
+    second_text: &[u8],
+    width: u32,
+    breaks: bool,
+    bytes: &mut [u8],
+    numbers: &mut [u32],
+    texts: &mut [u8],
+    lines: &mut [u32],
+    res: &mut [u64; 5],
+) {
+    match call {
+        8..=10 => padding_call(
+            call,
+            content,
+            entries,
+            text,
+            second,
+            second_entries,
+            second_text,
+            width,
+            bytes,
+            numbers,
+            texts,
+            res,
+        ),
+        6 | 7 | 11 => cutting_call(
+            call,
+            content,
+            entries,
+            text,
+            second,
+            second_entries,
+            second_text,
+            width,
+            bytes,
+            numbers,
+            texts,
+            res,
+        ),
+        _ => other_call(
+            call,
+            content,
+            entries,
+            text,
+            second_entries,
+            second,
+            width,
+            breaks,
+            bytes,
+            numbers,
+            texts,
+            lines,
+            res,
+        ),
     }
-    n as u32
 }
 
-// How long the lent buffer of a field is.
-fn bytes_room(line: &[u8], k: usize) -> usize
-    ensures { λ r. ⌜ r ≤ 256 ⌝ }
+// What a line asks of a layout call besides recordings: how long the lent buffers are, the width, and whether words are broken.
+struct Asked {
+    bytes: usize,
+    numbers: usize,
+    texts: usize,
+    lines: usize,
+    width: u32,
+    breaks: bool,
+}
+
+fn wanted(line: &[u8]) -> Asked
+    ensures { λ r. ⌜ (r .bytes ≤ 10008) × (r .numbers ≤ 16392) × (r .texts ≤ 65592) × (r .lines ≤ 256) ⌝ }
 {
-    let digits = field(line, k);
-    if digits.len() < 513 {
-        digits.len() / 2
-    } else {
-        0
+    Asked {
+        bytes: room_of(line, OUT, 10008),
+        numbers: room_of(line, OUT_ENTRIES, 16392),
+        texts: room_of(line, OUT_TEXT, 65592),
+        lines: room_of(line, LINES, 256),
+        width: narrow(number_of(line, WIDTH)),
+        breaks: number_of(line, BREAK) == 1,
     }
 }
 
-fn numbers_room(line: &[u8], k: usize) -> usize
-    ensures { λ r. ⌜ r ≤ 128 ⌝ }
-{
-    let digits = field(line, k);
-    if digits.len() < 1025 {
-        digits.len() / 8
-    } else {
-        0
-    }
+// The same of whole arrays, whose lengths their types say.
+fn arrays_agree(
+    line: &[u8],
+    res: &[u64; 5],
+    data: &[u8; 10016],
+    entries: &[u32; 16400],
+    text: &[u8; 65600],
+    lines: &[u32; 264],
+) -> bool {
+    agrees(line, res, data, entries, text, lines)
 }
 
-// Lends parts as long as the buffers that are expected, of buffers that hold A5.
+// Lends parts of buffers that hold A5.
 fn layout_agrees(
     line: &[u8],
-    call: u64,
+    call: usize,
     content: &[u8],
     entries: &[u32],
     text: &[u8],
@@ -410,17 +1028,16 @@ fn layout_agrees(
     second_entries: &[u32],
     second_text: &[u8],
 ) -> bool {
-    let mut bytes: [u8; 256] = [0xA5; 256];
-    let mut numbers: [u32; 128] = [0xA5A5A5A5; 128];
-    let mut texts: [u8; 256] = [0xA5; 256];
-    let mut lines: [u32; 128] = [0xA5A5A5A5; 128];
+    let mut bytes: [u8; 10016] = [0xA5; 10016];
+    let mut numbers: [u32; 16400] = [0xA5A5A5A5; 16400];
+    let mut texts: [u8; 65600] = [0xA5; 65600];
+    let mut lines: [u32; 264] = [0xA5A5A5A5; 264];
     let mut res: [u64; 5] = [0; 5];
-    let a = bytes_room(line, 15);
-    let b = numbers_room(line, 16);
-    let c = bytes_room(line, 17);
-    let d = numbers_room(line, 18);
-    let width = width_in(line);
-    let breaks = number_in(line, 9) == 1;
+    let q = wanted(line);
+    let a = q.bytes;
+    let b = q.numbers;
+    let c = q.texts;
+    let d = q.lines;
     layout_call(
         call,
         content,
@@ -429,8 +1046,8 @@ fn layout_agrees(
         second,
         second_entries,
         second_text,
-        width,
-        breaks,
+        q.width,
+        q.breaks,
         &mut bytes[0..a],
         &mut numbers[0..b],
         &mut texts[0..c],
@@ -440,12 +1057,89 @@ fn layout_agrees(
     arrays_agree(line, &res, &bytes, &numbers, &texts, &lines)
 }
 
-fn length_of(n: u32) -> usize {
-    n as usize
+fn second_in(line: &[u8], call: usize, out: &mut [u8]) -> usize
+    ensures { λ r. ⌜ r ≤ length (now (out .exit)) ⌝ }
+{
+    if call == 14 {
+        return bytes_in(line, NEW, out);
+    }
+    bytes_in(line, SECOND, out)
+}
+
+fn second_entries_in(line: &[u8], call: usize, out: &mut [u32]) -> usize
+    ensures { λ r. ⌜ r ≤ length (now (out .exit)) ⌝ }
+{
+    if call == 14 {
+        return numbers_in(line, RECORDS, out);
+    }
+    numbers_in(line, SECOND_ENTRIES, out)
+}
+
+// Reads what a layout call takes besides the content: a second recording, or the replacements and their text.
+fn content_agrees(line: &[u8], call: usize, content: &[u8], entries: &[u32], text: &[u8]) -> bool {
+    let mut second = data_buffer();
+    let mut second_entries: [u32; 40008] = [0; 40008];
+    let mut second_text: [u8; 65600] = [0; 65600];
+    let d = second_in(line, call, &mut second);
+    let e = second_entries_in(line, call, &mut second_entries);
+    let t = bytes_in(line, SECOND_TEXT, &mut second_text);
+    layout_agrees(
+        line,
+        call,
+        content,
+        entries,
+        text,
+        &second[0..d],
+        &second_entries[0..e],
+        &second_text[0..t],
+    )
+}
+
+fn plain_call(
+    call: usize,
+    content: &[u8],
+    second: &[u8],
+    width: u32,
+    breaks: bool,
+    bytes: &mut [u8],
+    lines: &mut [u32],
+    res: &mut [u64; 5],
+) {
+    match call {
+        12 => ruszvedok_wrap_bytes(content, width, breaks, lines, res),
+        15 => ruszvedok_elide_start(content, second, width, bytes, res),
+        16 => ruszvedok_elide_end(content, second, width, bytes, res),
+        _ => ruszvedok_complete_newline(content, bytes, res),
+    }
+}
+
+fn plain_arrays_agree(line: &[u8], res: &[u64; 5], data: &[u8; 10016], lines: &[u32; 264]) -> bool {
+    agrees(line, res, data, &[], b"", lines)
+}
+
+// The calls on plain texts.
+fn plain_agrees(line: &[u8], call: usize, content: &[u8], second: &[u8]) -> bool {
+    let mut bytes: [u8; 10016] = [0xA5; 10016];
+    let mut lines: [u32; 264] = [0xA5A5A5A5; 264];
+    let mut res: [u64; 5] = [0; 5];
+    let q = wanted(line);
+    let a = q.bytes;
+    let d = q.lines;
+    plain_call(
+        call,
+        content,
+        second,
+        q.width,
+        q.breaks,
+        &mut bytes[0..a],
+        &mut lines[0..d],
+        &mut res,
+    );
+    plain_arrays_agree(line, &res, &bytes, &lines)
 }
 
 fn adding_call(
-    call: u64,
+    call: usize,
     content: &mut [u8],
     content_len: usize,
     entries: &mut [u32],
@@ -498,84 +1192,189 @@ fn adding_call(
     }
 }
 
-// Reads what is added and how much of the buffers is used.
+// How much of the content's buffers is used.
+struct Used {
+    data: usize,
+    entries: usize,
+    text: usize,
+}
+
+fn uses(line: &[u8]) -> Used {
+    let f = value(line, USED);
+    Used {
+        data: decimal(part(f, 0x2C, 0)) as usize,
+        entries: decimal(part(f, 0x2C, 1)) as usize,
+        text: decimal(part(f, 0x2C, 2)) as usize,
+    }
+}
+
 fn adding_agrees(
     line: &[u8],
-    call: u64,
+    call: usize,
     content: &mut [u8],
     entries: &mut [u32],
     text: &mut [u8],
+    added: &[u8],
 ) -> bool {
-    let mut added: [u8; 256] = [0; 256];
-    let mut used: [u32; 3] = [0; 3];
     let mut res: [u64; 5] = [0; 5];
-    let n = bytes_in(line, 5, &mut added);
-    numbers_in(line, 6, &mut used);
-    let d = length_of(used[0]);
-    let e = length_of(used[1]);
-    let t = length_of(used[2]);
+    let u = uses(line);
     adding_call(
         call,
         content,
-        d,
+        u.data,
         entries,
-        e,
+        u.entries,
         text,
-        t,
-        &added[0..n],
+        u.text,
+        added,
         &mut res,
     );
-    agrees(line, &res, content, entries, text, &used[0..0])
+    agrees(line, &res, content, entries, text, &[])
 }
 
-// Reads the second recording.
-fn content_agrees(line: &[u8], call: u64, content: &[u8], entries: &[u32], text: &[u8]) -> bool {
-    let mut second: [u8; 256] = [0; 256];
-    let mut second_entries: [u32; 128] = [0; 128];
-    let mut second_text: [u8; 256] = [0; 256];
-    let d = bytes_in(line, 5, &mut second);
-    let e = numbers_in(line, 6, &mut second_entries);
-    let t = bytes_in(line, 7, &mut second_text);
-    layout_agrees(
-        line,
-        call,
-        content,
-        entries,
-        text,
-        &second[0..d],
-        &second_entries[0..e],
-        &second_text[0..t],
-    )
+// The characters of a text, in `out`, four numbers each: code point, bytes, whether it is well-formed, width; and how many numbers they are.
+fn characters(t: &[u16; 256], s: &[u8], out: &mut [u32]) -> usize
+    requires { ⌜ now t ≡ leadTable ⌝ }
+    ensures { λ r. ⌜ r ≤ length (now (out .exit)) ⌝ }
+{
+    let mut at = 0;
+    let mut k = 0;
+    while at < s.len() {
+        if out.len() < k + 4 {
+            return k;
+        }
+        let c = read_char(t, s, at);
+        let w = seen_at(t, s, at);
+        out[k] = c.code;
+        out[k + 1] = c.len as u32;
+        out[k + 2] = c.ok as u32;
+        out[k + 3] = w.width;
+        k += 4;
+        at += c.len;
+    }
+    k
 }
 
-// Reads the content; whether what is expected came.
-fn vector_agrees(line: &[u8], call: u64) -> bool {
-    let mut content: [u8; 256] = [0; 256];
-    let mut entries: [u32; 128] = [0; 128];
-    let mut text: [u8; 256] = [0; 256];
-    let d = bytes_in(line, 2, &mut content);
-    let e = numbers_in(line, 3, &mut entries);
-    let t = bytes_in(line, 4, &mut text);
-    if call < 5 {
-        return text_agrees(line, call, &content[0..d]);
+// Whether these are the numbers of a field, no more and no fewer.
+fn exactly(line: &[u8], key: usize, got: &[u32]) -> bool {
+    holds_numbers(value(line, key), got)
+}
+
+fn characters_agree(line: &[u8], s: &[u8]) -> bool {
+    let t = LEADS;
+    let mut out: [u32; 256] = [0; 256];
+    let n = characters(&t, s, &mut out);
+    exactly(line, CHARACTERS, &out[0..n])
+}
+
+// The part that is handed back, and its length.
+fn trimmed_agrees(line: &[u8], s: &[u8]) -> bool {
+    let rest = trim_start_zero_width_chars(s);
+    let res = [rest.len() as u64, 0, 0, 0, 0];
+    if !same_answer(line, &res) {
+        return false;
     }
-    if call < 18 {
-        return content_agrees(line, call, &content[0..d], &entries[0..e], &text[0..t]);
+    holds_bytes(value(line, OUT), rest)
+}
+
+fn width_agrees(line: &[u8]) -> bool {
+    let code = narrow(number_of(line, CODE));
+    let res = [char_width(code) as u64, 0, 0, 0, 0];
+    same_answer(line, &res)
+}
+
+// ── lines
+
+fn text_line_agrees(line: &[u8], call: usize) -> bool {
+    let mut s = data_buffer();
+    let n = bytes_in(line, DATA, &mut s);
+    match call {
+        22 => width_agrees(line),
+        23 => characters_agree(line, &s[0..n]),
+        24 => trimmed_agrees(line, &s[0..n]),
+        _ => text_agrees(line, call, &s[0..n]),
     }
+}
+
+fn plain_line_agrees(line: &[u8], call: usize) -> bool {
+    let mut content = data_buffer();
+    let mut second = data_buffer();
+    let d = bytes_in(line, DATA, &mut content);
+    let e = bytes_in(line, SECOND, &mut second);
+    plain_agrees(line, call, &content[0..d], &second[0..e])
+}
+
+fn layout_line_agrees(line: &[u8], call: usize) -> bool {
+    let mut content = data_buffer();
+    let mut entries: [u32; 16400] = [0; 16400];
+    let mut text: [u8; 65600] = [0; 65600];
+    let d = bytes_in(line, DATA, &mut content);
+    let e = numbers_in(line, ENTRIES, &mut entries);
+    let t = bytes_in(line, TEXT, &mut text);
+    content_agrees(line, call, &content[0..d], &entries[0..e], &text[0..t])
+}
+
+// The content's buffers are lent, and hold A5 behind what is said of them.
+fn adding_line_agrees(line: &[u8], call: usize) -> bool {
+    let mut content = data_buffer();
+    let mut entries: [u32; 16400] = [0xA5A5A5A5; 16400];
+    let mut text: [u8; 65600] = [0xA5; 65600];
+    let mut added: [u8; 65600] = [0; 65600];
+    let d = bytes_in(line, DATA, &mut content);
+    let e = numbers_in(line, ENTRIES, &mut entries);
+    let t = bytes_in(line, TEXT, &mut text);
+    let n = bytes_in(line, ADDED, &mut added);
     adding_agrees(
         line,
         call,
         &mut content[0..d],
         &mut entries[0..e],
         &mut text[0..t],
+        &added[0..n],
     )
+}
+
+fn line_agrees(line: &[u8], call: usize) -> bool {
+    match call {
+        0..=4 | 22..=24 => text_line_agrees(line, call),
+        12 | 15..=17 => plain_line_agrees(line, call),
+        18..=21 => adding_line_agrees(line, call),
+        _ => layout_line_agrees(line, call),
+    }
+}
+
+// Whether a field has one of the keys.
+fn has_key(f: &[u8]) -> bool {
+    let mut key = 0;
+    while key < KEYS {
+        if 0 < value_in(f, key) {
+            return true;
+        }
+        key += 1;
+    }
+    false
+}
+
+// Whether each field from `start` on has one.
+fn keys_known(line: &[u8], start: usize) -> bool
+    requires { ⌜ start ≤ length (now line) ⌝ }
+{
+    let mut at = start;
+    while at < line.len() {
+        let e = field_end(line, at + 1);
+        if !has_key(&line[at + 1..e]) {
+            return false;
+        }
+        at = e;
+    }
+    true
 }
 
 // ── counting
 
 // One more at k.
-fn count(counts: &mut [u64; 23], k: usize) {
-    if k < 23 {
+fn count(counts: &mut [u64; 26], k: usize) {
+    if k < 26 {
         counts[k] = std::num::wrapping_add_u64(counts[k], 1);
     }
 }
@@ -586,42 +1385,69 @@ fn tell(number: u64) {
     io::write_all(1, b" differs\n");
 }
 
-// Counts a vector at its call, or at 22 where what is expected is wrong.
-fn replay_line(line: &[u8], number: u64, total: &mut [u64; 23], agreed: &mut [u64; 23]) {
-    let call = number_in(line, 0);
-    if 22 <= call {
-        return;
+// Whether a line does as it should: agrees, or not if it is wrong on purpose.
+fn as_expected(line: &[u8], name_end: usize, call: usize, wrong: bool) -> bool
+    requires { ⌜ «name_end» ≤ length (now line) ⌝ }
+{
+    if 25 <= call {
+        return false;
     }
-    let right = number_in(line, 1) == 1;
-    let k = if right { call as usize } else { 22 };
+    if !keys_known(line, name_end) {
+        return false;
+    }
+    line_agrees(line, call) != wrong
+}
+
+// Counts a line at its call, or at 25 where it is wrong on purpose.
+fn replay_call(
+    names: &[u8],
+    line: &[u8],
+    wrong: bool,
+    number: u64,
+    total: &mut [u64; 26],
+    agreed: &mut [u64; 26],
+) {
+    let e = field_end(line, 0);
+    let call = place_in(names, &line[0..e]);
+    let k = if wrong { 25 } else { call };
     count(total, k);
-    if vector_agrees(line, call) == right {
+    if as_expected(line, e, call, wrong) {
         count(agreed, k);
     } else {
         tell(number);
     }
 }
 
-fn replay_lines(list: &[u8], total: &mut [u64; 23], agreed: &mut [u64; 23]) {
+fn replay_line(
+    names: &[u8],
+    line: &[u8],
+    number: u64,
+    total: &mut [u64; 26],
+    agreed: &mut [u64; 26],
+) {
+    if line.len() == 0 {
+        return;
+    }
+    match line[0] {
+        0x23 => {}
+        0x21 => replay_call(names, &line[1..], true, number, total, agreed),
+        _ => replay_call(names, line, false, number, total, agreed),
+    }
+}
+
+fn replay_lines(names: &[u8], list: &[u8], total: &mut [u64; 26], agreed: &mut [u64; 26]) {
     let mut p = 0;
     let mut number: u64 = 0;
     while p < list.len() {
         let e = find(list, p, 0x0A);
         number += 1;
-        replay_line(&list[p..e], number, total, agreed);
+        replay_line(names, &list[p..e], number, total, agreed);
         p = e + 1;
     }
 }
 
-// The k-th name with its counts; what is wrong on purpose comes after the calls.
-fn row(k: usize, total: u64, agreed: u64) {
-    io::write_all(
-        1,
-        field(
-            b"text_width well_formed truncate_end_pos truncate_start_pos zero_width_len replay write_truncated_start write_truncated_end write_padded_start write_padded_end write_padded_centered write_indented wrap_bytes write_wrapped write_replaced elide_start elide_end complete_newline write push_label pop_label raw wrong",
-            k,
-        ),
-    );
+fn row(name: &[u8], total: u64, agreed: u64) {
+    io::write_all(1, name);
     io::write_all(1, b" ");
     io::print_decimal(1, total);
     io::write_all(1, b" ");
@@ -629,10 +1455,10 @@ fn row(k: usize, total: u64, agreed: u64) {
     io::write_all(1, b"\n");
 }
 
-fn rows(total: &[u64; 23], agreed: &[u64; 23]) {
+fn rows(names: &[u8], total: &[u64; 26], agreed: &[u64; 26]) {
     let mut k = 0;
-    while k < 23 {
-        row(k, total[k], agreed[k]);
+    while k < 26 {
+        row(part(names, 0x20, k), total[k], agreed[k]);
         k += 1;
     }
 }
@@ -641,11 +1467,20 @@ fn list_buffer() -> [u8; 1048576] {
     [0; 1048576]
 }
 
+fn run(names: &[u8], list: &[u8]) {
+    let mut total: [u64; 26] = [0; 26];
+    let mut agreed: [u64; 26] = [0; 26];
+    replay_lines(names, list, &mut total, &mut agreed);
+    rows(names, &total, &agreed);
+}
+
 fn main() {
     let mut list = list_buffer();
     let n = io::read_full(0, &mut list);
-    let mut total: [u64; 23] = [0; 23];
-    let mut agreed: [u64; 23] = [0; 23];
-    replay_lines(&list[..n], &mut total, &mut agreed);
-    rows(&total, &agreed);
+    run(
+        b"text_width well_formed truncate_end_pos truncate_start_pos zero_width_len replay write_truncated_start write_truncated_end write_padded_start write_padded_end \
+        write_padded_centered write_indented wrap_bytes write_wrapped write_replaced elide_start elide_end complete_newline write push_label pop_label raw \
+        char_width read_char trim_start_zero_width_chars wrong",
+        &list[..n],
+    );
 }

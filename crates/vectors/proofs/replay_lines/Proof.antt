@@ -10,10 +10,10 @@ use Rattle.sheet.proofs.find.Reads as find-reads
 use Rattle.vectors.proofs.replay_line.Reads as replay-line-reads
 
 abbrev Inv-loop : tie.InvT-loop
-Inv-loop list total₀ agreed₀ p₀ number₀ total agreed p number = (p ≤ length list + 1) × (number ≤ p)
+Inv-loop names list total₀ agreed₀ p₀ number₀ total agreed p number = (p ≤ length list + 1) × (number ≤ p)
 
 abbrev μ-loop : tie.MeasureT-loop
-μ-loop list total₀ agreed₀ p₀ number₀ total agreed p number = length list + 1 - p
+μ-loop names list total₀ agreed₀ p₀ number₀ total agreed p number = length list + 1 - p
 
 loop-holds : tie.Need-loop-holds Inv-loop μ-loop
 loop-holds c = search needs

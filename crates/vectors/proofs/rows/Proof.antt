@@ -5,16 +5,20 @@ use Rattle.vectors.proofs.rows.Statement.{statement}
 use Rattle.vectors.proofs.rows.Tie as tie
 use Rattle.vectors.proofs.rows.Reads as reads
 use Rattle.vectors.proofs.rows.Lts as lts
+use Rattle.vectors.proofs.part.Reads as part-reads
 use Rattle.vectors.proofs.row.Reads as row-reads
 
 abbrev Inv-loop : tie.InvT-loop
-Inv-loop total agreed k₀ k = k ≤ 23
+Inv-loop names total agreed k₀ k = k ≤ 26
 
 abbrev μ-loop : tie.MeasureT-loop
-μ-loop total agreed k₀ k = 23 - k
+μ-loop names total agreed k₀ k = 26 - k
 
 loop-holds : tie.Need-loop-holds Inv-loop μ-loop
 loop-holds c = search needs
+
+part-requires : tie.Need-part-requires Inv-loop μ-loop
+part-requires c κs = search needs
 
 mul-row : tie.Need-mul-row Inv-loop μ-loop
 mul-row c = search needs
@@ -50,6 +54,7 @@ rows-spec =
     Inv-loop
     μ-loop
     loop-holds
+    part-requires
     mul-row
     element-copy-out-row
     mul-row-2

@@ -5,22 +5,27 @@ use Rattle.vectors.proofs.same_answer.Statement.{statement}
 use Rattle.vectors.proofs.same_answer.Tie as tie
 use Rattle.vectors.proofs.same_answer.Reads as reads
 use Rattle.vectors.proofs.same_answer.Lts as lts
-use Rattle.vectors.proofs.number_in.Reads as number-in-reads
+use Rattle.vectors.proofs.number.Reads as number-reads
+use Rattle.vectors.proofs.part.Reads as part-reads
+use Rattle.vectors.proofs.value.Reads as value-reads
 
 abbrev Inv-loop : tie.InvT-loop
-Inv-loop line res k₀ k = k ≤ 5
+Inv-loop line res f k₀ k = k ≤ 5
 
 abbrev μ-loop : tie.MeasureT-loop
-μ-loop line res k₀ k = 5 - k
+μ-loop line res f k₀ k = 5 - k
+
+value-requires : tie.Need-value-requires Inv-loop μ-loop
+value-requires c κs = search needs
 
 loop-holds : tie.Need-loop-holds Inv-loop μ-loop
 loop-holds c = search needs
 
-add-number-in : tie.Need-add-number-in Inv-loop μ-loop
-add-number-in c = search needs
+part-requires : tie.Need-part-requires Inv-loop μ-loop
+part-requires c κs = search needs
 
-number-in-requires : tie.Need-number-in-requires Inv-loop μ-loop
-number-in-requires c κs = search needs
+number-requires : tie.Need-number-requires Inv-loop μ-loop
+number-requires c κs = search needs
 
 mul-if1 : tie.Need-mul-if1 Inv-loop μ-loop
 mul-if1 c = search needs
@@ -49,9 +54,10 @@ same-answer-spec =
     (tie.spec
     Inv-loop
     μ-loop
+    value-requires
     loop-holds
-    add-number-in
-    number-in-requires
+    part-requires
+    number-requires
     mul-if1
     element-copy-out-if1
     returns

@@ -1,0 +1,54 @@
+-- Each turn stays within the bytes and passes one part.
+use borrow.Author.Needs.{needs}
+use lib.ListN.{length}
+use Prim.Native.Nat.{_-_, _≤_}
+use Rattle.vectors.proofs.part_start.Statement.{statement}
+use Rattle.vectors.proofs.part_start.Tie as tie
+use Rattle.vectors.proofs.part_start.Reads as reads
+use Rattle.vectors.proofs.part_start.Lts as lts
+use Rattle.sheet.proofs.find.Reads as find-reads
+
+abbrev Inv-loop : tie.InvT-loop
+Inv-loop s separator k at₀ i₀ at i = (at ≤ length s) × (i ≤ k)
+
+abbrev μ-loop : tie.MeasureT-loop
+μ-loop s separator k at₀ i₀ at i = k - i
+
+loop-holds : tie.Need-loop-holds Inv-loop μ-loop
+loop-holds c = search needs
+
+find-requires : tie.Need-find-requires Inv-loop μ-loop
+find-requires c κs = search needs
+
+returns : tie.Need-returns Inv-loop μ-loop
+returns c = search needs
+
+add-at : tie.Need-add-at Inv-loop μ-loop
+add-at c = search needs
+
+add-i : tie.Need-add-i Inv-loop μ-loop
+add-i c = search needs
+
+loop-less : tie.Need-loop-less Inv-loop μ-loop
+loop-less c = search needs
+
+loop-again : tie.Need-loop-again Inv-loop μ-loop
+loop-again c = search needs
+
+returns-2 : tie.Need-returns-2 Inv-loop μ-loop
+returns-2 c = search needs
+
+pub part-start-spec : {M : Type 1} → statement M
+part-start-spec =
+    tie.close
+    (tie.spec
+    Inv-loop
+    μ-loop
+    loop-holds
+    find-requires
+    returns
+    add-at
+    add-i
+    loop-less
+    loop-again
+    returns-2)
