@@ -8,7 +8,7 @@ use lib.Dec.{eqb}
 use lib.ListN.{length}
 use borrow.Author.Tests.{eq-eqb, ne-eqb, eqb-true}
 use Rattle.recording.specs.declared.Refusal.{Refusal}
-use Rattle.recording.specs.declared.Refusal.the-variants.{DataTooLong, EntryNumbers, EntryShape, EntryPosition, TextPart, LabelIllFormed, TextIllFormed, ReplacementRange, ResultOverLimit, LengthOverBuffer, DataBufferTooShort, EntryBufferTooShort, TextBufferTooShort, LineListTooShort}
+use Rattle.recording.specs.declared.Refusal.the-variants.{DataTooLong, EntryNumbers, EntryShape, EntryPosition, TextPart, LabelIllFormed, TextIllFormed, ReplacementRange, ResultOverLimit, LengthOverBuffer, DataBufferTooShort, EntryBufferTooShort, TextBufferTooShort, LineListTooShort, SetsDiffer, CallNumbers, AnswerListTooShort}
 use Rattle.recording.specs.declared.Answer.the-variants.{Refused, Done}
 use Rattle.recording.specs.Refusals.{numberOf, firstOf}
 use Rattle.recording.specs.Outcome.{Room, Result, Faults, Outcome, refused, done, overLimit, noRoom, refusalOf, settle, Lent, lentAfter, returned, answerOf}
@@ -30,6 +30,9 @@ number-pos DataBufferTooShort = omega arith
 number-pos EntryBufferTooShort = omega arith
 number-pos TextBufferTooShort = omega arith
 number-pos LineListTooShort = omega arith
+number-pos SetsDiffer = omega arith
+number-pos CallNumbers = omega arith
+number-pos AnswerListTooShort = omega arith
 
 -- ── the first of some tests
 pub first-hit : (n : ℕ) (ns : List ℕ) → 0 < n → firstOf (n ∷ ns) ≡ n

@@ -7,7 +7,7 @@ use lib.ListN.{length}
 use Rattle.chars.specs.Chars.{wellFormed}
 use Rattle.recording.specs.declared.Entry.{Entry}
 use Rattle.recording.specs.declared.Refusal.{Refusal}
-use Rattle.recording.specs.declared.Refusal.the-variants.{DataTooLong, EntryNumbers, EntryShape, EntryPosition, TextPart, LabelIllFormed, TextIllFormed, ReplacementRange, ResultOverLimit, LengthOverBuffer, DataBufferTooShort, EntryBufferTooShort, TextBufferTooShort, LineListTooShort}
+use Rattle.recording.specs.declared.Refusal.the-variants.{DataTooLong, EntryNumbers, EntryShape, EntryPosition, TextPart, LabelIllFormed, TextIllFormed, ReplacementRange, ResultOverLimit, LengthOverBuffer, DataBufferTooShort, EntryBufferTooShort, TextBufferTooShort, LineListTooShort, SetsDiffer, CallNumbers, AnswerListTooShort}
 use Rattle.recording.specs.Recording.{Bytes, Recording, entriesOf, partOf}
 
 -- document 01's number of each refusal
@@ -26,6 +26,10 @@ numberOf DataBufferTooShort = 21
 numberOf EntryBufferTooShort = 22
 numberOf TextBufferTooShort = 23
 numberOf LineListTooShort = 24
+-- of a list of calls
+numberOf SetsDiffer = 61
+numberOf CallNumbers = 62
+numberOf AnswerListTooShort = 63
 
 -- ── the limits of a recording: data bytes, entry numbers, text bytes
 abbrev pub dataLimit : ℕ

@@ -9,7 +9,7 @@ ghost use Rattle.recording.specs.Recording.{recording, entriesOf, items,
 ghost use Rattle.recording.specs.Refusals.{numberOf, badShape, entryFault, entriesFault, recordingFault};
 ghost use Rattle.recording.specs.Check.{faultOf, Counted, Within, BothChecked};
 
-// The refusals, by document 01's causes; `specs/Refusals.antt` gives each its number.
+// The refusals, by document 01's causes, and those of a list of calls; `specs/Refusals.antt` gives each its number.
 pub enum Refusal {
     // Data over its limit.
     DataTooLong,
@@ -36,9 +36,13 @@ pub enum Refusal {
     EntryBufferTooShort,
     TextBufferTooShort,
     LineListTooShort,
+    // Of a list of calls: two sets of buffers that differ in a length, numbers that are no calls, a list of answers that is too short.
+    SetsDiffer,
+    CallNumbers,
+    AnswerListTooShort,
 }
 
-// Document 01's number of a refusal.
+// Document 01's number of a refusal; 61 and above are those of a list of calls, which document 01 does not number.
 pub fn number_of(f: Refusal) -> u64
     ensures { λ r. ⌜ r ≡ numberOf f ⌝ }
 {
@@ -57,6 +61,9 @@ pub fn number_of(f: Refusal) -> u64
         Refusal::EntryBufferTooShort => 22,
         Refusal::TextBufferTooShort => 23,
         Refusal::LineListTooShort => 24,
+        Refusal::SetsDiffer => 61,
+        Refusal::CallNumbers => 62,
+        Refusal::AnswerListTooShort => 63,
     }
 }
 
