@@ -1,9 +1,9 @@
--- A call that leaves no lines, made without a line list, is the same call with one that it leaves as it is (`unlined`).
+-- A call that leaves no lines, made without a line list, is the same call with one that it leaves ans it is (`unlined`).
 -- The idea: only refusal 24 asks for the room of the line list, and for no lines there is always room.
 use Prim.Native.Nat.{ℕ}
 use native.Mathlib.Omega.{arith}
 use mathlib.Core.Bool.{Bool, true, false, cond}
-use mathlib.Core.Path.{_≡_, sym, ap, subst, _∙_}
+use mathlib.Core.Path.{_≡_, refl, sym, ap, subst, _∙_}
 use mathlib.Core.List.{List, []}
 use mathlib.Core.Logic.{_≢_}
 use lib.Dec.{eqb}
@@ -11,13 +11,12 @@ use lib.ListN.{length}
 use borrow.Author.Tests.{le-ltb, ne-eqb}
 use Rattle.buffer.specs.Place.{over}
 use Rattle.recording.specs.declared.Answer.{Answer}
-use Rattle.recording.specs.Recording.{Bytes, Recording}
-use Rattle.recording.specs.Outcome.{Room, Result, Faults, Outcome, refused, done, noRoom, refusalOf, settle, Lent, lentAfter, returned, answerOf}
-use Rattle.layout.specs.declared.Replacement.{Replacement}
+use Rattle.recording.specs.Recording.{Recording}
+use Rattle.recording.specs.Outcome.{Room, Result, Faults, Outcome, refused, done, noRoom, refusalOf, settle, Lent, lentAfter, returned, answerOf, Promised}
 use Rattle.layout.specs.Layout.{Job, truncateStart, truncateEnd, padStart, padEnd, padCentered, indent, wrap, replace, linesLeft, resultOf, faultsOf, outcome}
-use Rattle.layout.specs.Lent.{lentOf, callOn}
-use Rattle.wrap.specs.Plan.{lentLined, callLined}
-use Rattle.runs.specs.Runs.{jobOf}
+use Rattle.layout.specs.Lent.{lentOf, lentLined, callIn, Leaves}
+use Rattle.replace.specs.Records.{recordsOf}
+use Rattle.runs.specs.Requests.{jobOf}
 
 abbrev room : ℕ → ℕ → ℕ → ℕ → Room
 room d e t l = record { dataBytes = d; entryNumbers = e; text = t; lines = l }
@@ -43,7 +42,7 @@ module _ (j : Job) (r : Recording) (h : linesLeft j r ≡ []) where
   unfolding resultOf
   no-lines = rw h
 
-  same-outcome : (od oe ot ol : List ℕ) → outcome (callOn j od oe ot) r ≡ outcome (callLined j od oe ot ol) r
+  same-outcome : (od oe ot ol : List ℕ) → outcome (callIn j (lentOf od oe ot)) r ≡ outcome (callIn j (lentLined od oe ot ol)) r
   unfolding outcome settle refusalOf
   same-outcome od oe ot ol = rw (room-free (length od) (length oe) (length ot) (length ol) (resultOf j r) no-lines)
 
@@ -51,64 +50,64 @@ module _ (j : Job) (r : Recording) (h : linesLeft j r ≡ []) where
   unfolding outcome
   none-left o = none-settled (faultsOf j r) o (resultOf j r) no-lines
 
-lent-whole : (x : Outcome) (od oe ot ol od′ oe′ ot′ : List ℕ) → NoneLeft x → od′ ≡ lentAfter x (lentOf od oe ot) .dataBytes → oe′ ≡ lentAfter x (lentOf od oe ot) .entryNumbers
-    → ot′ ≡ lentAfter x (lentOf od oe ot) .text → lentLined od′ oe′ ot′ ol ≡ lentAfter x (lentLined od oe ot ol)
-unfolding lentAfter over
-lent-whole (refused n) od oe ot ol od′ oe′ ot′ h d e t = λ i. lentLined (d i) (e i) (t i) ol
-lent-whole (done x) od oe ot ol od′ oe′ ot′ h d e t = let l : ol ≡ over (x .lines) ol = rw h in λ i. lentLined (d i) (e i) (t i) (l i)
+-- a line list beside the three buffers
+abbrev beside : List ℕ → Lent → Lent
+beside ol b = lentLined (b .dataBytes) (b .entryNumbers) (b .text) ol
 
--- what a call answers and leaves, with a line list
-abbrev pub Ran : Job → Recording → List ℕ → List ℕ → List ℕ → List ℕ → Lent → Answer → Type 0
-Ran j r od oe ot ol b a =
-    (answerOf a ≡ returned (outcome (callLined j od oe ot ol) r)) × (b ≡ lentAfter (outcome (callLined j od oe ot ol) r) (lentLined od oe ot ol))
+lent-whole : (x : Outcome) (od oe ot ol : List ℕ) → NoneLeft x → beside ol (lentAfter x (lentOf od oe ot)) ≡ lentAfter x (lentLined od oe ot ol)
+unfolding lentAfter over
+lent-whole (refused n) od oe ot ol h = refl
+lent-whole (done x) od oe ot ol h = rw h
 
 -- k: the call by its kind; j: the call by its name
-pub unlined : (k j : Job) (r : Recording) (od oe ot ol od′ oe′ ot′ : List ℕ) (a : Answer) → k ≡ j → linesLeft j r ≡ [] → answerOf a ≡ returned (outcome (callOn j od oe ot) r)
-    → od′ ≡ lentAfter (outcome (callOn j od oe ot) r) (lentOf od oe ot) .dataBytes → oe′ ≡ lentAfter (outcome (callOn j od oe ot) r) (lentOf od oe ot) .entryNumbers
-    → ot′ ≡ lentAfter (outcome (callOn j od oe ot) r) (lentOf od oe ot) .text → Ran k r od oe ot ol (lentLined od′ oe′ ot′ ol) a
-unlined k j r od oe ot ol od′ oe′ ot′ a q h ea ed ee et =
-    let o : outcome (callOn j od oe ot) r ≡ outcome (callLined j od oe ot ol) r = same-outcome j r h od oe ot ol in
-    let whole : lentLined od′ oe′ ot′ ol ≡ lentAfter (outcome (callOn j od oe ot) r) (lentLined od oe ot ol) =
-    lent-whole (outcome (callOn j od oe ot) r) od oe ot ol od′ oe′ ot′ (none-left j r h (room (length od) (length oe) (length ot) 0)) ed ee et in
-    subst (λ (x : Job). Ran x r od oe ot ol (lentLined od′ oe′ ot′ ol) a) (sym q) (ea ∙ ap returned o, whole ∙ ap (λ (x : Outcome). lentAfter x (lentLined od oe ot ol)) o)
+pub unlined : (k j : Job) (r : Recording) (od oe ot ol od′ oe′ ot′ : List ℕ) (a : Answer) → k ≡ j → linesLeft j r ≡ []
+    → Leaves j r (lentOf od oe ot) (lentOf od′ oe′ ot′) a → Leaves k r (lentLined od oe ot ol) (lentLined od′ oe′ ot′ ol) a
+unlined k j r od oe ot ol od′ oe′ ot′ a q h p =
+    let x : Outcome = outcome (callIn j (lentOf od oe ot)) r in
+    let o : x ≡ outcome (callIn j (lentLined od oe ot ol)) r = same-outcome j r h od oe ot ol in
+    let whole : lentLined od′ oe′ ot′ ol ≡ lentAfter x (lentLined od oe ot ol) =
+    ap (beside ol) (p .1) ∙ lent-whole x od oe ot ol (none-left j r h (room (length od) (length oe) (length ot) 0)) in
+    subst (λ (i : Job). Leaves i r (lentLined od oe ot ol) (lentLined od′ oe′ ot′ ol) a) (sym q)
+    (subst (λ (y : Outcome). Promised y (lentLined od oe ot ol) (lentLined od′ oe′ ot′ ol) a) o (p .0, whole))
 
-pub lined : (k j : Job) (r : Recording) (od oe ot ol : List ℕ) (b : Lent) (a : Answer) → k ≡ j → Ran j r od oe ot ol b a → Ran k r od oe ot ol b a
-lined k j r od oe ot ol b a q h = subst (λ (x : Job). Ran x r od oe ot ol b a) (sym q) h
+pub lined : (k j : Job) (r : Recording) (od oe ot ol od′ oe′ ot′ ol′ : List ℕ) (a : Answer) → k ≡ j
+    → Leaves j r (lentLined od oe ot ol) (lentLined od′ oe′ ot′ ol′) a → Leaves k r (lentLined od oe ot ol) (lentLined od′ oe′ ot′ ol′) a
+lined k j r od oe ot ol od′ oe′ ot′ ol′ a q h = subst (λ (i : Job). Leaves i r (lentLined od oe ot ol) (lentLined od′ oe′ ot′ ol′) a) (sym q) h
 
 -- ── the job of a kind
-module _ (k n : ℕ) (e : Recording) (xs : List Replacement) (t : Bytes) where
-  pub job-start : k ≡ 0 → jobOf k n e xs t ≡ truncateStart n e
+module _ (k n : ℕ) (q : Recording) where
+  pub job-start : k ≡ 0 → jobOf k n q ≡ truncateStart n q
   unfolding jobOf
   job-start h = rw h
 
-  pub job-end : k ≡ 1 → jobOf k n e xs t ≡ truncateEnd n e
+  pub job-end : k ≡ 1 → jobOf k n q ≡ truncateEnd n q
   unfolding jobOf
   job-end h = rw h
 
-  pub job-pad-start : k ≡ 2 → jobOf k n e xs t ≡ padStart n e
+  pub job-pad-start : k ≡ 2 → jobOf k n q ≡ padStart n q
   unfolding jobOf
   job-pad-start h = rw h
 
-  pub job-pad-end : k ≡ 3 → jobOf k n e xs t ≡ padEnd n e
+  pub job-pad-end : k ≡ 3 → jobOf k n q ≡ padEnd n q
   unfolding jobOf
   job-pad-end h = rw h
 
-  pub job-pad-centered : k ≡ 4 → jobOf k n e xs t ≡ padCentered n e
+  pub job-pad-centered : k ≡ 4 → jobOf k n q ≡ padCentered n q
   unfolding jobOf
   job-pad-centered h = rw h
 
-  pub job-indent : k ≡ 5 → jobOf k n e xs t ≡ indent e
+  pub job-indent : k ≡ 5 → jobOf k n q ≡ indent q
   unfolding jobOf
   job-indent h = rw h
 
-  pub job-wrap : k ≡ 6 → jobOf k n e xs t ≡ wrap n false
+  pub job-wrap : k ≡ 6 → jobOf k n q ≡ wrap n false
   unfolding jobOf
   job-wrap h = rw h
 
-  pub job-break : k ≡ 7 → jobOf k n e xs t ≡ wrap n true
+  pub job-break : k ≡ 7 → jobOf k n q ≡ wrap n true
   unfolding jobOf
   job-break h = rw h
 
-  pub job-replace : k ≢ 0 → k ≢ 1 → k ≢ 2 → k ≢ 3 → k ≢ 4 → k ≢ 5 → k ≢ 6 → k ≢ 7 → jobOf k n e xs t ≡ replace xs t
+  pub job-replace : k ≢ 0 → k ≢ 1 → k ≢ 2 → k ≢ 3 → k ≢ 4 → k ≢ 5 → k ≢ 6 → k ≢ 7 → jobOf k n q ≡ replace (recordsOf (q .entryNumbers)) (q .dataBytes)
   unfolding jobOf
   job-replace h₀ h₁ h₂ h₃ h₄ h₅ h₆ h₇ = rw (ne-eqb k 0 h₀, ne-eqb k 1 h₁, ne-eqb k 2 h₂, ne-eqb k 3 h₃, ne-eqb k 4 h₄, ne-eqb k 5 h₅, ne-eqb k 6 h₆, ne-eqb k 7 h₇)

@@ -1,4 +1,6 @@
+pub mod Stores
+pub mod RequestLaws
 pub mod ApplyLaws
-pub mod TurnLaws
+pub mod StateLaws
 pub mod RunLaws
-pub mod Commutes
+pub mod PromiseLaws

@@ -1,58 +1,202 @@
--- Layout calls as numbers, and a content that goes back and forth between two sets of lent buffers: which calls the numbers are, and which recording stands where.
-use Prim.Native.Nat.{ℕ, _≤_}
-use mathlib.Core.Bool.{true, false, cond, not}
+-- A list of layout calls on two sets of lent buffers: where the content stands, what each call leaves, what is answered, and the promise of `run_calls`.
+use Prim.Native.Nat.{ℕ, _+_, _*_, _/_, _%_, _≤_}
+use mathlib.Core.Bool.{Bool, true, false, cond, _||_, _&&_, not}
 use mathlib.Core.Path.{_≡_}
-use mathlib.Core.List.{List, [], _∷_}
-use lib.Dec.{eqb}
+use mathlib.Core.List.{List, [], _∷_, _++_}
+use lib.Dec.{ltb, eqb}
 use lib.ListN.{length, take}
+use Rattle.buffer.specs.Place.{over}
 use Rattle.recording.specs.declared.Answer.{Answer}
-use Rattle.recording.specs.declared.Answer.the-variants.{Refused, Done}
 use Rattle.recording.specs.Recording.{Bytes, Recording, recording}
-use Rattle.recording.specs.Outcome.{Room}
-use Rattle.layout.specs.declared.Replacement.{Replacement}
-use Rattle.layout.specs.Layout.{Job, truncateStart, truncateEnd, padStart, padEnd, padCentered, indent, wrap, replace, Call}
+use Rattle.recording.specs.Coloured.{balanced}
+use Rattle.recording.specs.Refusals.{firstOf, refuseIf}
+use Rattle.recording.specs.Outcome.{Room, Outcome, Lent, lentAfter, roomIn, Returned, returned, answerOf}
+use Rattle.layout.specs.Layout.{Job, Call, outcome, run}
+use Rattle.layout.specs.Lent.{lentOf, lentLined, callIn, Leaves}
+use Rattle.layout.specs.Theorem.{Proper, Demand3}
 use Rattle.runs.specs.declared.Held.{Held}
+use Rattle.runs.specs.Requests.{requestsOf, jobsIn, callsIn, allFit}
 
--- ── calls
--- the call of a kind, with its width, second recording, replacement records and their text: every number is one of the eight, wrap without and with breaking
-unfoldable pub jobOf : ℕ → ℕ → Recording → List Replacement → Bytes → Job
-jobOf k n e xs t =
-    cond (eqb k 0) (truncateStart n e)
-    (cond (eqb k 1) (truncateEnd n e)
-    (cond (eqb k 2) (padStart n e)
-    (cond (eqb k 3) (padEnd n e)
-    (cond (eqb k 4) (padCentered n e)
-    (cond (eqb k 5) (indent e)
-    (cond (eqb k 6) (wrap n false)
-    (cond (eqb k 7) (wrap n true) (replace xs t))))))))
+-- ── the state between two calls
+-- where the content stands, what the two sets and the line list hold, and the numbers answered so far
+pub record State : Type 0 where
+  pub held : Held
+  pub first : Lent
+  pub other : Lent
+  pub lines : List ℕ
+  pub answers : List ℕ
 
--- two numbers a call, its kind and its width; a rest of one is none
-abbrev pub callsOf : Recording → List Replacement → Bytes → Room → List ℕ → List Call
-callsOf e xs t o [] = []
-callsOf e xs t o (k ∷ []) = []
-callsOf e xs t o (k ∷ n ∷ ns) = record { job = jobOf k n e xs t; room = o } ∷ callsOf e xs t o ns
-
-abbrev pub roomOf : List ℕ → List ℕ → List ℕ → List ℕ → Room
-roomOf d e t l = record { dataBytes = length d; entryNumbers = length e; text = length t; lines = length l }
-
--- ── where the content stands
--- the front of one set
-abbrev pub frontOf : Held → List ℕ → List ℕ → List ℕ → Recording
-frontOf s d e t = recording (take (s .bytes) d) (take (s .numbers) e) (take (s .texts) t)
-
-abbrev pub current : Held → List ℕ → List ℕ → List ℕ → List ℕ → List ℕ → List ℕ → Recording
-current s d e t d′ e′ t′ = cond (s .first) (frontOf s d e t) (frontOf s d′ e′ t′)
-
--- after an answer: a call that is done has left its result in the other set, a refused one changes nothing
-unfoldable pub moved : Held → Answer → Held
-moved s (Refused f) = s
-moved s (Done d e t n) = record { first = not (s .first); bytes = d; numbers = e; texts = t }
+abbrev pub state : Held → Lent → Lent → List ℕ → List ℕ → State
+state h a b l n = record { held = h; first = a; other = b; lines = l; answers = n }
 
 -- the content is within its set, and both sets have the same lengths
-pub record Sets (s : Held) (d e t d′ e′ t′ : List ℕ) : Type 0 where
-  pub bytes : s .bytes ≤ length d
-  pub numbers : s .numbers ≤ length e
-  pub texts : s .texts ≤ length t
-  pub like-bytes : length d′ ≡ length d
-  pub like-numbers : length e′ ≡ length e
-  pub like-texts : length t′ ≡ length t
+pub record Sound (h : Held) (a b : Lent) : Type 0 where
+  pub bytes : h .bytes ≤ length (a .dataBytes)
+  pub numbers : h .numbers ≤ length (a .entryNumbers)
+  pub texts : h .texts ≤ length (a .text)
+  pub like-bytes : length (b .dataBytes) ≡ length (a .dataBytes)
+  pub like-numbers : length (b .entryNumbers) ≡ length (a .entryNumbers)
+  pub like-texts : length (b .text) ≡ length (a .text)
+
+-- the front of a set
+abbrev pub frontOf : ℕ → ℕ → ℕ → Lent → Recording
+frontOf d e t b = recording (take d (b .dataBytes)) (take e (b .entryNumbers)) (take t (b .text))
+
+-- the set that the content stands in
+abbrev pub standing : State → Lent
+standing s = cond (s .held .first) (s .first) (s .other)
+
+abbrev pub content : State → Recording
+content s = frontOf (s .held .bytes) (s .held .numbers) (s .held .texts) (standing s)
+
+-- three buffers with the line list, and without
+abbrev pub withLines : Lent → List ℕ → Lent
+withLines b l = lentLined (b .dataBytes) (b .entryNumbers) (b .text) l
+
+abbrev pub three : Lent → Lent
+three b = withLines b []
+
+-- what a call is lent: the set that the content does not stand in, and the line list
+abbrev pub target : State → Lent
+target s = withLines (cond (s .held .first) (s .other) (s .first)) (s .lines)
+
+-- ── one call
+unfoldable pub outcomeIn : Job → State → Outcome
+outcomeIn j s = outcome (callIn j (target s)) (content s)
+
+-- where the content stands after it: a call that is not refused has left its result in the other set
+unfoldable pub heldBy : Returned → Held → Held
+heldBy n h = cond (eqb (n .refusal) 0) (record { first = not (h .first); bytes = n .dataBytes; numbers = n .entryNumbers; texts = n .text; made = h .made + 1 }) h
+
+-- its two numbers in the list of answers
+abbrev pub twoOf : Returned → List ℕ
+twoOf n = n .refusal ∷ n .number ∷ []
+
+-- b is what it has left of what it was lent, n what it has returned
+unfoldable pub stepTo : Lent → Returned → State → State
+stepTo b n s =
+    record {
+      held = heldBy n (s .held);
+      first = cond (s .held .first) (s .first) (three b);
+      other = cond (s .held .first) (three b) (s .other);
+      lines = b .lines;
+      answers = s .answers ++ twoOf n;
+    }
+
+unfoldable pub afterCall : Job → State → State
+afterCall j s = stepTo (lentAfter (outcomeIn j s) (target s)) (returned (outcomeIn j s)) s
+
+-- what the code of one call promises: its outcome in what it is lent, and the set that it reads as it was
+abbrev pub Turn : Job → State → State → Answer → Type 0
+Turn j s s′ a = Leaves j (content s) (target s) (target s′) a × (standing s′ ≡ standing s)
+
+-- ── all calls; then the result stands in the first set: from the other one it is copied
+abbrev pub runSets : List Job → State → State
+runSets [] s = s
+runSets (j ∷ js) s = runSets js (afterCall j s)
+
+-- what the code of all calls promises: the state that they lead to, with the numbers answered over the front of the list of answers
+pub record Ran (ps : Bytes) (ns cs : List ℕ) (s : State) (ans : List ℕ) (s′ : State) (ans′ : List ℕ) : Type 0 where
+  pub reached : s′ ≡ runSets (jobsIn ps ns (requestsOf (length cs / 8) cs)) s
+  pub sound : Sound (s′ .held) (s′ .first) (s′ .other)
+  pub answered : ans′ ≡ over (s′ .answers) ans
+
+abbrev pub overSet : Recording → Lent → Lent
+overSet r b = lentOf (over (r .dataBytes) (b .dataBytes)) (over (r .entryNumbers) (b .entryNumbers)) (over (r .text) (b .text))
+
+abbrev pub firstAtEnd : State → Lent
+firstAtEnd s = cond (s .held .first) (s .first) (overSet (content s) (s .first))
+
+-- ── what `run_calls` is given and lent
+pub record Given : Type 0 where
+  pub calls : List ℕ
+  pub pool : Bytes
+  pub poolNumbers : List ℕ
+  pub dataLen : ℕ
+  pub entriesLen : ℕ
+  pub textLen : ℕ
+
+pub record Buffers : Type 0 where
+  pub first : Lent
+  pub other : Lent
+  pub lines : List ℕ
+  pub answers : List ℕ
+
+abbrev pub given : List ℕ → Bytes → List ℕ → ℕ → ℕ → ℕ → Given
+given cs ps ns d e t = record { calls = cs; pool = ps; poolNumbers = ns; dataLen = d; entriesLen = e; textLen = t }
+
+abbrev pub buffers : Lent → Lent → List ℕ → List ℕ → Buffers
+buffers a b l n = record { first = a; other = b; lines = l; answers = n }
+
+-- how many calls
+abbrev pub count : Given → ℕ
+count g = length (g .calls) / 8
+
+abbrev pub jobs : Given → List Job
+jobs g = jobsIn (g .pool) (g .poolNumbers) (requestsOf (count g) (g .calls))
+
+-- the first content, at the front of the first set
+abbrev pub firstContent : Given → Buffers → Recording
+firstContent g b = frontOf (g .dataLen) (g .entriesLen) (g .textLen) (b .first)
+
+-- each call has the room of the first set and of the line list
+abbrev pub calls : Given → Buffers → List Call
+calls g b = callsIn (roomIn (withLines (b .first) (b .lines))) (jobs g)
+
+abbrev pub atStart : Given → Buffers → State
+atStart g b =
+    record {
+      held = record { first = true; bytes = g .dataLen; numbers = g .entriesLen; texts = g .textLen; made = 0 };
+      first = b .first;
+      other = b .other;
+      lines = b .lines;
+      answers = [];
+    }
+
+abbrev pub atEnd : Given → Buffers → State
+atEnd g b = runSets (jobs g) (atStart g b)
+
+-- ── what it refuses, before any call: 10 a used length above its buffer, 61 sets that differ in a length, 62 numbers that are no calls, 63 a list of answers that is too short
+abbrev pub tooLong : ℕ → ℕ → ℕ → ℕ → ℕ → ℕ → Bool
+tooLong d e t od oe ot = ltb od d || (ltb oe e || ltb ot t)
+
+abbrev pub alike : ℕ → ℕ → ℕ → ℕ → ℕ → ℕ → Bool
+alike d e t d′ e′ t′ = eqb d d′ && (eqb e e′ && eqb t t′)
+
+-- p and q: the lengths of the pools; n: the length of the list of answers
+unfoldable pub inputFault : Bool → Bool → List ℕ → ℕ → ℕ → ℕ → ℕ
+inputFault long same cs p q n =
+    firstOf (refuseIf long 10 ∷ refuseIf (not same) 61 ∷ refuseIf (not (eqb (length cs % 8) 0) || not (allFit p q (requestsOf (length cs / 8) cs))) 62
+    ∷ refuseIf (ltb n (2 * (length cs / 8))) 63 ∷ [])
+
+abbrev pub usedTooLong : Given → Lent → Bool
+usedTooLong g b = tooLong (g .dataLen) (g .entriesLen) (g .textLen) (length (b .dataBytes)) (length (b .entryNumbers)) (length (b .text))
+
+abbrev pub alikeSets : Lent → Lent → Bool
+alikeSets a b = alike (length (a .dataBytes)) (length (a .entryNumbers)) (length (a .text)) (length (b .dataBytes)) (length (b .entryNumbers)) (length (b .text))
+
+unfoldable pub runFault : Given → Buffers → ℕ
+runFault g b =
+    inputFault (usedTooLong g (b .first)) (alikeSets (b .first) (b .other)) (g .calls) (length (g .pool)) (length (g .poolNumbers)) (length (b .answers))
+
+-- ── THE PROMISE of `run_calls`
+-- the numbers that come back: the result's lengths, and how many calls were not refused
+abbrev pub returnedRun : Given → Buffers → Returned
+returnedRun g b =
+    let h = atEnd g b .held in
+    cond (eqb (runFault g b) 0) (record { refusal = 0; dataBytes = h .bytes; entryNumbers = h .numbers; text = h .texts; number = h .made })
+    (record { refusal = runFault g b; dataBytes = 0; entryNumbers = 0; text = 0; number = 0 })
+
+-- what every lent place holds
+abbrev pub leftRun : Given → Buffers → Buffers
+leftRun g b =
+    let s = atEnd g b in
+    cond (eqb (runFault g b) 0) (record { first = firstAtEnd s; other = s .other; lines = s .lines; answers = over (s .answers) (b .answers) }) b
+
+-- the result is `run` of the calls on the first content, and demand 3 holds of them, whole
+pub record LaidOut (g : Given) (b b′ : Buffers) (n : Returned) : Type 0 where
+  pub result : frontOf (n .dataBytes) (n .entryNumbers) (n .text) (b′ .first) ≡ run (calls g b) (firstContent g b)
+  pub commutes : balanced (firstContent g b) ≡ true → Proper (calls g b) (firstContent g b) → Demand3 (calls g b) (firstContent g b)
+
+abbrev pub RunsCalls : Given → Buffers → Buffers → Answer → Type 0
+RunsCalls g b b′ a = (answerOf a ≡ returnedRun g b) × ((b′ ≡ leftRun g b) × (runFault g b ≡ 0 → LaidOut g b b′ (answerOf a)))

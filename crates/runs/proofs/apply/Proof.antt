@@ -1,14 +1,17 @@
--- `apply` answers and leaves what the outcome has: at each return, the contract of the call of that kind.
+-- `apply` leaves and answers what the job of its kind does: at each return, the promise of the call of that kind, with the line list as it was where that call has none.
+use native.Mathlib.Omega.{arith}
 use borrow.Author.Needs.{needs}
-use mathlib.Core.Bool.{true, false}
-use mathlib.Core.Path.{refl}
-use mathlib.Core.List.{List}
-use Rattle.recording.specs.Recording.{Bytes, Recording, recording}
-use Rattle.layout.specs.declared.Replacement.{Replacement}
-use Rattle.layout.specs.Layout.{truncateStart, truncateEnd, padStart, padEnd, padCentered, indent, wrap, replace, linesLeft}
-use Rattle.replace.specs.Records.{recordsOf}
-use Rattle.runs.specs.Runs.{jobOf}
 use Rattle.runs.proofs.ApplyLaws.{unlined, lined, job-start, job-end, job-pad-start, job-pad-end, job-pad-centered, job-indent, job-wrap, job-break, job-replace}
+use Rattle.runs.specs.Requests.{jobOf}
+use Prim.Native.Nat.{ℕ}
+use Rattle.replace.specs.Records.{recordsOf}
+use Rattle.layout.specs.Lent.{lentOf, lentLined, Leaves}
+use Rattle.layout.specs.Layout.{Job, truncateStart, truncateEnd, padStart, padEnd, padCentered, indent, wrap, replace, linesLeft}
+use Rattle.recording.specs.Recording.{Recording, recording}
+use Rattle.recording.specs.declared.Answer.{Answer}
+use mathlib.Core.List.{List, []}
+use mathlib.Core.Path.{_≡_, refl}
+use mathlib.Core.Bool.{true, false}
 use Rattle.runs.proofs.apply.Statement.{statement}
 use Rattle.runs.proofs.apply.Tie as tie
 use Rattle.runs.proofs.apply.Reads as reads
@@ -22,6 +25,24 @@ use Rattle.truncate.proofs.write_truncated_end.Reads as write-truncated-end-rea
 use Rattle.truncate.proofs.write_truncated_start.Reads as write-truncated-start-reads
 use Rattle.wrap.proofs.write_wrapped.Reads as write-wrapped-reads
 
+-- ── what the call was given
+abbrev content : tie.Start → Recording
+content s = recording (s .args .content .now) (s .args .entries .now) (s .args .text .now)
+
+abbrev second : tie.Start → Recording
+second s = recording (s .args .second .now) (s .args .second-entries .now) (s .args .second-text .now)
+
+abbrev job : tie.Start → Job
+job s = jobOf (s .args .kind) (s .args .width) (second s)
+
+-- a call without a line list, by its name
+no-lines : (s : tie.Start) (j : Job) → job s ≡ j → linesLeft j (content s) ≡ [] → (od oe ot : List ℕ) (a : Answer)
+    → Leaves j (content s) (lentOf (s .args .bytes .now) (s .args .numbers .now) (s .args .texts .now)) (lentOf od oe ot) a
+    → Leaves (job s) (content s) (lentLined (s .args .bytes .now) (s .args .numbers .now) (s .args .texts .now) (s .args .lines .now)) (lentLined od oe ot (s .args .lines .now)) a
+no-lines s j e n od oe ot a p =
+    unlined (job s) j (content s) (s .args .bytes .now) (s .args .numbers .now) (s .args .texts .now) (s .args .lines .now) od oe ot a e n p
+
+-- ── what is asked on the way
 write-truncated-start-requires : tie.Need-write-truncated-start-requires
 write-truncated-start-requires c κs = search needs
 
@@ -37,12 +58,9 @@ same-length-3 c = search needs
 returns : tie.Need-returns
 unfolding linesLeft
 returns c =
-    let a = c .before .before .before .before .before .before .before .before .before .before .before .before .before .before .before .before .before .before .before .before .before .before .before .args in
-    let q : Recording = recording (a .second .now) (a .second-entries .now) (a .second-text .now) in
-    let xs : List Replacement = recordsOf (a .records .now) in
-    let u : Bytes = a .new .now in
+    let s = c .before .before .before .before .before .before .before .before .before .before .before .before .before .before .before .before .before .before .before .before .before in
     let k = c .before .before .before .before .before .before .write-truncated-start in
-    unlined (jobOf (a .kind) (a .number) q xs u) (truncateStart (a .number) q) (recording (a .content .now) (a .entries .now) (a .text .now)) (a .bytes .now) (a .numbers .now) (a .texts .now) (a .lines .now) _ _ _ (k .result) (job-start (a .kind) (a .number) q xs u (c .before .before .before .before .before .before .before .before .before .before .if1 .taken)) refl (k .ensures .0) (k .ensures .1 .0) (k .ensures .1 .1 .0) (k .ensures .1 .1 .1)
+    no-lines s (truncateStart (s .args .width) (second s)) (job-start (s .args .kind) (s .args .width) (second s) (c .before .before .before .before .before .before .before .before .before .before .if1 .taken)) refl _ _ _ (k .result) (k .ensures)
 
 write-truncated-end-requires : tie.Need-write-truncated-end-requires
 write-truncated-end-requires c κs = search needs
@@ -59,12 +77,9 @@ same-length-6 c = search needs
 returns-2 : tie.Need-returns-2
 unfolding linesLeft
 returns-2 c =
-    let a = c .before .before .before .before .before .before .before .before .before .before .before .before .before .before .before .before .before .before .before .before .before .before .before .before .args in
-    let q : Recording = recording (a .second .now) (a .second-entries .now) (a .second-text .now) in
-    let xs : List Replacement = recordsOf (a .records .now) in
-    let u : Bytes = a .new .now in
+    let s = c .before .before .before .before .before .before .before .before .before .before .before .before .before .before .before .before .before .before .before .before .before .before in
     let k = c .before .before .before .before .before .before .write-truncated-end in
-    unlined (jobOf (a .kind) (a .number) q xs u) (truncateEnd (a .number) q) (recording (a .content .now) (a .entries .now) (a .text .now)) (a .bytes .now) (a .numbers .now) (a .texts .now) (a .lines .now) _ _ _ (k .result) (job-end (a .kind) (a .number) q xs u (c .before .before .before .before .before .before .before .before .before .before .if2 .taken)) refl (k .ensures .0) (k .ensures .1 .0) (k .ensures .1 .1 .0) (k .ensures .1 .1 .1)
+    no-lines s (truncateEnd (s .args .width) (second s)) (job-end (s .args .kind) (s .args .width) (second s) (c .before .before .before .before .before .before .before .before .before .before .if2 .taken)) refl _ _ _ (k .result) (k .ensures)
 
 write-padded-start-requires : tie.Need-write-padded-start-requires
 write-padded-start-requires c κs = search needs
@@ -81,12 +96,9 @@ same-length-9 c = search needs
 returns-3 : tie.Need-returns-3
 unfolding linesLeft
 returns-3 c =
-    let a = c .before .before .before .before .before .before .before .before .before .before .before .before .before .before .before .before .before .before .before .before .before .before .before .before .before .args in
-    let q : Recording = recording (a .second .now) (a .second-entries .now) (a .second-text .now) in
-    let xs : List Replacement = recordsOf (a .records .now) in
-    let u : Bytes = a .new .now in
+    let s = c .before .before .before .before .before .before .before .before .before .before .before .before .before .before .before .before .before .before .before .before .before .before .before in
     let k = c .before .before .before .before .before .before .write-padded-start in
-    unlined (jobOf (a .kind) (a .number) q xs u) (padStart (a .number) q) (recording (a .content .now) (a .entries .now) (a .text .now)) (a .bytes .now) (a .numbers .now) (a .texts .now) (a .lines .now) _ _ _ (k .result) (job-pad-start (a .kind) (a .number) q xs u (c .before .before .before .before .before .before .before .before .before .before .if3 .taken)) refl (k .ensures .0) (k .ensures .1 .0) (k .ensures .1 .1 .0) (k .ensures .1 .1 .1)
+    no-lines s (padStart (s .args .width) (second s)) (job-pad-start (s .args .kind) (s .args .width) (second s) (c .before .before .before .before .before .before .before .before .before .before .if3 .taken)) refl _ _ _ (k .result) (k .ensures)
 
 write-padded-end-requires : tie.Need-write-padded-end-requires
 write-padded-end-requires c κs = search needs
@@ -103,12 +115,9 @@ same-length-12 c = search needs
 returns-4 : tie.Need-returns-4
 unfolding linesLeft
 returns-4 c =
-    let a = c .before .before .before .before .before .before .before .before .before .before .before .before .before .before .before .before .before .before .before .before .before .before .before .before .before .before .args in
-    let q : Recording = recording (a .second .now) (a .second-entries .now) (a .second-text .now) in
-    let xs : List Replacement = recordsOf (a .records .now) in
-    let u : Bytes = a .new .now in
+    let s = c .before .before .before .before .before .before .before .before .before .before .before .before .before .before .before .before .before .before .before .before .before .before .before .before in
     let k = c .before .before .before .before .before .before .write-padded-end in
-    unlined (jobOf (a .kind) (a .number) q xs u) (padEnd (a .number) q) (recording (a .content .now) (a .entries .now) (a .text .now)) (a .bytes .now) (a .numbers .now) (a .texts .now) (a .lines .now) _ _ _ (k .result) (job-pad-end (a .kind) (a .number) q xs u (c .before .before .before .before .before .before .before .before .before .before .if4 .taken)) refl (k .ensures .0) (k .ensures .1 .0) (k .ensures .1 .1 .0) (k .ensures .1 .1 .1)
+    no-lines s (padEnd (s .args .width) (second s)) (job-pad-end (s .args .kind) (s .args .width) (second s) (c .before .before .before .before .before .before .before .before .before .before .if4 .taken)) refl _ _ _ (k .result) (k .ensures)
 
 write-padded-centered-requires : tie.Need-write-padded-centered-requires
 write-padded-centered-requires c κs = search needs
@@ -125,12 +134,9 @@ same-length-15 c = search needs
 returns-5 : tie.Need-returns-5
 unfolding linesLeft
 returns-5 c =
-    let a = c .before .before .before .before .before .before .before .before .before .before .before .before .before .before .before .before .before .before .before .before .before .before .before .before .before .before .before .args in
-    let q : Recording = recording (a .second .now) (a .second-entries .now) (a .second-text .now) in
-    let xs : List Replacement = recordsOf (a .records .now) in
-    let u : Bytes = a .new .now in
+    let s = c .before .before .before .before .before .before .before .before .before .before .before .before .before .before .before .before .before .before .before .before .before .before .before .before .before in
     let k = c .before .before .before .before .before .before .write-padded-centered in
-    unlined (jobOf (a .kind) (a .number) q xs u) (padCentered (a .number) q) (recording (a .content .now) (a .entries .now) (a .text .now)) (a .bytes .now) (a .numbers .now) (a .texts .now) (a .lines .now) _ _ _ (k .result) (job-pad-centered (a .kind) (a .number) q xs u (c .before .before .before .before .before .before .before .before .before .before .if5 .taken)) refl (k .ensures .0) (k .ensures .1 .0) (k .ensures .1 .1 .0) (k .ensures .1 .1 .1)
+    no-lines s (padCentered (s .args .width) (second s)) (job-pad-centered (s .args .kind) (s .args .width) (second s) (c .before .before .before .before .before .before .before .before .before .before .if5 .taken)) refl _ _ _ (k .result) (k .ensures)
 
 write-indented-requires : tie.Need-write-indented-requires
 write-indented-requires c κs = search needs
@@ -147,12 +153,9 @@ same-length-18 c = search needs
 returns-6 : tie.Need-returns-6
 unfolding linesLeft
 returns-6 c =
-    let a = c .before .before .before .before .before .before .before .before .before .before .before .before .before .before .before .before .before .before .before .before .before .before .before .before .before .before .before .before .args in
-    let q : Recording = recording (a .second .now) (a .second-entries .now) (a .second-text .now) in
-    let xs : List Replacement = recordsOf (a .records .now) in
-    let u : Bytes = a .new .now in
+    let s = c .before .before .before .before .before .before .before .before .before .before .before .before .before .before .before .before .before .before .before .before .before .before .before .before .before .before in
     let k = c .before .before .before .before .before .before .write-indented in
-    unlined (jobOf (a .kind) (a .number) q xs u) (indent q) (recording (a .content .now) (a .entries .now) (a .text .now)) (a .bytes .now) (a .numbers .now) (a .texts .now) (a .lines .now) _ _ _ (k .result) (job-indent (a .kind) (a .number) q xs u (c .before .before .before .before .before .before .before .before .before .before .if6 .taken)) refl (k .ensures .0) (k .ensures .1 .0) (k .ensures .1 .1 .0) (k .ensures .1 .1 .1)
+    no-lines s (indent (second s)) (job-indent (s .args .kind) (s .args .width) (second s) (c .before .before .before .before .before .before .before .before .before .before .if6 .taken)) refl _ _ _ (k .result) (k .ensures)
 
 write-wrapped-requires : tie.Need-write-wrapped-requires
 write-wrapped-requires c κs = search needs
@@ -171,12 +174,9 @@ same-length-22 c = search needs
 
 returns-7 : tie.Need-returns-7
 returns-7 c =
-    let a = c .before .before .before .before .before .before .before .before .before .before .before .before .before .before .before .before .before .before .before .before .before .before .before .before .before .before .before .before .before .before .before .before .args in
-    let q : Recording = recording (a .second .now) (a .second-entries .now) (a .second-text .now) in
-    let xs : List Replacement = recordsOf (a .records .now) in
-    let u : Bytes = a .new .now in
+    let s = c .before .before .before .before .before .before .before .before .before .before .before .before .before .before .before .before .before .before .before .before .before .before .before .before .before .before .before .before .before .before in
     let k = c .before .before .before .before .before .before .before .before .write-wrapped in
-    lined (jobOf (a .kind) (a .number) q xs u) (wrap (a .number) false) (recording (a .content .now) (a .entries .now) (a .text .now)) (a .bytes .now) (a .numbers .now) (a .texts .now) (a .lines .now) _ (k .result) (job-wrap (a .kind) (a .number) q xs u (c .before .before .before .before .before .before .before .before .before .before .before .before .before .if7 .taken)) (k .ensures .0, k .ensures .1)
+    lined (job s) (wrap (s .args .width) false) (content s) (s .args .bytes .now) (s .args .numbers .now) (s .args .texts .now) (s .args .lines .now) _ _ _ _ (k .result) (job-wrap (s .args .kind) (s .args .width) (second s) (c .before .before .before .before .before .before .before .before .before .before .before .before .before .if7 .taken)) (k .ensures)
 
 write-wrapped-requires-2 : tie.Need-write-wrapped-requires-2
 write-wrapped-requires-2 c κs = search needs
@@ -195,12 +195,9 @@ same-length-26 c = search needs
 
 returns-8 : tie.Need-returns-8
 returns-8 c =
-    let a = c .before .before .before .before .before .before .before .before .before .before .before .before .before .before .before .before .before .before .before .before .before .before .before .before .before .before .before .before .before .before .before .before .before .args in
-    let q : Recording = recording (a .second .now) (a .second-entries .now) (a .second-text .now) in
-    let xs : List Replacement = recordsOf (a .records .now) in
-    let u : Bytes = a .new .now in
+    let s = c .before .before .before .before .before .before .before .before .before .before .before .before .before .before .before .before .before .before .before .before .before .before .before .before .before .before .before .before .before .before .before in
     let k = c .before .before .before .before .before .before .before .before .write-wrapped2 in
-    lined (jobOf (a .kind) (a .number) q xs u) (wrap (a .number) true) (recording (a .content .now) (a .entries .now) (a .text .now)) (a .bytes .now) (a .numbers .now) (a .texts .now) (a .lines .now) _ (k .result) (job-break (a .kind) (a .number) q xs u (c .before .before .before .before .before .before .before .before .before .before .before .before .before .if8 .taken)) (k .ensures .0, k .ensures .1)
+    lined (job s) (wrap (s .args .width) true) (content s) (s .args .bytes .now) (s .args .numbers .now) (s .args .texts .now) (s .args .lines .now) _ _ _ _ (k .result) (job-break (s .args .kind) (s .args .width) (second s) (c .before .before .before .before .before .before .before .before .before .before .before .before .before .if8 .taken)) (k .ensures)
 
 write-replaced-flat-requires : tie.Need-write-replaced-flat-requires
 write-replaced-flat-requires c κs = search needs
@@ -217,13 +214,11 @@ same-length-29 c = search needs
 returns-9 : tie.Need-returns-9
 unfolding linesLeft
 returns-9 c =
-    let a = c .before .before .before .before .before .before .before .before .before .before .before .before .before .before .before .before .before .before .before .before .before .before .before .before .before .before .before .before .before .before .args in
-    let q : Recording = recording (a .second .now) (a .second-entries .now) (a .second-text .now) in
-    let xs : List Replacement = recordsOf (a .records .now) in
-    let u : Bytes = a .new .now in
+    let e = c .before .before .before .before .before .before .before .before .before .before in
+    let s = c .before .before .before .before .before .before .before .before .before .before .before .before .before .before .before .before .before .before .before .before .before .before .before .before .before .before .before .before in
     let k = c .before .before .before .before .before .before .write-replaced-flat in
-    let e = job-replace (a .kind) (a .number) q xs u (c .before .before .before .before .before .before .before .before .before .before .before .before .before .before .before .before .before .if1 .left) (c .before .before .before .before .before .before .before .before .before .before .before .before .before .before .before .before .if2 .left) (c .before .before .before .before .before .before .before .before .before .before .before .before .before .before .before .if3 .left) (c .before .before .before .before .before .before .before .before .before .before .before .before .before .before .if4 .left) (c .before .before .before .before .before .before .before .before .before .before .before .before .before .if5 .left) (c .before .before .before .before .before .before .before .before .before .before .before .before .if6 .left) (c .before .before .before .before .before .before .before .before .before .before .before .if7 .left) (c .before .before .before .before .before .before .before .before .before .before .if8 .left) in
-    unlined (jobOf (a .kind) (a .number) q xs u) (replace xs u) (recording (a .content .now) (a .entries .now) (a .text .now)) (a .bytes .now) (a .numbers .now) (a .texts .now) (a .lines .now) _ _ _ (k .result) e refl (k .ensures .0) (k .ensures .1 .0) (k .ensures .1 .1 .0) (k .ensures .1 .1 .1)
+    no-lines s (replace (recordsOf (second s .entryNumbers)) (second s .dataBytes))
+    (job-replace (s .args .kind) (s .args .width) (second s) (e .before .before .before .before .before .before .before .if1 .left) (e .before .before .before .before .before .before .if2 .left) (e .before .before .before .before .before .if3 .left) (e .before .before .before .before .if4 .left) (e .before .before .before .if5 .left) (e .before .before .if6 .left) (e .before .if7 .left) (e .if8 .left)) refl _ _ _ (k .result) (k .ensures)
 
 pub apply-spec : {M : Type 1} → statement M
 apply-spec =

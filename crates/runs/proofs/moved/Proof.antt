@@ -1,6 +1,9 @@
--- Where the content stands after each of the two answers.
+-- Where the content stands after each of the two answers: no refusal has the number 0.
+use native.Mathlib.Omega.{arith}
 use borrow.Author.Needs.{needs}
-use Rattle.runs.specs.Runs.{moved}
+use Rattle.runs.proofs.StateLaws.{held-refused}
+use Rattle.runs.specs.Runs.{heldBy}
+use Rattle.recording.specs.Outcome.{answerOf}
 use Rattle.runs.proofs.moved.Statement.{statement}
 use Rattle.runs.proofs.moved.Tie as tie
 use Rattle.runs.proofs.moved.Reads as reads
@@ -12,13 +15,15 @@ enum-told c = search needs
 enum-known-a : tie.Need-enum-known-a
 enum-known-a c = search needs
 
+add-t8 : tie.Need-add-t8
+add-t8 c = search needs
+
 returns : tie.Need-returns
-unfolding moved
-returns c = search needs
+returns c = rw (c .enum-told .given .1) (held-refused _ _)
 
 returns-2 : tie.Need-returns-2
-unfolding moved
-returns-2 c = rw (c .before .before .a .given .1)
+unfolding heldBy answerOf
+returns-2 c = rw (c .before .before .before .a .given .1)
 
 pub moved-spec : {M : Type 1} → statement M
-moved-spec = tie.close (tie.spec enum-told enum-known-a returns returns-2)
+moved-spec = tie.close (tie.spec enum-told enum-known-a add-t8 returns returns-2)

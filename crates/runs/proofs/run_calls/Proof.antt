@@ -1,133 +1,119 @@
--- `run_calls` leaves what the whole list gives. Invariant: `RunLaws.Running`, what is left of the list gives the rest.
+-- The promise of `run_calls`: what its parts promise, put together by `proofs/PromiseLaws.antt`.
 use native.Mathlib.Omega.{arith}
 use borrow.Author.Needs.{needs}
-use Prim.Native.Nat.{_-_}
-use mathlib.Core.Path.{refl, ap}
-use mathlib.Core.List.{List}
-use lib.ListN.{length}
-use Rattle.recording.specs.Recording.{Recording, recording}
-use Rattle.recording.specs.Outcome.{Room}
-use Rattle.layout.specs.declared.Replacement.{Replacement}
-use Rattle.replace.specs.Records.{recordsOf}
-use Rattle.runs.specs.Runs.{callsOf, roomOf, current}
-use Rattle.runs.proofs.RunLaws.{Running, next, end}
-use Rattle.runs.proofs.Commutes.{commutes}
+use Rattle.runs.proofs.PromiseLaws.{input-fault, is-room, accepted, refuses, finishes}
+use Rattle.runs.specs.Runs.{Given, given, Buffers, buffers, runFault}
+use Rattle.layout.specs.Lent.{lentOf}
+use Rattle.writer.specs.Sizes.{settledFault}
+use mathlib.Core.Path.{_≡_, refl}
 use Rattle.runs.proofs.run_calls.Statement.{statement}
 use Rattle.runs.proofs.run_calls.Tie as tie
 use Rattle.runs.proofs.run_calls.Reads as reads
 use Rattle.runs.proofs.run_calls.Lts as lts
-use Rattle.runs.proofs.turn.Reads as turn-reads
+use Rattle.runs.proofs.alike.Reads as alike-reads
+use Rattle.runs.proofs.bring_back.Reads as bring-back-reads
+use Rattle.runs.proofs.check_input.Reads as check-input-reads
+use Rattle.runs.proofs.run_all.Reads as run-all-reads
+use Rattle.runs.proofs.too_long.Reads as too-long-reads
 
-abbrev Inv-loop : tie.InvT-loop
-Inv-loop calls second second-entries second-text records new bytes₀ numbers₀ texts₀ other-bytes₀ other-numbers₀ other-texts₀ lines₀ held₀ i₀ bytes numbers texts other-bytes other-numbers other-texts lines held i =
-    Running (recording second second-entries second-text) (recordsOf records) new calls (current held₀ bytes₀ numbers₀ texts₀ other-bytes₀ other-numbers₀ other-texts₀) (roomOf bytes₀ numbers₀ texts₀ lines₀) held i bytes numbers texts other-bytes other-numbers other-texts lines
+-- ── the places on the way, and what is known there
+-- what the call was given and lent
+abbrev given-of : tie.Start → Given
+given-of s = let a = s .args in given (a .calls .now) (a .pool .now) (a .pool-numbers .now) (a .data-len) (a .entries-len) (a .text-len)
 
-abbrev μ-loop : tie.MeasureT-loop
-μ-loop calls second second-entries second-text records new bytes₀ numbers₀ texts₀ other-bytes₀ other-numbers₀ other-texts₀ lines₀ held₀ i₀ bytes numbers texts other-bytes other-numbers other-texts lines held i =
-    length calls - i
+abbrev lent-of : tie.Start → Buffers
+lent-of s =
+    let a = s .args in
+    buffers (lentOf (a .bytes .now) (a .numbers .now) (a .texts .now)) (lentOf (a .other-bytes .now) (a .other-numbers .now) (a .other-texts .now)) (a .lines .now) (a .answers .now)
 
-loop-holds : tie.Need-loop-holds Inv-loop μ-loop
-loop-holds c =
-    record { sets = c .before .before .before .before .before .before .before .before .before .before .before .before .before .pre; rest = refl; within = omega arith; room = refl }
+-- once the input is checked
+abbrev start : tie.After-check-input → tie.Start
+start c = c .before .before .before .before .before .before .before .before .before .before .before .before .before .before
 
-add-loop : tie.Need-add-loop Inv-loop μ-loop
-add-loop c =
-    omega (arith, c .loop .inv .within, c .before .before .before .before .before .before .before .before .before .before .before .before .before .before .good)
+fault : (c : tie.After-check-input) → settledFault (c .check-input .result) ≡ runFault (given-of (start c)) (lent-of (start c))
+fault c =
+    input-fault (given-of (start c)) (lent-of (start c)) (c .before .before .too-long .result) (c .before .alike .result) (c .check-input .result)
+    (c .before .before .too-long .ensures) (c .before .alike .ensures) (c .check-input .ensures)
 
-mul-turn : tie.Need-mul-turn Inv-loop μ-loop
-mul-turn c = search needs
+-- once nothing is refused
+abbrev begun : tie.After-enum-told → tie.Start
+begun c = start (c .before .before)
 
-shared-slice-read-turn : tie.Need-shared-slice-read-turn Inv-loop μ-loop
-shared-slice-read-turn c = search needs
+none : (c : tie.After-enum-told) → runFault (given-of (begun c)) (lent-of (begun c)) ≡ 0
+none c = is-room (runFault (given-of (begun c)) (lent-of (begun c))) (c .before .before .check-input .result) (c .enum-told .given .1) (fault (c .before .before))
 
-add-turn : tie.Need-add-turn Inv-loop μ-loop
-add-turn c = search needs
+-- ── what is asked on the way
+too-long-requires : tie.Need-too-long-requires
+too-long-requires c κs = search needs
 
-mul-turn-2 : tie.Need-mul-turn-2 Inv-loop μ-loop
-mul-turn-2 c = search needs
+alike-requires : tie.Need-alike-requires
+alike-requires c κs = search needs
 
-shared-slice-read-turn-2 : tie.Need-shared-slice-read-turn-2 Inv-loop μ-loop
-shared-slice-read-turn-2 c = search needs
+check-input-requires : tie.Need-check-input-requires
+check-input-requires c κs = search needs
 
-turn-requires : tie.Need-turn-requires Inv-loop μ-loop
-turn-requires c κs =
-    c .before .before .before .before .before .before .before .before .before .before .loop .inv .sets
+enum-known-checked : tie.Need-enum-known-checked
+enum-known-checked c = search needs
 
-add-i : tie.Need-add-i Inv-loop μ-loop
-add-i c =
-    omega (arith, c .before .before .before .before .before .before .before .before .before .before .before .before .before .before .before .before .before .before .before .before .before .before .before .before .loop-test .taken, c .before .before .before .before .before .before .before .before .before .before .before .before .before .before .before .before .before .before .before .before .before .before .before .before .before .before .before .before .before .before .before .before .before .before .before .before .before .before .before .good)
-
-loop-less : tie.Need-loop-less Inv-loop μ-loop
-loop-less c =
-    omega (arith, c .before .before .before .before .before .before .before .before .before .before .before .before .before .before .before .before .before .before .before .before .before .before .before .before .loop-test .taken)
-
-loop-again : tie.Need-loop-again Inv-loop μ-loop
-loop-again c =
-    let a = c .before .before .before .before .before .before .before .before .before .before .before .before .before .before .before .before .before .before .before .before .before .before .before .before .before .before .before .before .before .before .before .before .before .before .before .before .before .before .before .args in
-    let l = c .before .before .before .before .before .before .before .before .before .before .before .before .before .before .before .before .before .before .before .before .before .before .before .before .before .loop in
-    let q : Recording = recording (a .second .now) (a .second-entries .now) (a .second-text .now) in
-    let xs : List Replacement = recordsOf (a .records .now) in
-    let r : Recording = current (a .s) (a .bytes .now) (a .numbers .now) (a .texts .now) (a .other-bytes .now) (a .other-numbers .now) (a .other-texts .now) in
-    let o : Room = roomOf (a .bytes .now) (a .numbers .now) (a .texts .now) (a .lines .now) in
-    let k = c .before .before .before .before .before .before .before .before .before .before .before .before .before .before .turn in
-    next q xs (a .new .now) (a .calls .now) r o (l .held) (l .i) _ _ _ _ _ _ _ (l .inv) (c .before .before .before .before .before .before .before .before .before .before .before .before .before .before .before .before .before .before .before .before .before .before .before .before .loop-test .taken) (k .result) _ _ _ _ _ _ _ (k .ensures .0) (k .ensures .1) (k .kept .1 .1 .1 .1 .1 .1 .1 .1 .0) (k .kept .1 .1 .1 .1 .1 .1 .1 .1 .1 .0) (k .kept .1 .1 .1 .1 .1 .1 .1 .1 .1 .1 .0) (k .kept .1 .1 .1 .1 .1 .1 .1 .1 .1 .1 .1 .1 .1 .1 .0)
-
-same-length : tie.Need-same-length Inv-loop μ-loop
-same-length c =
-    ap (λ (o : Room). o .dataBytes) (c .before .loop .inv .room)
-
-same-length-2 : tie.Need-same-length-2 Inv-loop μ-loop
-same-length-2 c =
-    ap (λ (o : Room). o .entryNumbers) (c .before .loop .inv .room)
-
-same-length-3 : tie.Need-same-length-3 Inv-loop μ-loop
-same-length-3 c =
-    ap (λ (o : Room). o .text) (c .before .loop .inv .room)
-
-same-length-4 : tie.Need-same-length-4 Inv-loop μ-loop
-same-length-4 c =
-    omega (arith, c .before .loop .inv .sets .like-bytes, c .before .before .before .before .before .before .before .before .before .before .before .before .before .before .before .pre .like-bytes, ap (λ (o : Room). o .dataBytes) (c .before .loop .inv .room))
-
-same-length-5 : tie.Need-same-length-5 Inv-loop μ-loop
-same-length-5 c =
-    omega (arith, c .before .loop .inv .sets .like-numbers, c .before .before .before .before .before .before .before .before .before .before .before .before .before .before .before .pre .like-numbers, ap (λ (o : Room). o .entryNumbers) (c .before .loop .inv .room))
-
-same-length-6 : tie.Need-same-length-6 Inv-loop μ-loop
-same-length-6 c =
-    omega (arith, c .before .loop .inv .sets .like-texts, c .before .before .before .before .before .before .before .before .before .before .before .before .before .before .before .pre .like-texts, ap (λ (o : Room). o .text) (c .before .loop .inv .room))
-
-same-length-7 : tie.Need-same-length-7 Inv-loop μ-loop
-same-length-7 c =
-    ap (λ (o : Room). o .lines) (c .before .loop .inv .room)
-
-returns : tie.Need-returns Inv-loop μ-loop
+returns : tie.Need-returns
 returns c =
-    let a = c .before .before .before .before .before .before .before .before .before .before .before .before .before .before .before .args in
-    let l = c .before .loop in
-    let q : Recording = recording (a .second .now) (a .second-entries .now) (a .second-text .now) in
-    let xs : List Replacement = recordsOf (a .records .now) in
-    let r : Recording = current (a .s) (a .bytes .now) (a .numbers .now) (a .texts .now) (a .other-bytes .now) (a .other-numbers .now) (a .other-texts .now) in
-    let o : Room = roomOf (a .bytes .now) (a .numbers .now) (a .texts .now) (a .lines .now) in
-    let e = end q xs (a .new .now) (a .calls .now) r o (l .held) (l .i) _ _ _ _ _ _ _ (l .inv) (c .loop-test .left) in
-    (l .inv .sets, (e, commutes (callsOf q xs (a .new .now) o (a .calls .now)) r _ e))
+    let k = c .before .before .before in
+    refuses (given-of (start k)) (lent-of (start k)) (c .before .checked .given .0 .0) (k .check-input .result) (c .before .checked .given .1) (fault k)
+
+enum-told : tie.Need-enum-told
+enum-told c = search needs
+
+run-all-requires : tie.Need-run-all-requires
+run-all-requires c κs =
+    let e = c .before .before .before .before .before .before .before .before in
+    let k = accepted (given-of (begun e)) (lent-of (begun e)) (none e) in
+    ((refl, k .room), (k .fit, k .sound))
+
+bring-back-requires : tie.Need-bring-back-requires
+bring-back-requires c κs = c .before .before .before .before .before .before .before .before .before .before .before .before .before .before .before .before .before .before .before .before .before .before .run-all .ensures .sound
+
+same-length : tie.Need-same-length
+same-length c = search needs
+
+same-length-2 : tie.Need-same-length-2
+same-length-2 c = search needs
+
+same-length-3 : tie.Need-same-length-3
+same-length-3 c = search needs
+
+same-length-4 : tie.Need-same-length-4
+same-length-4 c = search needs
+
+same-length-5 : tie.Need-same-length-5
+same-length-5 c = search needs
+
+same-length-6 : tie.Need-same-length-6
+same-length-6 c = search needs
+
+same-length-7 : tie.Need-same-length-7
+same-length-7 c = search needs
+
+same-length-8 : tie.Need-same-length-8
+same-length-8 c = search needs
+
+returns-2 : tie.Need-returns-2
+returns-2 c =
+    let e = c .before .before .before .before .before .before .before .before .before .before .before .before .before .before .before .before .before .before .before .before .before .before .before .before .before .before .before .before .before .before .before .before .before .before .before .before .before .before in
+    let k = c .before .before .before .before .before .before .before .before .before .before .before .before .before .before .before .before .before .before .before .before .before .before .before .before .before .before .before .before .before .run-all in
+    finishes (given-of (begun e)) (lent-of (begun e)) (none e) (k .result) _ _ _ _ _ _ _ _ _ _ _ _ (k .ensures) (c .before .before .before .before .before .before .bring-back .ensures)
 
 pub run-calls-spec : {M : Type 1} → statement M
 run-calls-spec =
     tie.close
     (tie.spec
-    Inv-loop
-    μ-loop
-    loop-holds
-    add-loop
-    mul-turn
-    shared-slice-read-turn
-    add-turn
-    mul-turn-2
-    shared-slice-read-turn-2
-    turn-requires
-    add-i
-    loop-less
-    loop-again
+    too-long-requires
+    alike-requires
+    check-input-requires
+    enum-known-checked
+    returns
+    enum-told
+    run-all-requires
+    bring-back-requires
     same-length
     same-length-2
     same-length-3
@@ -135,4 +121,5 @@ run-calls-spec =
     same-length-5
     same-length-6
     same-length-7
-    returns)
+    same-length-8
+    returns-2)

@@ -1,42 +1,49 @@
--- `turn` leaves the content after one call: the law for the set where it stood.
+-- One call on the content where it stands: the promise of `make_call`, by the set (`to-other`, `to-first`).
 use native.Mathlib.Omega.{arith}
 use borrow.Author.Needs.{needs}
-use lib.ListN.{length-take}
-use Rattle.recording.specs.Recording.{recording}
+use Rattle.runs.proofs.StateLaws.{to-other, to-first}
+use Rattle.runs.specs.Requests.{requestAt, jobIn}
+use Rattle.layout.specs.Lent.{lentOf}
 use Rattle.layout.specs.Layout.{Job}
-use Rattle.replace.specs.Records.{recordsOf}
-use Rattle.runs.specs.Runs.{jobOf}
-use Rattle.runs.proofs.TurnLaws.{to-other, to-first}
+use Rattle.recording.specs.Outcome.{Lent}
+use lib.ListN.{drop, length-take}
 use Rattle.runs.proofs.turn.Statement.{statement}
 use Rattle.runs.proofs.turn.Tie as tie
 use Rattle.runs.proofs.turn.Reads as reads
 use Rattle.runs.proofs.turn.Lts as lts
-use Rattle.runs.proofs.apply.Reads as apply-reads
-use Rattle.runs.proofs.moved.Reads as moved-reads
+use Rattle.runs.proofs.make_call.Reads as make-call-reads
 
-slice-reshare-prefix-apply : tie.Need-slice-reshare-prefix-apply
-slice-reshare-prefix-apply c = search needs
+-- ── what the call was given
+abbrev job : tie.Start → Job
+job s = jobIn (s .args .pool .now) (s .args .pool-numbers .now) (requestAt (drop (s .args .i) (s .args .calls .now)))
 
-slice-aggregate-apply : tie.Need-slice-aggregate-apply
-slice-aggregate-apply c = simp length-take (omega (arith, c .before .before .before .before .before .before .before .before .before .before .before .before .before .before .pre .bytes))
+abbrev first : tie.Start → Lent
+first s = lentOf (s .args .bytes .now) (s .args .numbers .now) (s .args .texts .now)
 
-slice-reshare-prefix-apply-2 : tie.Need-slice-reshare-prefix-apply-2
-slice-reshare-prefix-apply-2 c = search needs
+abbrev other : tie.Start → Lent
+other s = lentOf (s .args .other-bytes .now) (s .args .other-numbers .now) (s .args .other-texts .now)
 
-slice-aggregate-apply-2 : tie.Need-slice-aggregate-apply-2
-slice-aggregate-apply-2 c = simp length-take (omega (arith, c .before .before .before .before .before .before .before .before .before .before .before .before .before .before .before .pre .numbers))
+-- ── what is asked on the way
+slice-reshare-prefix-make-call : tie.Need-slice-reshare-prefix-make-call
+slice-reshare-prefix-make-call c = search needs
 
-slice-reshare-prefix-apply-3 : tie.Need-slice-reshare-prefix-apply-3
-slice-reshare-prefix-apply-3 c = search needs
+slice-aggregate-make-call : tie.Need-slice-aggregate-make-call
+slice-aggregate-make-call c = let k = c .before .before .before .before .before .before .before .before .before .before .before .before .pre .1 .1 in simp length-take (omega (arith, k .bytes, k .like-bytes))
 
-slice-aggregate-apply-3 : tie.Need-slice-aggregate-apply-3
-slice-aggregate-apply-3 c = simp length-take (omega (arith, c .before .before .before .before .before .before .before .before .before .before .before .before .before .before .before .before .pre .texts))
+slice-reshare-prefix-make-call-2 : tie.Need-slice-reshare-prefix-make-call-2
+slice-reshare-prefix-make-call-2 c = search needs
 
-apply-requires : tie.Need-apply-requires
-apply-requires c κs = search needs
+slice-aggregate-make-call-2 : tie.Need-slice-aggregate-make-call-2
+slice-aggregate-make-call-2 c = let k = c .before .before .before .before .before .before .before .before .before .before .before .before .before .pre .1 .1 in simp length-take (omega (arith, k .numbers, k .like-numbers))
 
-moved-requires : tie.Need-moved-requires
-moved-requires c κs = search needs
+slice-reshare-prefix-make-call-3 : tie.Need-slice-reshare-prefix-make-call-3
+slice-reshare-prefix-make-call-3 c = search needs
+
+slice-aggregate-make-call-3 : tie.Need-slice-aggregate-make-call-3
+slice-aggregate-make-call-3 c = let k = c .before .before .before .before .before .before .before .before .before .before .before .before .before .before .pre .1 .1 in simp length-take (omega (arith, k .texts, k .like-texts))
+
+make-call-requires : tie.Need-make-call-requires
+make-call-requires c κs = let s = c .before .before .before .before .before .before .before .before .before .before .before .before .before .before .before .before .before .before in (s .pre .0, s .pre .1 .0)
 
 same-length : tie.Need-same-length
 same-length c = search needs
@@ -61,34 +68,30 @@ same-length-7 c = search needs
 
 returns : tie.Need-returns
 returns c =
-    let a = c .before .before .before .before .before .before .before .before .before .before .before .before .before .before .before .before .before .before .before .before .before .before .before .before .before .before .before .before .before .before .args in
-    let j : Job = jobOf (a .kind) (a .number) (recording (a .second .now) (a .second-entries .now) (a .second-text .now)) (recordsOf (a .records .now)) (a .new .now) in
-    let k = c .before .before .before .before .before .before .before .before .before .apply in
-    to-other j (a .s) (a .bytes .now) (a .numbers .now) (a .texts .now) (a .other-bytes .now) (a .other-numbers .now) (a .other-texts .now) (a .lines .now) (c .before .before .before .before .before .before .before .before .before .before .before .before .before .before .before .before .before .before .before .before .before .before .before .before .before .before .before .before .before .before .pre) _ _ _ _ (k .result) (c .moved .result) (c .moved .ensures) (c .before .before .before .before .before .before .before .before .before .before .before .before .before .before .before .before .before .if1 .taken) (k .ensures .0) (k .ensures .1) (k .kept .1 .1 .1 .1 .1 .1 .1 .1 .1 .1 .0) (k .kept .1 .1 .1 .1 .1 .1 .1 .1 .1 .1 .1 .0) (k .kept .1 .1 .1 .1 .1 .1 .1 .1 .1 .1 .1 .1 .0)
+    let s = c .before .before .before .before .before .before .before .before .before .before .before .before .before .before .before .before .before .before .before .before .before .before .before .before .before .before .before in
+    let k = c .before .before .before .before .before .before .before .before .make-call in
+    to-other (job s) (s .args .s) (first s) (other s) _ (s .args .lines .now) _ (k .result) (c .before .before .before .before .before .before .before .before .before .before .before .before .before .before .before .before .if1 .taken) (k .ensures)
 
-slice-reshare-prefix-apply-4 : tie.Need-slice-reshare-prefix-apply-4
-slice-reshare-prefix-apply-4 c = search needs
+slice-reshare-prefix-make-call-4 : tie.Need-slice-reshare-prefix-make-call-4
+slice-reshare-prefix-make-call-4 c = search needs
 
-slice-aggregate-apply-4 : tie.Need-slice-aggregate-apply-4
-slice-aggregate-apply-4 c = simp length-take (omega (arith, c .before .before .before .before .before .before .before .before .before .before .before .before .before .before .pre .bytes, c .before .before .before .before .before .before .before .before .before .before .before .before .before .before .pre .like-bytes))
+slice-aggregate-make-call-4 : tie.Need-slice-aggregate-make-call-4
+slice-aggregate-make-call-4 c = let k = c .before .before .before .before .before .before .before .before .before .before .before .before .pre .1 .1 in simp length-take (omega (arith, k .bytes, k .like-bytes))
 
-slice-reshare-prefix-apply-5 : tie.Need-slice-reshare-prefix-apply-5
-slice-reshare-prefix-apply-5 c = search needs
+slice-reshare-prefix-make-call-5 : tie.Need-slice-reshare-prefix-make-call-5
+slice-reshare-prefix-make-call-5 c = search needs
 
-slice-aggregate-apply-5 : tie.Need-slice-aggregate-apply-5
-slice-aggregate-apply-5 c = simp length-take (omega (arith, c .before .before .before .before .before .before .before .before .before .before .before .before .before .before .before .pre .numbers, c .before .before .before .before .before .before .before .before .before .before .before .before .before .before .before .pre .like-numbers))
+slice-aggregate-make-call-5 : tie.Need-slice-aggregate-make-call-5
+slice-aggregate-make-call-5 c = let k = c .before .before .before .before .before .before .before .before .before .before .before .before .before .pre .1 .1 in simp length-take (omega (arith, k .numbers, k .like-numbers))
 
-slice-reshare-prefix-apply-6 : tie.Need-slice-reshare-prefix-apply-6
-slice-reshare-prefix-apply-6 c = search needs
+slice-reshare-prefix-make-call-6 : tie.Need-slice-reshare-prefix-make-call-6
+slice-reshare-prefix-make-call-6 c = search needs
 
-slice-aggregate-apply-6 : tie.Need-slice-aggregate-apply-6
-slice-aggregate-apply-6 c = simp length-take (omega (arith, c .before .before .before .before .before .before .before .before .before .before .before .before .before .before .before .before .pre .texts, c .before .before .before .before .before .before .before .before .before .before .before .before .before .before .before .before .pre .like-texts))
+slice-aggregate-make-call-6 : tie.Need-slice-aggregate-make-call-6
+slice-aggregate-make-call-6 c = let k = c .before .before .before .before .before .before .before .before .before .before .before .before .before .before .pre .1 .1 in simp length-take (omega (arith, k .texts, k .like-texts))
 
-apply-requires-2 : tie.Need-apply-requires-2
-apply-requires-2 c κs = search needs
-
-moved-requires-2 : tie.Need-moved-requires-2
-moved-requires-2 c κs = search needs
+make-call-requires-2 : tie.Need-make-call-requires-2
+make-call-requires-2 c κs = let s = c .before .before .before .before .before .before .before .before .before .before .before .before .before .before .before .before .before .before in (s .pre .0, s .pre .1 .0)
 
 same-length-8 : tie.Need-same-length-8
 same-length-8 c = search needs
@@ -113,23 +116,21 @@ same-length-14 c = search needs
 
 returns-2 : tie.Need-returns-2
 returns-2 c =
-    let a = c .before .before .before .before .before .before .before .before .before .before .before .before .before .before .before .before .before .before .before .before .before .before .before .before .before .before .before .before .before .before .args in
-    let j : Job = jobOf (a .kind) (a .number) (recording (a .second .now) (a .second-entries .now) (a .second-text .now)) (recordsOf (a .records .now)) (a .new .now) in
-    let k = c .before .before .before .before .before .before .before .before .before .apply2 in
-    to-first j (a .s) (a .bytes .now) (a .numbers .now) (a .texts .now) (a .other-bytes .now) (a .other-numbers .now) (a .other-texts .now) (a .lines .now) (c .before .before .before .before .before .before .before .before .before .before .before .before .before .before .before .before .before .before .before .before .before .before .before .before .before .before .before .before .before .before .pre) _ _ _ _ (k .result) (c .moved2 .result) (c .moved2 .ensures) (c .before .before .before .before .before .before .before .before .before .before .before .before .before .before .before .before .before .if1 .left) (k .ensures .0) (k .ensures .1) (k .kept .1 .1 .1 .1 .1 .1 .1 .1 .1 .1 .0) (k .kept .1 .1 .1 .1 .1 .1 .1 .1 .1 .1 .1 .0) (k .kept .1 .1 .1 .1 .1 .1 .1 .1 .1 .1 .1 .1 .0)
+    let s = c .before .before .before .before .before .before .before .before .before .before .before .before .before .before .before .before .before .before .before .before .before .before .before .before .before .before .before in
+    let k = c .before .before .before .before .before .before .before .before .make-call2 in
+    to-first (job s) (s .args .s) (other s) (first s) _ (s .args .lines .now) _ (k .result) (c .before .before .before .before .before .before .before .before .before .before .before .before .before .before .before .before .if1 .left) (k .ensures)
 
 pub turn-spec : {M : Type 1} → statement M
 turn-spec =
     tie.close
     (tie.spec
-    slice-reshare-prefix-apply
-    slice-aggregate-apply
-    slice-reshare-prefix-apply-2
-    slice-aggregate-apply-2
-    slice-reshare-prefix-apply-3
-    slice-aggregate-apply-3
-    apply-requires
-    moved-requires
+    slice-reshare-prefix-make-call
+    slice-aggregate-make-call
+    slice-reshare-prefix-make-call-2
+    slice-aggregate-make-call-2
+    slice-reshare-prefix-make-call-3
+    slice-aggregate-make-call-3
+    make-call-requires
     same-length
     same-length-2
     same-length-3
@@ -138,14 +139,13 @@ turn-spec =
     same-length-6
     same-length-7
     returns
-    slice-reshare-prefix-apply-4
-    slice-aggregate-apply-4
-    slice-reshare-prefix-apply-5
-    slice-aggregate-apply-5
-    slice-reshare-prefix-apply-6
-    slice-aggregate-apply-6
-    apply-requires-2
-    moved-requires-2
+    slice-reshare-prefix-make-call-4
+    slice-aggregate-make-call-4
+    slice-reshare-prefix-make-call-5
+    slice-aggregate-make-call-5
+    slice-reshare-prefix-make-call-6
+    slice-aggregate-make-call-6
+    make-call-requires-2
     same-length-8
     same-length-9
     same-length-10

@@ -1,0 +1,53 @@
+-- A result in the other set is copied, part by part; one in the first set stays.
+use native.Mathlib.Omega.{arith}
+use borrow.Author.Needs.{needs}
+use Rattle.runs.proofs.PromiseLaws.{stays, copied}
+use Rattle.layout.specs.Lent.{lentOf}
+use Rattle.runs.proofs.bring_back.Statement.{statement}
+use Rattle.runs.proofs.bring_back.Tie as tie
+use Rattle.runs.proofs.bring_back.Reads as reads
+use Rattle.runs.proofs.bring_back.Lts as lts
+use Rattle.buffer.proofs.put.Reads as put-reads
+use Rattle.runs.proofs.put_numbers.Reads as put-numbers-reads
+
+returns : tie.Need-returns
+returns c =
+    let s = c .before .before .before .before .before .before .before in
+    stays (s .args .s) (lentOf (s .args .bytes .now) (s .args .numbers .now) (s .args .texts .now)) (lentOf (s .args .other-bytes .now) (s .args .other-numbers .now) (s .args .other-texts .now)) (c .if1 .taken)
+
+put-requires : tie.Need-put-requires
+put-requires c κs = search needs
+
+put-numbers-requires : tie.Need-put-numbers-requires
+put-numbers-requires c κs = search needs
+
+put-requires-2 : tie.Need-put-requires-2
+put-requires-2 c κs = search needs
+
+same-length : tie.Need-same-length
+same-length c = search needs
+
+same-length-2 : tie.Need-same-length-2
+same-length-2 c = search needs
+
+same-length-3 : tie.Need-same-length-3
+same-length-3 c = search needs
+
+returns-2 : tie.Need-returns-2
+returns-2 c =
+    let s = c .before .before .before .before .before .before .before .before .before .before .before .before .before .before .before .before .before .before .before in
+    copied (s .args .s) (s .args .bytes .now) (s .args .numbers .now) (s .args .texts .now) (s .args .other-bytes .now) (s .args .other-numbers .now) (s .args .other-texts .now) _ _ _
+    (c .before .before .before .before .before .before .before .before .before .before .before .before .if1 .left) (c .before .before .before .before .before .before .before .before .before .before .put .ensures .1) (c .before .before .before .before .before .before .put-numbers .ensures) (c .before .before .put2 .ensures .1)
+
+pub bring-back-spec : {M : Type 1} → statement M
+bring-back-spec =
+    tie.close
+    (tie.spec
+    returns
+    put-requires
+    put-numbers-requires
+    put-requires-2
+    same-length
+    same-length-2
+    same-length-3
+    returns-2)
