@@ -1,5 +1,5 @@
 /* Every function of the header once or more: document 01's cases C1 to C16, a refusal of each kind that lengths can give, and the
- * calls over structs. */
+ * calls over structs; lists of calls. */
 #include "ruszvedok.h"
 
 #include <stdio.h>
@@ -168,6 +168,79 @@ static void structs(void)
     expect("what it held", out.data_len == 6 && memcmp(out.data, "spruce", 6) == 0);
 }
 
+/* What each call of a list answered. */
+static void answered(const char *what, const ruszvedok_call_answer *answers, size_t count, const uint64_t *wanted)
+{
+    expect(what, memcmp(answers, wanted, 2 * count * sizeof wanted[0]) == 0);
+}
+
+/* Lists of calls: every kind, a refused one among them, and what refuses a list. */
+static void lists(void)
+{
+    const uint32_t numbers[] = {0, 1, 0, 1}, beyond[] = {90, 91, 0, 0};
+    const uint64_t wanted[] = {0, 8, 0, 5, 0, 0, 0, 0, 0, 0, 8, 0, 0, 0, 0, 0, 0, 2, 0, 3};
+    ruszvedok_view dots = ruszvedok_plain(".."), dot = ruszvedok_plain("."), none = ruszvedok_plain("");
+    ruszvedok_view records = {BYTES("X"), numbers, COUNT(numbers), (const uint8_t *)"", 0};
+    ruszvedok_view bad = {BYTES(""), beyond, COUNT(beyond), (const uint8_t *)"", 0};
+    ruszvedok_call_answer answers[10];
+    RUSZVEDOK_RECORDING(row, 32, 4, 8);
+    RUSZVEDOK_RECORDING(other, 32, 4, 8);
+    RUSZVEDOK_CALLS(list, 10, 16, 8);
+    ruszvedok_string_to(&row, "red spruce");
+    expect("list", ruszvedok_add_call(&list, RUSZVEDOK_CALL_TRUNCATE_END, 8, dots)); /* "red sp.." */
+    expect("list", ruszvedok_add_call(&list, RUSZVEDOK_CALL_TRUNCATE_START, 5, dots)); /* "..p.." */
+    expect("list", ruszvedok_add_call(&list, RUSZVEDOK_CALL_PAD_START, 6, dot)); /* "...p.." */
+    expect("list", ruszvedok_add_call(&list, RUSZVEDOK_CALL_PAD_END, 7, dot)); /* "...p..." */
+    expect("list", ruszvedok_add_call(&list, RUSZVEDOK_CALL_PAD_CENTERED, 10, dot)); /* "....p....." */
+    expect("list", ruszvedok_add_call(&list, RUSZVEDOK_CALL_REPLACE, 0, bad)); /* refused */
+    expect("list", ruszvedok_add_call(&list, RUSZVEDOK_CALL_REPLACE, 0, records)); /* "X...p....." */
+    expect("list", ruszvedok_add_call(&list, RUSZVEDOK_CALL_INDENT, 0, ruszvedok_plain("> "))); /* "> X...p....." */
+    expect("list", ruszvedok_add_call(&list, RUSZVEDOK_CALL_WRAP, 5, none)); /* ">", "X...p....." */
+    expect("list", !ruszvedok_add_call(&list, RUSZVEDOK_CALL_PAD_END, 5, ruszvedok_plain("too long for the pool")) && list.calls_len == 9);
+    expect("list", ruszvedok_add_call(&list, RUSZVEDOK_CALL_WRAP_BREAKING, 5, none)); /* ">", "X...p", "....." */
+    expect("list", !ruszvedok_add_call(&list, RUSZVEDOK_CALL_WRAP, 5, none) && list.calls_len == 10);
+
+    /* A list of answers that is too short: nothing is touched. */
+    memset(answers, 0xEE, sizeof answers);
+    expect("answers", ruszvedok_run_calls_to(&row, &other, &list, lines, COUNT(lines), answers, 9).refusal == RUSZVEDOK_ANSWER_LIST_TOO_SHORT);
+    expect("answers", row.data_len == 10 && memcmp(row.data, "red spruce", 10) == 0 && answers[0].refusal == answers[9].number);
+    other.data_room--;
+    expect("sets", ruszvedok_run_calls_to(&row, &other, &list, lines, COUNT(lines), answers, 10).refusal == RUSZVEDOK_SETS_DIFFER);
+    other.data_room++;
+    holds("list, run", ruszvedok_run_calls_to(&row, &other, &list, lines, COUNT(lines), answers, 10), &row, ">\nX...p\n.....", 9);
+    answered("list, answers", answers, 10, wanted);
+}
+
+/* What refuses a list by its numbers: calls that are no calls, a length. */
+static void list_numbers(void)
+{
+    uint32_t call[RUSZVEDOK_CALL_SIZE] = {RUSZVEDOK_CALL_INDENT, 0, 0, 1, 0, 0, 1, 1};
+    uint8_t other_data[64], other_text[16];
+    uint32_t other_entries[32];
+    uint64_t answers[2];
+    size_t k;
+#define RUN(numbers, used) \
+    ruszvedok_run_calls(call, numbers, BYTES(">"), entries, 0, used, 0, 0, BUFFERS, other_data, COUNT(other_data), other_entries, \
+        COUNT(other_entries), other_text, COUNT(other_text), lines, COUNT(lines), answers, COUNT(answers), res)
+    RUN(7, 0);
+    refused("no call", RUSZVEDOK_CALL_NUMBERS);
+    RUN(8, 65);
+    refused("used", RUSZVEDOK_LENGTH_OVER_BUFFER);
+    for (k = 0; k < RUSZVEDOK_CALL_SIZE; k++)
+        if (k != 1) { /* any width will do */
+            uint32_t kept = call[k];
+            call[k] = 9;
+            RUN(8, 0);
+            refused("a kind or a range", RUSZVEDOK_CALL_NUMBERS);
+            call[k] = kept;
+        }
+    data[0] = 'a';
+    RUN(8, 1);
+    left("indented", ">a", 1);
+    expect("its answer", answers[0] == 0 && answers[1] == 0);
+#undef RUN
+}
+
 /* Adding over structs, and reading part by part. */
 static void parts(void)
 {
@@ -210,6 +283,8 @@ int main(void)
     layout();
     labels();
     structs();
+    lists();
+    list_numbers();
     parts();
     names();
     return failed;

@@ -1,4 +1,5 @@
-/* A board row, recorded with its grades as labels, then truncated, padded and wrapped; each result is printed with its labels.
+/* A board row, recorded with its grades as labels, then truncated, padded and wrapped, by calls of their own and as a list of
+ * calls; each result is printed with its labels.
  * Plain C11, and C++ as well. */
 #include "ruszvedok.h"
 
@@ -37,8 +38,11 @@ int main(void)
     RUSZVEDOK_RECORDING(row, 128, 8, 64);
     RUSZVEDOK_RECORDING(rest, 16, 2, 16);
     RUSZVEDOK_RECORDING(out, 256, 16, 128);
+    RUSZVEDOK_RECORDING(other, 256, 16, 128);
+    RUSZVEDOK_CALLS(list, 3, 16, 16);
     RUSZVEDOK_RECORDING(few, 8, 16, 128);
     uint32_t lines[16 * RUSZVEDOK_LINE_NUMBERS];
+    ruszvedok_call_answer answers[3];
     ruszvedok_answer answer;
     ruszvedok_view content, ellipsis;
     size_t k, untouched = 0;
@@ -60,6 +64,15 @@ int main(void)
     print("centered in", 44, ruszvedok_view_of(&out));
     answer = ruszvedok_write_wrapped_to(&out, content, 12, false, lines, sizeof lines / sizeof lines[0]);
     print("wrapped at 12, lines", number(answer), ruszvedok_view_of(&out));
+
+    /* A list of calls, each on what the one before left: it goes back and forth between two sets of buffers, from `out` to `out`. */
+    if (!ruszvedok_add_call(&list, RUSZVEDOK_CALL_TRUNCATE_END, 18, ellipsis)
+        || !ruszvedok_add_call(&list, RUSZVEDOK_CALL_PAD_CENTERED, 24, ruszvedok_plain("."))
+        || !ruszvedok_add_call(&list, RUSZVEDOK_CALL_WRAP, 12, ruszvedok_plain("")))
+        return 1;
+    number(ruszvedok_replay_to(&out, content));
+    answer = ruszvedok_run_calls_to(&out, &other, &list, lines, sizeof lines / sizeof lines[0], answers, 3);
+    print("truncated, centered and wrapped, calls", number(answer), ruszvedok_view_of(&out));
 
     /* Eight bytes are too few for the result: the call is refused and leaves them alone. */
     memset(few_data, 0xEE, sizeof few_data);

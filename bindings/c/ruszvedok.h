@@ -19,7 +19,8 @@
  * No call allocates, keeps a pointer, or has a state of its own; calls over different buffers may run at the same time.
  *
  * The calls on recordings stand here twice: as the library exports them, and at the end, with _to behind the name, over the structs
- * ruszvedok_view (a recording that is read) and ruszvedok_recording (buffers that hold one), which are shorter to use. */
+ * ruszvedok_view (a recording that is read) and ruszvedok_recording (buffers that hold one), which are shorter to use. A whole list of
+ * them is made in one call by ruszvedok_run_calls_to: ruszvedok_add_call makes the list. */
 #ifndef RUSZVEDOK_H
 #define RUSZVEDOK_H
 
@@ -169,6 +170,50 @@ static inline bool ruszvedok_next(ruszvedok_view view, ruszvedok_cursor *at, rus
     return true;
 }
 
+/* A layout call of a list, as its eight numbers: one of enum ruszvedok_call_kind, a width (max_width, min_width, or that of the
+ * lines; not used by INDENT and REPLACE), and start and end of three ranges. `data` and `text` are ranges of the list's pool of
+ * bytes, `entries` is one of its pool of numbers: together the ellipsis, fill or prefix. Of REPLACE, `data` is the new text and
+ * `entries` the records, four numbers each. WRAP and WRAP_BREAKING use none; ranges that are not used have to be within their
+ * pools too. */
+typedef struct ruszvedok_call {
+    uint32_t kind, width;
+    uint32_t data_start, data_end;
+    uint32_t entries_start, entries_end;
+    uint32_t text_start, text_end;
+} ruszvedok_call;
+
+/* What one call of a list answers: its refusal or 0, and its number. */
+typedef struct ruszvedok_call_answer {
+    uint64_t refusal, number;
+} ruszvedok_call_answer;
+
+enum { RUSZVEDOK_CALL_SIZE = 8, RUSZVEDOK_CALL_ANSWER_SIZE = 2 };
+#ifdef __cplusplus
+#define RUSZVEDOK_ASSERT static_assert
+#else
+#define RUSZVEDOK_ASSERT _Static_assert
+#endif
+RUSZVEDOK_ASSERT(sizeof(ruszvedok_call) == RUSZVEDOK_CALL_SIZE * sizeof(uint32_t), "a call is eight numbers");
+RUSZVEDOK_ASSERT(sizeof(ruszvedok_call_answer) == RUSZVEDOK_CALL_ANSWER_SIZE * sizeof(uint64_t), "its answer is two");
+#undef RUSZVEDOK_ASSERT
+
+/* A list of calls with its pools: their numbers of elements, and how many of them are used. */
+typedef struct ruszvedok_calls {
+    ruszvedok_call *calls;
+    size_t calls_room, calls_len;
+    uint8_t *pool;
+    size_t pool_room, pool_len;
+    uint32_t *pool_numbers;
+    size_t pool_numbers_room, pool_numbers_len;
+} ruszvedok_calls;
+
+/* Declares a ruszvedok_calls `name`, empty, with room of its own: calls, bytes and numbers of what they read beside the content. */
+#define RUSZVEDOK_CALLS(name, call_count, byte_count, number_count) \
+    ruszvedok_call name##_calls[call_count]; \
+    uint8_t name##_pool[byte_count]; \
+    uint32_t name##_pool_numbers[number_count]; \
+    ruszvedok_calls name = {name##_calls, call_count, 0, name##_pool, byte_count, 0, name##_pool_numbers, number_count, 0}
+
 /* ======== written by tools/declarations from the library's sources ======== */
 
 /* The version of this header. */
@@ -188,8 +233,22 @@ static inline bool ruszvedok_next(ruszvedok_view view, ruszvedok_cursor *at, rus
 #define RUSZVEDOK_LINE_FIRST 0
 #define RUSZVEDOK_LINE_END 1
 
+/* Kinds of calls in a list: the first number of each. */
+enum ruszvedok_call_kind {
+    RUSZVEDOK_CALL_TRUNCATE_START = 0,
+    RUSZVEDOK_CALL_TRUNCATE_END = 1,
+    RUSZVEDOK_CALL_PAD_START = 2,
+    RUSZVEDOK_CALL_PAD_END = 3,
+    RUSZVEDOK_CALL_PAD_CENTERED = 4,
+    RUSZVEDOK_CALL_INDENT = 5,
+    RUSZVEDOK_CALL_WRAP = 6,
+    RUSZVEDOK_CALL_WRAP_BREAKING = 7,
+    RUSZVEDOK_CALL_REPLACE = 8
+};
+
 /* Refusals. The first cause in this order is given: 10; the content, then the second recording, each 1, 2, 5 for its lengths and
- * then entry by entry 3, 4, 5, 6; a pushed label (6), an appended raw sequence (3); 7; 8; 9; 21 to 24. */
+ * then entry by entry 3, 4, 5, 6; a pushed label (6), an appended raw sequence (3); 7; 8; 9; 21 to 24. Of a list of calls: 10;
+ * 61; 62; 63. */
 enum ruszvedok_refusal {
     RUSZVEDOK_DATA_TOO_LONG = 1,           /* Data over its limit. */
     RUSZVEDOK_ENTRY_NUMBERS = 2,           /* Entry numbers that are not four an entry, or over their limit. */
@@ -204,7 +263,10 @@ enum ruszvedok_refusal {
     RUSZVEDOK_DATA_BUFFER_TOO_SHORT = 21,  /* The data buffer is too short for the result. */
     RUSZVEDOK_ENTRY_BUFFER_TOO_SHORT = 22, /* The entry buffer is too short for the result. */
     RUSZVEDOK_TEXT_BUFFER_TOO_SHORT = 23,  /* The text buffer is too short for the result. */
-    RUSZVEDOK_LINE_LIST_TOO_SHORT = 24     /* The line list is too short for the result. */
+    RUSZVEDOK_LINE_LIST_TOO_SHORT = 24,    /* The line list is too short for the result. */
+    RUSZVEDOK_SETS_DIFFER = 61,            /* Two sets of buffers that differ in a length. */
+    RUSZVEDOK_CALL_NUMBERS = 62,           /* Calls that are not eight numbers each, an unknown kind, a range not within its pool. */
+    RUSZVEDOK_ANSWER_LIST_TOO_SHORT = 63   /* The list of answers is too short, at two numbers a call. */
 };
 
 /* The name of a refusal, as above without RUSZVEDOK_. */
@@ -226,6 +288,9 @@ static inline const char *ruszvedok_refusal_name(uint64_t refusal)
     case RUSZVEDOK_ENTRY_BUFFER_TOO_SHORT: return "ENTRY_BUFFER_TOO_SHORT";
     case RUSZVEDOK_TEXT_BUFFER_TOO_SHORT: return "TEXT_BUFFER_TOO_SHORT";
     case RUSZVEDOK_LINE_LIST_TOO_SHORT: return "LINE_LIST_TOO_SHORT";
+    case RUSZVEDOK_SETS_DIFFER: return "SETS_DIFFER";
+    case RUSZVEDOK_CALL_NUMBERS: return "CALL_NUMBERS";
+    case RUSZVEDOK_ANSWER_LIST_TOO_SHORT: return "ANSWER_LIST_TOO_SHORT";
     default: return "UNKNOWN";
     }
 }
@@ -249,6 +314,9 @@ static inline const char *ruszvedok_refusal_reason(uint64_t refusal)
     case RUSZVEDOK_ENTRY_BUFFER_TOO_SHORT: return "the entry buffer is too short for the result";
     case RUSZVEDOK_TEXT_BUFFER_TOO_SHORT: return "the text buffer is too short for the result";
     case RUSZVEDOK_LINE_LIST_TOO_SHORT: return "the line list is too short for the result";
+    case RUSZVEDOK_SETS_DIFFER: return "two sets of buffers that differ in a length";
+    case RUSZVEDOK_CALL_NUMBERS: return "calls that are not eight numbers each, an unknown kind, a range not within its pool";
+    case RUSZVEDOK_ANSWER_LIST_TOO_SHORT: return "the list of answers is too short, at two numbers a call";
     default: return "unknown reason";
     }
 }
@@ -366,6 +434,25 @@ void ruszvedok_write_replaced(
     const uint32_t *records, size_t records_len,
     const uint8_t *new_text, size_t new_text_len,
     uint8_t *out_data, size_t out_data_len, uint32_t *out_entries, size_t out_entries_len, uint8_t *out_text, size_t out_text_len,
+    uint64_t res[5]);
+
+/* ---- a list of calls on recordings ---- */
+
+/* Runs all layout calls of a list, back and forth between two sets of lent buffers. The number is how many were not refused. A
+ * call is eight numbers, the fields of ruszvedok_call in their order; its ranges are of `pool` and `pool_numbers`. The
+ * content is what the used lengths say of `data`, `entries` and `text`, and the result is left there. The other set has the
+ * same lengths. Both sets beyond the result, and `out_lines`, hold what the calls left on the way. `answers` gets two numbers
+ * a call: its refusal or 0, and its number. A refused call changes nothing, and the next one has the same content. The whole
+ * list is refused by 10, 61, 62 and 63. */
+void ruszvedok_run_calls(
+    const uint32_t *calls, size_t calls_len,
+    const uint8_t *pool, size_t pool_len,
+    const uint32_t *pool_numbers, size_t pool_numbers_len,
+    size_t data_len, size_t entries_len, size_t text_len,
+    uint8_t *data, size_t data_room, uint32_t *entries, size_t entries_room, uint8_t *text, size_t text_room,
+    uint8_t *other_data, size_t other_data_len, uint32_t *other_entries, size_t other_entries_len,
+    uint8_t *other_text, size_t other_text_len,
+    uint32_t *out_lines, size_t out_lines_len, uint64_t *answers, size_t answers_len,
     uint64_t res[5]);
 
 /* ---- plain texts, well-formed UTF-8 (otherwise refusal 7): the result is in `out_data` ---- */
@@ -525,6 +612,43 @@ static inline ruszvedok_answer ruszvedok_raw_to(ruszvedok_recording *to, const u
 }
 
 /* ======== end of the written part ======== */
+
+/* Adds a call to a list, and what it reads beside the content to the list's pools: the ellipsis, fill or prefix; of REPLACE a
+ * view with the new text as data and the records as entries; of WRAP and WRAP_BREAKING ruszvedok_plain(""). False, and nothing is
+ * added, if it does not fit. */
+static inline bool ruszvedok_add_call(ruszvedok_calls *to, enum ruszvedok_call_kind kind, uint32_t width, ruszvedok_view second)
+{
+    size_t data = to->pool_len, text = data + second.data_len, end = text + second.text_len;
+    size_t entries = to->pool_numbers_len, entries_end = entries + second.entries_len;
+    ruszvedok_call call = {(uint32_t)kind, width, (uint32_t)data, (uint32_t)text, (uint32_t)entries, (uint32_t)entries_end, (uint32_t)text,
+        (uint32_t)end};
+    if (to->calls_len >= to->calls_room || end > to->pool_room || entries_end > to->pool_numbers_room || end > UINT32_MAX
+        || entries_end > UINT32_MAX)
+        return false;
+    memcpy(to->pool + data, second.data, second.data_len);
+    memcpy(to->pool + text, second.text, second.text_len);
+    memcpy(to->pool_numbers + entries, second.entries, second.entries_len * sizeof second.entries[0]);
+    to->calls[to->calls_len++] = call;
+    to->pool_len = end;
+    to->pool_numbers_len = entries_end;
+    return true;
+}
+
+/* Runs a list on the recording `to`, which holds the result then. `other` has buffers of the same lengths, which the calls write
+ * to in turn; it is empty then. `answers` gets one answer a call. After a refusal of the list all is what it was. */
+static inline ruszvedok_answer ruszvedok_run_calls_to(
+    ruszvedok_recording *to, ruszvedok_recording *other, const ruszvedok_calls *list, uint32_t *out_lines, size_t out_lines_len,
+    ruszvedok_call_answer *answers, size_t answers_len)
+{
+    uint64_t res[5];
+    ruszvedok_run_calls(
+        (const uint32_t *)list->calls, RUSZVEDOK_CALL_SIZE * list->calls_len, list->pool, list->pool_len, list->pool_numbers,
+        list->pool_numbers_len, to->data_len, to->entries_len, to->text_len, RUSZVEDOK_LENT(to), RUSZVEDOK_LENT(other), out_lines,
+        out_lines_len, (uint64_t *)answers, RUSZVEDOK_CALL_ANSWER_SIZE * answers_len, res);
+    if (res[RUSZVEDOK_RES_REFUSAL] == 0)
+        other->data_len = other->entries_len = other->text_len = 0;
+    return ruszvedok_take_over(to, res);
+}
 
 /* Adds a string. */
 static inline ruszvedok_answer ruszvedok_string_to(ruszvedok_recording *to, const char *string)

@@ -1,8 +1,8 @@
-//! A board row, recorded with its grades as labels, then truncated, padded and wrapped; each result is printed with its labels.
-//! The same as `bindings/c/example.c`, which prints the same.
+//! A board row, recorded with its grades as labels, then truncated, padded and wrapped, by calls of their own and as a list of calls; each
+//! result is printed with its labels. The same as `bindings/c/example.c`, which prints the same.
 use ruszvedok::lent::{self, Buffers};
-use ruszvedok::{text_width, write_padded_centered, write_truncated_end, write_truncated_start, write_wrapped};
-use ruszvedok::{FormatOp, FormatRecorder, Refusal};
+use ruszvedok::{run_layouts, text_width, write_padded_centered, write_truncated_end, write_truncated_start, write_wrapped};
+use ruszvedok::{FormatOp, FormatRecorder, Layout, Refusal};
 
 /// Prints the data with {label:..} around what is labelled.
 fn print(title: &str, width: usize, row: &FormatRecorder) -> Result<(), Refusal> {
@@ -38,6 +38,15 @@ fn main() -> Result<(), Refusal> {
     print("centered in", 44, &out)?;
     let lines = write_wrapped(&mut out, &row, 12, false)?.len();
     print("wrapped at 12, lines", lines, &out)?;
+
+    // A list of calls, each on what the one before left.
+    let layouts = [
+        Layout::TruncateEnd { max_width: 18, ellipsis: &rest },
+        Layout::PadCentered { min_width: 24, fill: &dot },
+        Layout::Wrap { width: 12, break_words: false },
+    ];
+    let answers = run_layouts(&mut out, &row, &layouts)?;
+    print("truncated, centered and wrapped, calls", answers.iter().flatten().count(), &out)?;
 
     // A recorder lengthens its buffers. Lent ones have the length they have: eight bytes are too few, and are left alone.
     let (mut few, mut entries, mut text) = ([0xEE; 8], [0; 64], [0; 128]);

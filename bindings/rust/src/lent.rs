@@ -19,7 +19,7 @@ use std::slice::ChunksExact;
 
 use crate::refusal::Refusal;
 use crate::sys;
-pub use crate::sys::{Place, LINE_NUMBERS};
+pub use crate::sys::{Kind, Place, LINE_NUMBERS};
 
 /// A recording to be read.
 #[derive(Clone, Copy, Debug, Default)]
@@ -135,6 +135,46 @@ pub struct Replacement {
     pub from: u32,
     /// Its end.
     pub to: u32,
+}
+
+/// A layout call of a list for [`run_calls`], with its second recording, or its records and their text, as ranges of two pools: start and
+/// end of each.
+///
+/// | kind | does | width | `data`, `entries`, `text` |
+/// |---|---|---|---|
+/// | `TruncateStart`, `TruncateEnd` | [`write_truncated_start`], [`write_truncated_end`] | `max_width` | the ellipsis |
+/// | `PadStart`, `PadEnd`, `PadCentered` | [`write_padded_start`], [`write_padded_end`], [`write_padded_centered`] | `min_width` | the fill |
+/// | `Indent` | [`write_indented`] | not used | the prefix |
+/// | `Wrap`, `WrapBreaking` | [`write_wrapped`], without and with `break_words` | `width` | not used |
+/// | `Replace` | [`write_replaced`] | not used | `data` is the new text, `entries` the records, four numbers each; `text` is not used |
+///
+/// Ranges that are not used still have to be within their pools.
+#[derive(Clone, Copy, Debug, PartialEq, Eq, Hash)]
+#[repr(C)]
+pub struct Call {
+    /// What it does.
+    pub kind: Kind,
+    /// Its width.
+    pub width: u32,
+    /// A range of the pool of bytes.
+    pub data: [u32; 2],
+    /// A range of the pool of numbers.
+    pub entries: [u32; 2],
+    /// A range of the pool of bytes.
+    pub text: [u32; 2],
+}
+
+/// How many numbers a call is.
+const CALL_NUMBERS: usize = size_of::<Call>() / size_of::<u32>();
+const _: () = assert!(CALL_NUMBERS == 8, "a call is eight numbers");
+
+/// The two pools that the ranges of [`Call`]s are of.
+#[derive(Clone, Copy, Debug, Default)]
+pub struct Pools<'a> {
+    /// Data and text.
+    pub bytes: &'a [u8],
+    /// Entry numbers and replacement records.
+    pub numbers: &'a [u32],
 }
 
 // SAFETY, for each call below: pointer and number are of one borrowed slice (or array); the library, whatever it is given, reads
@@ -310,6 +350,58 @@ pub fn write_replaced(content: View, records: &[Replacement], new: &[u8], out: B
     // A record is four numbers in a row, which `repr(C)` makes it.
     let (numbers, count) = (records.as_ptr().cast::<u32>(), records.len() * 4);
     layout!(ruszvedok_write_replaced, [content], [numbers, count, new.as_ptr(), new.len()], out)
+}
+
+/// All calls of a list, each on what the last one not refused left; the number is how many were not refused. The content is what `used`
+/// says of `first`, and the result is left there; `other` has the same lengths. Both beyond the result, and `lines`, hold what the calls
+/// left on the way. `answers` gets two numbers a call: its refusal or 0, and its number.
+///
+/// ```
+/// use ruszvedok::lent::{run_calls, Buffers, Call, Kind, Pools, Used};
+///
+/// let pools = Pools { bytes: b"...", numbers: &[] };
+/// let none = [0, 0];
+/// let calls = [
+///     Call { kind: Kind::TruncateEnd, width: 4, data: [0, 2], entries: none, text: none },
+///     Call { kind: Kind::PadCentered, width: 8, data: [2, 3], entries: none, text: none },
+/// ];
+/// let (mut data, mut other, mut answers) = (*b"spruce  ", [0; 8], [[7; 2]; 2]);
+/// let first = Buffers { data: &mut data, ..Buffers::default() };
+/// let second = Buffers { data: &mut other, ..Buffers::default() };
+/// let used = Used { data: 6, ..Used::default() };
+/// let left = run_calls(&calls, pools, used, first, second, &mut [], &mut answers)?;
+/// assert_eq!((left.used.data, left.number), (8, 2));
+/// assert_eq!((&data, answers), (b"..sp....", [[0, 4], [0, 0]]));
+/// # Ok::<(), ruszvedok::Refusal>(())
+/// ```
+///
+/// # Errors
+///
+/// Refusals 10, 61 to 63: of the list, none of whose calls is run then.
+#[inline]
+pub fn run_calls(
+    calls: &[Call],
+    pools: Pools,
+    used: Used,
+    first: Buffers,
+    other: Buffers,
+    lines: &mut [u32],
+    answers: &mut [[u64; 2]],
+) -> Result<Done, Refusal> {
+    let mut res = [0; 5];
+    let answers = answers.as_flattened_mut();
+    // A call is eight numbers in a row, which `repr(C)` makes it.
+    unsafe {
+        sys::ruszvedok_run_calls(
+            calls.as_ptr().cast::<u32>(), calls.len() * CALL_NUMBERS, pools.bytes.as_ptr(), pools.bytes.len(),
+            pools.numbers.as_ptr(), pools.numbers.len(), used.data, used.entries, used.text,
+            first.data.as_mut_ptr(), first.data.len(), first.entries.as_mut_ptr(), first.entries.len(),
+            first.text.as_mut_ptr(), first.text.len(), other.data.as_mut_ptr(), other.data.len(),
+            other.entries.as_mut_ptr(), other.entries.len(), other.text.as_mut_ptr(), other.text.len(),
+            lines.as_mut_ptr(), lines.len(), answers.as_mut_ptr(), answers.len(), &mut res,
+        )
+    };
+    answered(res)
 }
 
 /// A text shortened at its start; the number is its width.

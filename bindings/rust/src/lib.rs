@@ -4,7 +4,7 @@
 //! is three layers over its C names, none of which is proved:
 //!
 //! * the type [`FormatRecorder`] and the functions of [`text_util`], with the names and the order of parameters that jj-cli has;
-//!   they own their buffers and lengthen them as needed;
+//!   they own their buffers and lengthen them as needed; [`run_layouts`] makes a list of [`Layout`] calls in one;
 //! * [`lent`]: one safe function for each call, over buffers that the caller lends; nothing is allocated;
 //! * `sys`: the declarations.
 //!
@@ -24,12 +24,14 @@
 
 #[allow(unsafe_code)]
 pub mod lent;
+mod layouts;
 mod recorder;
 mod refusal;
 #[allow(missing_docs)]
 mod sys;
 pub mod text_util;
 
+pub use layouts::{run_layouts, Layout};
 pub use recorder::{FormatOp, FormatRecorder, Span};
 pub use refusal::Refusal;
 pub use sys::{LINE_NUMBERS, MAX_DATA, MAX_ENTRIES, MAX_ENTRY_NUMBERS, MAX_TEXT};

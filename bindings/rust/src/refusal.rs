@@ -37,6 +37,12 @@ pub enum Refusal {
     TextBufferTooShort,
     /// 24: the line list is too short for the result.
     LineListTooShort,
+    /// 61: two sets of buffers that differ in a length.
+    SetsDiffer,
+    /// 62: calls that are not eight numbers each, an unknown kind, a range not within its pool.
+    CallNumbers,
+    /// 63: the list of answers is too short, at two numbers a call.
+    AnswerListTooShort,
     /// A number that this version of the crate does not know.
     Other(u64),
 }
@@ -58,6 +64,9 @@ impl Refusal {
         Self::EntryBufferTooShort,
         Self::TextBufferTooShort,
         Self::LineListTooShort,
+        Self::SetsDiffer,
+        Self::CallNumbers,
+        Self::AnswerListTooShort,
     ];
 
     /// Its number.
@@ -78,6 +87,9 @@ impl Refusal {
             Self::EntryBufferTooShort => 22,
             Self::TextBufferTooShort => 23,
             Self::LineListTooShort => 24,
+            Self::SetsDiffer => 61,
+            Self::CallNumbers => 62,
+            Self::AnswerListTooShort => 63,
             Self::Other(number) => number,
         }
     }
@@ -100,6 +112,9 @@ impl Refusal {
             Self::EntryBufferTooShort => "the entry buffer is too short for the result",
             Self::TextBufferTooShort => "the text buffer is too short for the result",
             Self::LineListTooShort => "the line list is too short for the result",
+            Self::SetsDiffer => "two sets of buffers that differ in a length",
+            Self::CallNumbers => "calls that are not eight numbers each, an unknown kind, a range not within its pool",
+            Self::AnswerListTooShort => "the list of answers is too short, at two numbers a call",
             Self::Other(_) => "unknown reason",
         }
     }

@@ -12,6 +12,22 @@ pub const MAX_TEXT: usize = 65_536;
 /// How many numbers a line has in a line list: first and end.
 pub const LINE_NUMBERS: usize = 2;
 
+/// The kind of a call in a list.
+#[derive(Clone, Copy, Debug, PartialEq, Eq, Hash)]
+#[repr(u32)]
+#[non_exhaustive]
+pub enum Kind {
+    TruncateStart = 0,
+    TruncateEnd = 1,
+    PadStart = 2,
+    PadEnd = 3,
+    PadCentered = 4,
+    Indent = 5,
+    Wrap = 6,
+    WrapBreaking = 7,
+    Replace = 8,
+}
+
 /// A place in a text, and the width of the part that is kept.
 #[derive(Clone, Copy, Debug, PartialEq, Eq)]
 #[repr(C)]
@@ -84,6 +100,14 @@ extern "C" {
         text_len: usize, records: *const u32, records_len: usize, new_text: *const u8, new_text_len: usize,
         out_data: *mut u8, out_data_len: usize, out_entries: *mut u32, out_entries_len: usize, out_text: *mut u8,
         out_text_len: usize, res: *mut [u64; 5],
+    );
+    pub fn ruszvedok_run_calls(
+        calls: *const u32, calls_len: usize, pool: *const u8, pool_len: usize, pool_numbers: *const u32,
+        pool_numbers_len: usize, data_len: usize, entries_len: usize, text_len: usize, data: *mut u8, data_room: usize,
+        entries: *mut u32, entries_room: usize, text: *mut u8, text_room: usize, other_data: *mut u8,
+        other_data_len: usize, other_entries: *mut u32, other_entries_len: usize, other_text: *mut u8,
+        other_text_len: usize, out_lines: *mut u32, out_lines_len: usize, answers: *mut u64, answers_len: usize,
+        res: *mut [u64; 5],
     );
     pub fn ruszvedok_elide_start(
         text: *const u8, text_len: usize, ellipsis: *const u8, ellipsis_len: usize, max_width: u32, out_data: *mut u8,

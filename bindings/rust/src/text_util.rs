@@ -14,7 +14,7 @@ use crate::refusal::Refusal;
 use crate::MAX_DATA;
 
 /// A width as the library takes it. No text within the limits is wider than `u32::MAX`, so a larger number does the same.
-fn columns(width: usize) -> u32 {
+pub(crate) fn columns(width: usize) -> u32 {
     width.try_into().unwrap_or(u32::MAX)
 }
 

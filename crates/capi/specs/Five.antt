@@ -6,6 +6,7 @@ use Rattle.recording.specs.Recording.{Recording}
 use Rattle.recording.specs.Outcome.{Outcome, Lent, lentAfter, Returned, returned}
 use Rattle.layout.specs.Layout.{Job, outcome}
 use Rattle.layout.specs.Lent.{callIn}
+use Rattle.runs.specs.Runs.{Given, Buffers, runFault, returnedRun, leftRun, LaidOut}
 
 unfoldable pub five : Returned → List ℕ
 five r = r .refusal ∷ r .dataBytes ∷ r .entryNumbers ∷ r .text ∷ r .number ∷ []
@@ -17,3 +18,7 @@ PromisedNumbers x before after res = (res ≡ five (returned x)) × (after ≡ l
 -- that of a layout call
 abbrev pub LeavesNumbers : Job → Recording → Lent → Lent → List ℕ → Type 0
 LeavesNumbers j r b b′ res = PromisedNumbers (outcome (callIn j b) r) b b′ res
+
+-- that of a list of layout calls
+abbrev pub RunsNumbers : Given → Buffers → Buffers → List ℕ → Type 0
+RunsNumbers g b b′ res = (res ≡ five (returnedRun g b)) × ((b′ ≡ leftRun g b) × (runFault g b ≡ 0 → LaidOut g b b′ (returnedRun g b)))

@@ -22,6 +22,7 @@ use recorder::write;
 use recording::Answer;
 use recording::number_of;
 use replace::write_replaced_flat;
+use runs::run_calls;
 use truncate::write_truncated_end;
 use truncate::write_truncated_start;
 use wrap::write_wrapped;
@@ -37,8 +38,9 @@ ghost use Rattle.layout.specs.Layout.{truncateStart, truncateEnd, padStart, pad
 ghost use Rattle.layout.specs.Lent.{lentOf, lentLined};
 ghost use Rattle.wrap_lines.specs.WrapBytes.{lentLines, wrapBytesOutcome};
 ghost use Rattle.replace.specs.Records.{recordsOf};
+ghost use Rattle.runs.specs.Runs.{given, buffers};
 ghost use Rattle.elide.specs.Elide.{lent, elideEndOutcome, elideStartOutcome, completeNewlineOutcome};
-ghost use Rattle.capi.specs.Five.{five, PromisedNumbers, LeavesNumbers};
+ghost use Rattle.capi.specs.Five.{five, PromisedNumbers, LeavesNumbers, RunsNumbers};
 
 // The width of a text.
 #[no_mangle]
@@ -401,6 +403,50 @@ pub extern "C" fn ruszvedok_write_replaced(
         (lentOf (now (bytes .entry)) (now (numbers .entry)) (now (texts .entry))) (lentOf (now (bytes .exit)) (now (numbers .exit)) (now (texts .exit))) (now (res .exit)) ⌝ }
 {
     let a = write_replaced_flat(content, entries, text, records, new, bytes, numbers, texts);
+    store(a, res);
+}
+
+// Runs all layout calls of a list, back and forth between two sets of lent buffers. The number is how many were not refused.
+#[no_mangle]
+pub extern "C" fn ruszvedok_run_calls(
+    calls: &[u32],
+    pool: &[u8],
+    pool_numbers: &[u32],
+    data_len: usize,
+    entries_len: usize,
+    text_len: usize,
+    bytes: &mut [u8],
+    numbers: &mut [u32],
+    texts: &mut [u8],
+    other_bytes: &mut [u8],
+    other_numbers: &mut [u32],
+    other_texts: &mut [u8],
+    lines: &mut [u32],
+    answers: &mut [u64],
+    res: &mut [u64; 5],
+)
+    ensures { λ _. ⌜ RunsNumbers (given (now (calls .entry)) (now (pool .entry)) (now («pool_numbers» .entry)) «data_len» «entries_len» «text_len»)
+        (buffers (lentOf (now (bytes .entry)) (now (numbers .entry)) (now (texts .entry))) (lentOf (now («other_bytes» .entry)) (now («other_numbers» .entry)) (now («other_texts» .entry)))
+        (now (lines .entry)) (now (answers .entry)))
+        (buffers (lentOf (now (bytes .exit)) (now (numbers .exit)) (now (texts .exit))) (lentOf (now («other_bytes» .exit)) (now («other_numbers» .exit)) (now («other_texts» .exit)))
+        (now (lines .exit)) (now (answers .exit))) (now (res .exit)) ⌝ }
+{
+    let a = run_calls(
+        calls,
+        pool,
+        pool_numbers,
+        data_len,
+        entries_len,
+        text_len,
+        bytes,
+        numbers,
+        texts,
+        other_bytes,
+        other_numbers,
+        other_texts,
+        lines,
+        answers,
+    );
     store(a, res);
 }
 
