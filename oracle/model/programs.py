@@ -1,7 +1,6 @@
 """The expected output of each program of the gate, made by the model: the program's cases and its way of printing, with the model's answers."""
 from pathlib import Path
 
-import call_tests
 import vectors
 from lists import result_of
 from printing import spaced
@@ -23,30 +22,16 @@ def rows_test():
     longest = [head + b"\n" * (65536 - len(head)), head + b"\n" * (65537 - len(head))]
     many_bytes = [head + b"1 1 " + b"66" * 4000 + b"\n", head + b"1 1 " + b"66" * 4001 + b"\n"]
     shown = [given("rows_test")] + short
-    return b"".join(map(wraplist, shown)) + b"".join(b"%d\n" % len(wraplist(sheet)) for sheet in longest + many_bytes)
-
-
-# ── limits_test
-
-def limits_test():
-    most, over = b"a" * 1048576, b"a" * 1048577
-    small = (1, 4, 1)
-    cases = [
-        ("replay, one past the limit", ("replay", recording(over)), small),
-        ("wrap, one past the limit", ("wrap_bytes", over, 80, False), (0, 0, 0, 2)),
-        ("pad, a fill one past the limit", ("write_padded_start", recording(b""), recording(over), 4294967295), small),
-        ("write, up to the limit", ("write", (1048575, 0, 0), b"x"), (over,)),
-        ("write, one past the limit", ("write", (1048576, 0, 0), b"x"), (over,)),
-        ("write nothing at the limit", ("write", (1048576, 0, 0), b""), (over,)),
-        ("write, content past the limit", ("write", (1048577, 0, 0), b""), (over,)),
-        ("write, length above the buffer", ("write", (1048578, 0, 0), b""), (over,)),
-        ("replay, at the limit", ("replay", recording(most)), small),
-        ("wrap, at the limit", ("wrap_bytes", most, 80, False), (0, 0, 0, 2)),
-        ("pad, a fill at the limit and the largest count", ("write_padded_start", recording(b""), recording(most), 4294967295), small),
-        ("indent, content and prefix at the limit", ("write_indented", recording(most), recording(most)), small),
-        ("write, no room before the limit is passed", ("write", (1048576, 0, 0), b"x"), (most,)),
+    files = [(CRATES / "rows_test" / "data" / name).read_bytes() for name in ("full", "over", "more")]
+    # What document 01 does not fix: what the program says of a failure and of itself.
+    told = [
+        b"wraplist: cannot read the sheet\n",
+        b"wraplist: cannot write the rows\n",
+        b"wraplist reads a sheet of wrapping tasks from standard input and prints where their lines start and end.\n",
+        b"A sheet: the line 'width break bytes', then on each line a width, 1 to break long words or else 0, and hexadecimal bytes or -.\n",
     ]
-    return b"".join(name.encode() + spaced(call(*inputs, room=room)[0]) + b"\n" for name, inputs, room in cases)
+    lengths = [b"%d\n" % len(wraplist(sheet)) for sheet in longest + many_bytes]
+    return b"".join([*map(wraplist, shown), *lengths, *map(wraplist, files), *told])
 
 
 # ── runs_test
@@ -110,8 +95,7 @@ def replace_records_test():
     ])
 
 
-PROGRAMS = call_tests.PROGRAMS | {
-    "limits_test": limits_test,
+PROGRAMS = {
     "replace_records_test": replace_records_test,
     "rows_test": rows_test,
     "runs_test": runs_test,

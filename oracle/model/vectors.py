@@ -1,7 +1,7 @@
 """Reads a line of the program `vectors` and works out by the model what it should expect.
 
 A line is a call's name and its fields `key=value`, with `!` before it if its expectation is wrong on purpose. A value is a number, or a list: parts with `+` between them, each a text in quotes
-or numbers, `*N` behind one that comes N times. `N:list` is a buffer of N places, which holds A5 beyond the list. Lines of nineteen hexadecimal fields are the older form (hexadecimal_vectors.py).
+or numbers, `*N` behind one that comes N times. `N:list` is a buffer of N places, which holds A5 beyond the list.
 """
 import re
 
@@ -123,17 +123,10 @@ class Line:
         return self.expected() == self.given()
 
 
-def parsed(line):
-    if line[0].isdigit():
-        from hexadecimal_vectors import Vector      # the older form
-        return Vector(line)
-    return Line(line)
-
-
 def check(text):
     """The rows that the program prints, and the lines where the model says otherwise than the file."""
-    lines = [(number, parsed(line)) for number, line in enumerate(text.split("\n"), 1) if line and not line.startswith("#")]
-    names = (NAMES if any(isinstance(line, Line) for _, line in lines) else NAMES[:22]) + ["wrong"]
+    lines = [(number, Line(line)) for number, line in enumerate(text.split("\n"), 1) if line and not line.startswith("#")]
+    names = NAMES + ["wrong"]
     total, agreed, differing = dict.fromkeys(names, 0), dict.fromkeys(names, 0), []
     for number, line in lines:
         row = line.name if line.right else "wrong"
