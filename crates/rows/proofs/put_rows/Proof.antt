@@ -115,16 +115,13 @@ loop-less c = search needs
 
 loop-again : tie.Need-loop-again Inv-loop μ-loop
 loop-again c =
-    let at-one-row = c .before .before .before .before .before .before in
-    let at-find = at-one-row .before .before .before .before .before in
-    let at-loop-test = at-find .before in
-    let at-13 = at-loop-test .before in
-    let l = at-13 in
+    let l = c .before .before .before .before .before .before .before .before .before .before .before .before .before in
     let x = l .before .before .before .before .before .args in
-    let f = at-find .find in
-    let o = at-one-row .one-row in
-    step _ _ _ _ _ _ _ _ _ _ _ _ (l .loop .inv) (omega arith) (at-loop-test .loop-test .taken) (f .result) (f .ensures .0) (f .ensures .1 .0) (f .ensures .1 .1) _ _ _ _
-    (o .ensures .0 .0) (o .ensures .0 .1) (o .ensures .1) (o .kept .1 .1 .1 .0) (o .kept .1 .1 .1 .1 .0) (o .kept .1 .1 .1 .1 .1 .0)
+    let f = c .before .before .before .before .before .before .before .before .before .before .before .find in
+    let o = c .before .before .before .before .before .before .one-row in
+    step _ _ _ _ _ _ _ _ _ _ _ _ (l .loop .inv) (omega arith) (c .before .before .before .before .before .before .before .before .before .before .before .before .loop-test .taken)
+    (f .result) (f .ensures .0) (f .ensures .1 .0) (f .ensures .1 .1) _ _ _ _ (o .ensures .0 .0) (o .ensures .0 .1) (o .ensures .1) (o .kept .1 .1 .1 .0)
+    (o .kept .1 .1 .1 .1 .0) (o .kept .1 .1 .1 .1 .1 .0)
 
 same-length : tie.Need-same-length Inv-loop μ-loop
 same-length c = search needs
