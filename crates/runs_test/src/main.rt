@@ -1,55 +1,136 @@
-// Runs all eight layout calls, refused ones among them, back and forth between two sets of buffers, and prints after each call which set has the content and what it is.
-// What is proved of a program is that it is safe; what it should print stands in the file `stdout`: the call's kind and width, the set, and then data, entry numbers and text.
+// Runs lists of layout calls: lists that are refused, with the buffers as they were; one list of all kinds, refused calls among them, by one call; and its calls one by one.
+// What is proved of a program is that it is safe; what it should print stands in the file `stdout`: the five numbers, the two sets of buffers, the line list and the list of answers.
 use buffer::put;
-use runs::Held;
+use recording::Answer;
+use runs::put_numbers;
 use runs::run_calls;
-ghost use mathlib.Core.Bool.{true};
-ghost use Rattle.runs.specs.Runs.{Sets};
+ghost use Prim.Native.Nat.{_+_, _≤_};
+ghost use lib.ListN.{length};
 
-fn show_recording(content: &[u8], entries: &[u32], text: &[u8]) {
-    io::write_all(1, b" <");
-    io::write_all(1, content);
-    io::write_all(1, b">");
-    report::numbers(entries);
-    io::write_all(1, b" <");
-    io::write_all(1, text);
-    io::write_all(1, b">\n");
+// A list that is refused: its range among the calls, how much data is used, and how much of the other text and of the list of answers is lent.
+struct Row {
+    from: u32,
+    to: u32,
+    data: u32,
+    texts: u32,
+    answers: u32,
 }
 
-// The content where it stands.
+// How long the content is.
+struct Used {
+    data: usize,
+    entries: usize,
+    text: usize,
+}
+
+// The content is a result if the list was not refused.
+fn used_after(u: Used, a: Answer) -> Used {
+    match a {
+        Answer::Refused(_) => u,
+        Answer::Done {
+            data: d,
+            entries: e,
+            text: t,
+            number: _,
+        } => Used {
+            data: d,
+            entries: e,
+            text: t,
+        },
+    }
+}
+
+fn show_set(name: &[u8], bytes: &[u8], numbers: &[u32], texts: &[u8]) {
+    io::write_all(1, name);
+    report::text(bytes);
+    report::numbers(numbers);
+    report::text(texts);
+    io::write_all(1, b"\n");
+}
+
+fn show_answers(answers: &[u64]) {
+    io::write_all(1, b"  answers");
+    let mut i = 0;
+    while i < answers.len() {
+        report::number(answers[i]);
+        i += 1;
+    }
+    io::write_all(1, b"\n");
+}
+
+// Every place that was lent.
 fn show(
-    s: Held,
     bytes: &[u8],
     numbers: &[u32],
     texts: &[u8],
     other_bytes: &[u8],
     other_numbers: &[u32],
     other_texts: &[u8],
-)
-    requires { ⌜ Sets s (now bytes) (now numbers) (now texts) (now «other_bytes») (now «other_numbers») (now «other_texts») ⌝ }
-{
-    if s.first {
-        io::write_all(1, b" first");
-        show_recording(&bytes[..s.bytes], &numbers[..s.numbers], &texts[..s.texts]);
-        return;
-    }
-    io::write_all(1, b" other");
-    show_recording(
-        &other_bytes[..s.bytes],
-        &other_numbers[..s.numbers],
-        &other_texts[..s.texts],
-    );
+    lines: &[u32],
+    answers: &[u64],
+) {
+    show_set(b"  first", bytes, numbers, texts);
+    show_set(b"  other", other_bytes, other_numbers, other_texts);
+    io::write_all(1, b"  lines");
+    report::numbers(lines);
+    io::write_all(1, b"\n");
+    show_answers(answers);
 }
 
-// Runs the calls one by one, each on what the last one not refused left.
-fn each(
-    s: Held,
-    calls: &[u32],
-    second: &[u8],
-    second_entries: &[u32],
-    second_text: &[u8],
-    records: &[u32],
-    new: &[u8],
+// The first content: "oak 12 ft b" with "oak" labelled and a raw sequence before "12".
+fn start(bytes: &mut [u8], numbers: &mut [u32], texts: &mut [u8]) -> Used {
+    let used = Used {
+        data: 11,
+        entries: 12,
+        text: 4,
+    };
+    if bytes.len() < 11 {
+        return used;
+    }
+    if numbers.len() < 12 {
+        return used;
+    }
+    if texts.len() < 4 {
+        return used;
+    }
+    let entries = [0, 0, 0, 3, 3, 1, 0, 0, 4, 2, 3, 1];
+    put(bytes, 0, b"oak 12 ft b", 0, 11);
+    put_numbers(numbers, &entries, 12);
+    put(texts, 0, b"redR", 0, 4);
+    used
+}
+
+fn least(a: usize, b: usize) -> usize
+    ensures { λ r. ⌜ (r ≤ a) × (r ≤ b) ⌝ }
+{
+    if a < b {
+        return a;
+    }
+    b
+}
+
+// Five numbers of `rows`, printed and read.
+fn row_at(rows: &[u32], i: usize) -> Row
+    requires { ⌜ i + 5 ≤ length (now rows) ⌝ }
+{
+    io::write_all(1, b"list");
+    report::numbers(&rows[i..i + 5]);
+    io::write_all(1, b":");
+    Row {
+        from: rows[i],
+        to: rows[i + 1],
+        data: rows[i + 2],
+        texts: rows[i + 3],
+        answers: rows[i + 4],
+    }
+}
+
+// Runs a list that is refused, and prints its answer.
+fn refused_list(
+    row: Row,
+    bad: &[u32],
+    pool: &[u8],
+    pool_numbers: &[u32],
     bytes: &mut [u8],
     numbers: &mut [u32],
     texts: &mut [u8],
@@ -57,22 +138,58 @@ fn each(
     other_numbers: &mut [u32],
     other_texts: &mut [u8],
     lines: &mut [u32],
-) -> Held
-    requires { ⌜ Sets s (now bytes) (now numbers) (now texts) (now «other_bytes») (now «other_numbers») (now «other_texts») ⌝ }
-    ensures { λ r. ⌜ Sets r (now (bytes .exit)) (now (numbers .exit)) (now (texts .exit)) (now («other_bytes» .exit)) (now («other_numbers» .exit)) (now («other_texts» .exit)) ⌝ }
-{
-    let mut held = s;
+    answers: &mut [u64],
+) {
+    let to = least(row.to as usize, bad.len());
+    let from = least(row.from as usize, to);
+    let texts_lent = least(row.texts as usize, other_texts.len());
+    let answers_lent = least(row.answers as usize, answers.len());
+    let a = run_calls(
+        &bad[from..to],
+        pool,
+        pool_numbers,
+        row.data as usize,
+        12,
+        4,
+        bytes,
+        numbers,
+        texts,
+        other_bytes,
+        other_numbers,
+        &mut other_texts[0..texts_lent],
+        lines,
+        &mut answers[0..answers_lent],
+    );
+    report::answer(a);
+    io::write_all(
+        1,
+        b"
+",
+    );
+}
+
+fn refused_lists(
+    rows: &[u32],
+    bad: &[u32],
+    pool: &[u8],
+    pool_numbers: &[u32],
+    bytes: &mut [u8],
+    numbers: &mut [u32],
+    texts: &mut [u8],
+    other_bytes: &mut [u8],
+    other_numbers: &mut [u32],
+    other_texts: &mut [u8],
+    lines: &mut [u32],
+    answers: &mut [u64],
+) {
     let mut i = 0;
-    while i + 2 <= calls.len() {
-        report::numbers(&calls[i..i + 2]);
-        held = run_calls(
-            held,
-            &calls[i..i + 2],
-            second,
-            second_entries,
-            second_text,
-            records,
-            new,
+    while i < rows.len() / 5 {
+        let row = row_at(rows, 5 * i);
+        refused_list(
+            row,
+            bad,
+            pool,
+            pool_numbers,
             bytes,
             numbers,
             texts,
@@ -80,25 +197,18 @@ fn each(
             other_numbers,
             other_texts,
             lines,
+            answers,
         );
-        show(
-            held,
-            bytes,
-            numbers,
-            texts,
-            other_bytes,
-            other_numbers,
-            other_texts,
-        );
-        i += 2;
+        i += 1;
     }
-    held
 }
 
-// "oak 12 ft b" with "oak" labelled and a raw sequence before "12"; the same second recording and records for all calls.
-// Refused are, in this order: a record beyond the data (8), a result over the limit (9) and beyond the buffer (21), and more lines than the list holds (24).
-// The wrap that is made twice changes nothing the second time; the records are good at the end.
-fn boards(
+// One call, as a list of one.
+fn one_call(
+    used: Used,
+    calls: &[u32],
+    pool: &[u8],
+    pool_numbers: &[u32],
     bytes: &mut [u8],
     numbers: &mut [u32],
     texts: &mut [u8],
@@ -106,55 +216,15 @@ fn boards(
     other_numbers: &mut [u32],
     other_texts: &mut [u8],
     lines: &mut [u32],
-)
-    requires { ⌜ Sets (record { first = true; bytes = 11; numbers = 12; texts = 4 }) (now bytes) (now numbers) (now texts) (now «other_bytes») (now «other_numbers») (now «other_texts») ⌝ }
-{
-    let start = Held {
-        first: true,
-        bytes: 11,
-        numbers: 12,
-        texts: 4,
-    };
-    let calls = [
-        0,
-        9,
-        8,
-        0,
-        1,
-        8,
-        2,
-        10,
-        3,
-        4294967295,
-        3,
-        14,
-        4,
-        60,
-        4,
-        17,
-        6,
-        8,
-        7,
-        1,
-        7,
-        7,
-        7,
-        7,
-        5,
-        0,
-        8,
-        0,
-    ];
-    let labelled = [0, 0, 0, 1, 2, 1, 0, 0];
-    let records = [0, 2, 0, 3, 20, 20, 0, 0];
-    each(
-        start,
-        &calls,
-        b"=>",
-        &labelled,
-        b"a",
-        &records,
-        b"oak",
+    answers: &mut [u64],
+) -> Used {
+    let a = run_calls(
+        calls,
+        pool,
+        pool_numbers,
+        used.data,
+        used.entries,
+        used.text,
         bytes,
         numbers,
         texts,
@@ -162,27 +232,586 @@ fn boards(
         other_numbers,
         other_texts,
         lines,
+        answers,
+    );
+    report::answer(a);
+    show_set(
+        b"
+  first",
+        bytes,
+        numbers,
+        texts,
+    );
+    let n = least(2, answers.len());
+    show_answers(&answers[0..n]);
+    used_after(used, a)
+}
+
+// The calls one by one, each on what the one before left.
+fn each(
+    first: Used,
+    calls: &[u32],
+    pool: &[u8],
+    pool_numbers: &[u32],
+    bytes: &mut [u8],
+    numbers: &mut [u32],
+    texts: &mut [u8],
+    other_bytes: &mut [u8],
+    other_numbers: &mut [u32],
+    other_texts: &mut [u8],
+    lines: &mut [u32],
+    answers: &mut [u64],
+) {
+    let mut used = first;
+    let mut i = 0;
+    while i < calls.len() / 8 {
+        let at = 8 * i;
+        io::write_all(1, b"call");
+        report::numbers(&calls[at..at + 2]);
+        io::write_all(1, b":");
+        used = one_call(
+            used,
+            &calls[at..at + 8],
+            pool,
+            pool_numbers,
+            bytes,
+            numbers,
+            texts,
+            other_bytes,
+            other_numbers,
+            other_texts,
+            lines,
+            answers,
+        );
+        i += 1;
+    }
+}
+
+// All calls at once, and every lent place after them.
+fn at_once(
+    used: Used,
+    calls: &[u32],
+    pool: &[u8],
+    pool_numbers: &[u32],
+    bytes: &mut [u8],
+    numbers: &mut [u32],
+    texts: &mut [u8],
+    other_bytes: &mut [u8],
+    other_numbers: &mut [u32],
+    other_texts: &mut [u8],
+    lines: &mut [u32],
+    answers: &mut [u64],
+) {
+    let a = run_calls(
+        calls,
+        pool,
+        pool_numbers,
+        used.data,
+        used.entries,
+        used.text,
+        bytes,
+        numbers,
+        texts,
+        other_bytes,
+        other_numbers,
+        other_texts,
+        lines,
+        answers,
+    );
+    io::write_all(1, b"at once:");
+    report::answer(a);
+    io::write_all(
+        1,
+        b"
+",
+    );
+    show(
+        bytes,
+        numbers,
+        texts,
+        other_bytes,
+        other_numbers,
+        other_texts,
+        lines,
+        answers,
+    );
+}
+
+// All lists, one after another, in the same buffers.
+fn lists(
+    pool: &[u8],
+    bytes: &mut [u8],
+    numbers: &mut [u32],
+    texts: &mut [u8],
+    other_bytes: &mut [u8],
+    other_numbers: &mut [u32],
+    other_texts: &mut [u8],
+    lines: &mut [u32],
+    answers: &mut [u64],
+) {
+    let pool_numbers = [
+        0,
+        0,
+        0,
+        1,
+        2,
+        1,
+        0,
+        0,
+        0,
+        2,
+        0,
+        2,
+        0,
+        0,
+        2,
+        1,
+        1,
+        1,
+        0,
+        0,
+        0,
+        0,
+        0,
+        4,
+        1,
+        1,
+        0,
+        0,
+        0,
+        0,
+        0,
+        5,
+        2,
+        1,
+        0,
+        0,
+        0,
+        2,
+        0,
+        3,
+        20,
+        20,
+        0,
+        0,
+        2,
+        5,
+        0,
+        2,
+        8,
+        8,
+        1,
+        2,
+        0,
+        1,
+        0,
+        0,
+        0,
+        0,
+        1,
+        2,
+        1,
+        0,
+        0,
+    ];
+    let calls = [
+        0,
+        9,
+        0,
+        2,
+        0,
+        8,
+        2,
+        3,
+        8,
+        0,
+        23,
+        26,
+        36,
+        44,
+        26,
+        26,
+        1,
+        8,
+        3,
+        4,
+        8,
+        20,
+        4,
+        7,
+        2,
+        10,
+        7,
+        10,
+        20,
+        20,
+        10,
+        10,
+        3,
+        4294967295,
+        10,
+        12,
+        20,
+        28,
+        12,
+        16,
+        3,
+        14,
+        10,
+        12,
+        20,
+        28,
+        12,
+        16,
+        4,
+        60,
+        0,
+        2,
+        0,
+        8,
+        2,
+        3,
+        4,
+        17,
+        16,
+        18,
+        28,
+        36,
+        18,
+        23,
+        6,
+        8,
+        0,
+        0,
+        0,
+        0,
+        0,
+        0,
+        7,
+        1,
+        0,
+        0,
+        0,
+        0,
+        0,
+        0,
+        7,
+        7,
+        0,
+        0,
+        0,
+        0,
+        0,
+        0,
+        7,
+        7,
+        0,
+        0,
+        0,
+        0,
+        0,
+        0,
+        0,
+        3,
+        28,
+        29,
+        52,
+        55,
+        29,
+        29,
+        5,
+        0,
+        16,
+        18,
+        28,
+        36,
+        18,
+        23,
+        5,
+        0,
+        29,
+        31,
+        55,
+        63,
+        31,
+        32,
+        8,
+        0,
+        26,
+        28,
+        44,
+        52,
+        28,
+        28,
+        1,
+        12,
+        3,
+        4,
+        8,
+        20,
+        4,
+        7,
+    ];
+    let used = start(bytes, numbers, texts);
+    at_once(
+        used,
+        &calls,
+        pool,
+        &pool_numbers,
+        bytes,
+        numbers,
+        texts,
+        other_bytes,
+        other_numbers,
+        other_texts,
+        lines,
+        answers,
+    );
+    let again = start(bytes, numbers, texts);
+    each(
+        again,
+        &calls,
+        pool,
+        &pool_numbers,
+        bytes,
+        numbers,
+        texts,
+        other_bytes,
+        other_numbers,
+        other_texts,
+        lines,
+        answers,
+    );
+}
+
+// Lists that are refused, and the buffers as they were. The calls, in this order: one that is good, one of an unknown kind, and ranges that run backwards or beyond their pool.
+fn refusals(
+    pool: &[u8],
+    bytes: &mut [u8],
+    numbers: &mut [u32],
+    texts: &mut [u8],
+    other_bytes: &mut [u8],
+    other_numbers: &mut [u32],
+    other_texts: &mut [u8],
+    lines: &mut [u32],
+    answers: &mut [u64],
+) {
+    let pool_numbers = [0; 63];
+    let bad = [
+        0,
+        9,
+        0,
+        2,
+        0,
+        8,
+        2,
+        3,
+        9,
+        9,
+        0,
+        2,
+        0,
+        8,
+        2,
+        3,
+        0,
+        9,
+        2,
+        0,
+        0,
+        8,
+        2,
+        3,
+        0,
+        9,
+        0,
+        2,
+        8,
+        0,
+        2,
+        3,
+        0,
+        9,
+        0,
+        2,
+        0,
+        8,
+        3,
+        2,
+        0,
+        9,
+        0,
+        33,
+        0,
+        8,
+        2,
+        3,
+        0,
+        9,
+        0,
+        2,
+        0,
+        64,
+        2,
+        3,
+        0,
+        9,
+        0,
+        2,
+        0,
+        8,
+        0,
+        33,
+    ];
+    let rows = [
+        0,
+        8,
+        65,
+        24,
+        2,
+        0,
+        8,
+        11,
+        23,
+        2,
+        0,
+        7,
+        11,
+        24,
+        2,
+        8,
+        16,
+        11,
+        24,
+        2,
+        16,
+        24,
+        11,
+        24,
+        2,
+        24,
+        32,
+        11,
+        24,
+        2,
+        32,
+        40,
+        11,
+        24,
+        2,
+        40,
+        48,
+        11,
+        24,
+        2,
+        48,
+        56,
+        11,
+        24,
+        2,
+        56,
+        64,
+        11,
+        24,
+        2,
+        0,
+        8,
+        11,
+        24,
+        1,
+        8,
+        15,
+        65,
+        23,
+        0,
+        8,
+        15,
+        11,
+        23,
+        0,
+        8,
+        15,
+        11,
+        24,
+        0,
+        0,
+        0,
+        11,
+        24,
+        0,
+    ];
+    start(bytes, numbers, texts);
+    refused_lists(
+        &rows,
+        &bad,
+        pool,
+        &pool_numbers,
+        bytes,
+        numbers,
+        texts,
+        other_bytes,
+        other_numbers,
+        other_texts,
+        lines,
+        answers,
+    );
+    show(
+        bytes,
+        numbers,
+        texts,
+        other_bytes,
+        other_numbers,
+        other_texts,
+        lines,
+        answers,
+    );
+}
+
+fn both(
+    bytes: &mut [u8],
+    numbers: &mut [u32],
+    texts: &mut [u8],
+    other_bytes: &mut [u8],
+    other_numbers: &mut [u32],
+    other_texts: &mut [u8],
+    lines: &mut [u32],
+    answers: &mut [u64],
+) {
+    let pool = b"=>a~^^c\xe6\x9c\xa8-+blue| greenoakXY.> g";
+    refusals(
+        pool,
+        bytes,
+        numbers,
+        texts,
+        other_bytes,
+        other_numbers,
+        other_texts,
+        lines,
+        answers,
+    );
+    lists(
+        pool,
+        bytes,
+        numbers,
+        texts,
+        other_bytes,
+        other_numbers,
+        other_texts,
+        lines,
+        answers,
     );
 }
 
 fn main() {
-    let mut bytes = [0; 64];
-    let mut numbers = [0; 96];
-    let mut texts = [0; 24];
-    let mut other_bytes = [0; 64];
-    let mut other_numbers = [0; 96];
-    let mut other_texts = [0; 24];
-    let mut lines = [0; 16];
-    put(&mut bytes, 0, b"oak 12 ft b", 0, 11);
-    put(&mut texts, 0, b"redR", 0, 4);
-    numbers[3] = 3;
-    numbers[4] = 3;
-    numbers[5] = 1;
-    numbers[8] = 4;
-    numbers[9] = 2;
-    numbers[10] = 3;
-    numbers[11] = 1;
-    boards(
+    let mut bytes = [95; 64];
+    let mut numbers = [9; 96];
+    let mut texts = [95; 24];
+    let mut other_bytes = [95; 64];
+    let mut other_numbers = [9; 96];
+    let mut other_texts = [95; 24];
+    let mut lines = [9; 16];
+    let mut answers = [9; 36];
+    both(
         &mut bytes,
         &mut numbers,
         &mut texts,
@@ -190,5 +819,6 @@ fn main() {
         &mut other_numbers,
         &mut other_texts,
         &mut lines,
+        &mut answers,
     );
 }
