@@ -1,8 +1,8 @@
 """The expected output of each program of the gate, made by the model: the program's cases and its way of printing, with the model's answers."""
 from pathlib import Path
 
+import runs
 import vectors
-from lists import result_of
 from printing import spaced
 from ruszvedok_model import call, recording, wraplist
 
@@ -32,35 +32,6 @@ def rows_test():
     ]
     lengths = [b"%d\n" % len(wraplist(sheet)) for sheet in longest + many_bytes]
     return b"".join([*map(wraplist, shown), *lengths, *map(wraplist, files), *told])
-
-
-# ── runs_test
-
-RUN_CALLS = ["write_truncated_start", "write_truncated_end", "write_padded_start", "write_padded_end", "write_padded_centered", "write_indented", "write_wrapped", "write_wrapped",
-             "write_replaced"]
-
-
-def run_call(kind, width):
-    """A call of the list, all with the same second recording and records."""
-    second = recording(b"=>", (0, 0, 0, 1, 2, 1, 0, 0), b"a")
-    if kind < 5:
-        return RUN_CALLS[kind], second, width
-    if kind == 5:
-        return RUN_CALLS[kind], second
-    if kind < 8:
-        return RUN_CALLS[kind], width, kind == 7
-    return RUN_CALLS[kind], (0, 2, 0, 3, 20, 20, 0, 0), b"oak"
-
-
-def runs_test():
-    content, first, out = recording(b"oak 12 ft b", (0, 0, 0, 3, 3, 1, 0, 0, 4, 2, 3, 1), b"redR"), True, b""
-    for kind, width in [(0, 9), (8, 0), (1, 8), (2, 10), (3, 4294967295), (3, 14), (4, 60), (4, 17), (6, 8), (7, 1), (7, 7), (7, 7), (5, 0), (8, 0)]:
-        name, *inputs = run_call(kind, width)
-        numbers, buffers = call(name, content, *inputs, room=(64, 96, 24, 16))
-        if numbers[0] == 0:
-            content, first = result_of(numbers, buffers), not first
-        out += spaced((kind, width)) + (b" first" if first else b" other") + b" <" + content.data + b">" + spaced(content.numbers) + b" <" + content.text + b">\n"
-    return out
 
 
 # ── replace_records_test
@@ -98,7 +69,7 @@ def replace_records_test():
 PROGRAMS = {
     "replace_records_test": replace_records_test,
     "rows_test": rows_test,
-    "runs_test": runs_test,
+    "runs_test": runs.runs_test,
     "vectors": lambda: vectors.check(given("vectors").decode())[0].encode(),
     "wraplist": lambda: wraplist(given("wraplist")),
 }
