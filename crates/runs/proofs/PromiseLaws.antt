@@ -27,7 +27,8 @@ use Rattle.writer.specs.Sizes.{settledFault}
 use Rattle.layout.proofs.Demand3.{demand3}
 use Rattle.runs.specs.declared.Held.{Held}
 use Rattle.runs.specs.Requests.{requestsOf, allFit}
-use Rattle.runs.specs.Runs.{State, state, Sound, frontOf, content, overSet, firstAtEnd, Given, Buffers, buffers, count, jobs, firstContent, calls, atStart, atEnd, tooLong, alike, inputFault, usedTooLong, alikeSets, runFault, Ran, returnedRun, leftRun, LaidOut, RunsCalls}
+use Rattle.runs.specs.Runs.{State, state, Sound, frontOf, content, overSet, firstAtEnd, Ran}
+use Rattle.runs.specs.Runs.{Given, Buffers, buffers, jobs, firstContent, calls, atStart, atEnd, inputFault, usedTooLong, alikeSets, runFault, RunsCalls}
 use Rattle.runs.proofs.RequestLaws.{and-left, and-right}
 use Rattle.runs.proofs.StateLaws.{run-content}
 
@@ -112,18 +113,19 @@ whole-part : (n : ℕ) (xs ys : List ℕ) → overAt 0 (part 0 n xs) ys ≡ over
 unfolding overAt
 whole-part n xs ys = let z : n - 0 ≡ n = omega arith in rw z
 
-pub copied : (h : Held) (d e t d′ e′ t′ x y z : List ℕ) → h .first ≡ false → x ≡ overAt 0 (part 0 (h .bytes) d′) d → y ≡ over (take (h .numbers) e′) e → z ≡ overAt 0 (part 0 (h .texts) t′) t
-    → lentOf x y z ≡ firstAtEnd (state h (lentOf d e t) (lentOf d′ e′ t′) [] [])
+pub copied : (h : Held) (d e t d′ e′ t′ x y z : List ℕ) → h .first ≡ false
+    → x ≡ overAt 0 (part 0 (h .bytes) d′) d → y ≡ over (take (h .numbers) e′) e → z ≡ overAt 0 (part 0 (h .texts) t′) t → lentOf x y z ≡ firstAtEnd (state h (lentOf d e t) (lentOf d′ e′ t′) [] [])
 copied h d e t d′ e′ t′ x y z f p q r =
     let p′ = p ∙ whole-part (h .bytes) d′ d in
     let r′ = r ∙ whole-part (h .texts) t′ t in
-    subst (λ (b : Bool). lentOf x y z ≡ cond b (lentOf d e t) (overSet (frontOf (h .bytes) (h .numbers) (h .texts) (cond b (lentOf d e t) (lentOf d′ e′ t′))) (lentOf d e t))) (sym f)
-    (λ i. lentOf (p′ i) (q i) (r′ i))
+    let a : Lent = lentOf d e t in
+    subst (λ (b : Bool). lentOf x y z ≡ cond b a (overSet (frontOf (h .bytes) (h .numbers) (h .texts) (cond b a (lentOf d′ e′ t′))) a)) (sym f) (λ i. lentOf (p′ i) (q i) (r′ i))
 
 front-at-end : (h : Held) (a b : Lent) → Sound h a b → frontOf (h .bytes) (h .numbers) (h .texts) (firstAtEnd (state h a b [] [])) ≡ content (state h a b [] [])
 front-at-end h a b k = go (h .first)
   where
-    go : (f : Bool) → frontOf (h .bytes) (h .numbers) (h .texts) (cond f a (overSet (frontOf (h .bytes) (h .numbers) (h .texts) (cond f a b)) a)) ≡ frontOf (h .bytes) (h .numbers) (h .texts) (cond f a b)
+    go : (f : Bool) → frontOf (h .bytes) (h .numbers) (h .texts) (cond f a (overSet (frontOf (h .bytes) (h .numbers) (h .texts) (cond f a b)) a))
+        ≡ frontOf (h .bytes) (h .numbers) (h .texts) (cond f a b)
     go true = refl
     go false = λ i.
         recording (front-kept (h .bytes) (b .dataBytes) (a .dataBytes) (omega (arith, k .bytes, k .like-bytes)) i)

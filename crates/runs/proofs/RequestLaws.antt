@@ -12,9 +12,12 @@ use borrow.Author.Tests.{leb-true}
 use Rattle.runs.specs.declared.Request.{Request}
 use Rattle.runs.specs.Requests.{requestAt, requestsOf, rangeFits, fitsIn, allFit}
 
+abbrev request : ℕ → ℕ → ℕ → ℕ → ℕ → ℕ → ℕ → ℕ → Request
+request k w a b c d e f = record { kind = k; width = w; from = a; to = b; first = c; last = d; start = e; end = f }
+
 -- the eight numbers from i on
 pub request-is : (cs : List ℕ) (i : ℕ)
-    → record { kind = getD cs i 0; width = getD cs (i + 1) 0; from = getD cs (i + 2) 0; to = getD cs (i + 3) 0; first = getD cs (i + 4) 0; last = getD cs (i + 5) 0; start = getD cs (i + 6) 0; end = getD cs (i + 7) 0 }
+    → request (getD cs i 0) (getD cs (i + 1) 0) (getD cs (i + 2) 0) (getD cs (i + 3) 0) (getD cs (i + 4) 0) (getD cs (i + 5) 0) (getD cs (i + 6) 0) (getD cs (i + 7) 0)
     ≡ requestAt (drop i cs)
 unfolding requestAt
 request-is cs i =

@@ -32,7 +32,9 @@ module _ (at : ℕ) (new old : List ℕ) (h : at ≤ length old) where
 
   left-over : drop (at + length new) (overAt at new old) ≡ drop (at + length new) old
   unfolding overAt over
-  left-over = rw (sym (append-assoc (take at old) new (drop (length new) (drop at old))), sym front-long) (drop-append-seam (take at old ++ new) (drop (length new) (drop at old))) ∙ drop-drop (length new) at old
+  left-over =
+      rw (sym (append-assoc (take at old) new (drop (length new) (drop at old))), sym front-long) (drop-append-seam (take at old ++ new) (drop (length new) (drop at old)))
+      ∙ drop-drop (length new) at old
 
 -- ── how many calls are not refused
 made-step : (n : Returned) (h : Held) (k : ℕ) → h .made ≤ k → heldBy n h .made ≤ k + 1
@@ -98,7 +100,8 @@ module _ (ps : Bytes) (ns cs : List ℕ) (s₀ : State) (ans₀ : List ℕ) (h :
     short : 2 * k ≤ length ans
     short = omega (arith, r .long)
 
-    reached : state (heldBy (answerOf x) h) (lentOf u v w) (lentOf u′ v′ w′) l′ (take (2 * (k + 1)) ans′) ≡ afterCall (jobIn ps ns (requestAt (drop (8 * k) cs))) (state h (lentOf d e t) (lentOf d′ e′ t′) l (take (2 * k) ans))
+    reached : state (heldBy (answerOf x) h) (lentOf u v w) (lentOf u′ v′ w′) l′ (take (2 * (k + 1)) ans′)
+        ≡ afterCall (jobIn ps ns (requestAt (drop (8 * k) cs))) (state h (lentOf d e t) (lentOf d′ e′ t′) l (take (2 * k) ans))
     reached =
         let front : take (2 * (k + 1)) ans′ ≡ take (2 * k) ans ++ twoOf (answerOf x) = rw (told, two-more) (grown (2 * k) (twoOf (answerOf x)) ans short) in
         ap (state (heldBy (answerOf x) h) (lentOf u v w) (lentOf u′ v′ w′) l′) front

@@ -77,6 +77,15 @@ pub held-refused : (f : Refusal) (h : Held) → h ≡ heldBy (answerOf (Refused 
 unfolding answerOf
 held-refused f h = sym (held-kept (answerOf (Refused f)) h (λ e. omega (arith, number-pos f, e)))
 
+-- the line list is no part of a set
+unlisted-other : (h : Held) (a b : Lent) → Sound h a b → Sound h a (three b)
+unlisted-other h a b k =
+    record { bytes = k .bytes; numbers = k .numbers; texts = k .texts; like-bytes = k .like-bytes; like-numbers = k .like-numbers; like-texts = k .like-texts }
+
+unlisted-first : (h : Held) (a b : Lent) → Sound h a b → Sound h (three a) b
+unlisted-first h a b k =
+    record { bytes = k .bytes; numbers = k .numbers; texts = k .texts; like-bytes = k .like-bytes; like-numbers = k .like-numbers; like-texts = k .like-texts }
+
 record Kept (x : Outcome) (s : State) : Type 0 where
   content-is : content (settled x s) ≡ contentAfter x (content s)
   sound : Sound (settled x s .held) (settled x s .first) (settled x s .other)
@@ -89,14 +98,14 @@ module _ (d e t m : ℕ) (a b : Lent) (l n : List ℕ) where
       let e′ = held-kept (returned (refused z)) (held true d e t m) g in
       record {
         content-is = ap (λ (v : Held). content (state v a (three b) l n)) e′;
-        sound = subst (λ (v : Held). Sound v a (three b)) (sym e′) (record { bytes = k .bytes; numbers = k .numbers; texts = k .texts; like-bytes = k .like-bytes; like-numbers = k .like-numbers; like-texts = k .like-texts });
+        sound = subst (λ (v : Held). Sound v a (three b)) (sym e′) (unlisted-other (held true d e t m) a b k);
         room = refl;
       }
   kept false (refused z) k g =
       let e′ = held-kept (returned (refused z)) (held false d e t m) g in
       record {
         content-is = ap (λ (v : Held). content (state v (three a) b l n)) e′;
-        sound = subst (λ (v : Held). Sound v (three a) b) (sym e′) (record { bytes = k .bytes; numbers = k .numbers; texts = k .texts; like-bytes = k .like-bytes; like-numbers = k .like-numbers; like-texts = k .like-texts });
+        sound = subst (λ (v : Held). Sound v (three a) b) (sym e′) (unlisted-first (held false d e t m) a b k);
         room = refl;
       }
   kept true (done x) k g =
@@ -172,23 +181,27 @@ run-content (j ∷ js) s k =
     run-content js (afterCall j s) (sound-after j s k) ∙ ap (λ (o : Room). run (callsIn o js) (content (afterCall j s))) (room-after j s k)
     ∙ ap (λ (q : Recording). run (callsIn (roomOf s) js) q) (content-after j s k)
 
+-- the same content in the first set or in the other one
+abbrev placed : Held → Bool → Held
+placed h f = held f (h .bytes) (h .numbers) (h .texts) (h .made)
+
 -- ── from what the code of one call promises to the state after it
 pub turned : (j : Job) (h : Held) (a b a′ b′ : Lent) (l l′ n : List ℕ) (x : Answer) → Turn j (state h (three a) (three b) l []) (state h (three a′) (three b′) l′ []) x
     → state (heldBy (answerOf x) h) (three a′) (three b′) l′ (n ++ twoOf (answerOf x)) ≡ afterCall j (state h (three a) (three b) l n)
 unfolding afterCall stepTo outcomeIn
 turned j h a b a′ b′ l l′ n x t = go (h .first) t
   where
-    go : (f : Bool) → Turn j (state (held f (h .bytes) (h .numbers) (h .texts) (h .made)) (three a) (three b) l []) (state (held f (h .bytes) (h .numbers) (h .texts) (h .made)) (three a′) (three b′) l′ []) x
-        → state (heldBy (answerOf x) (held f (h .bytes) (h .numbers) (h .texts) (h .made))) (three a′) (three b′) l′ (n ++ twoOf (answerOf x))
-        ≡ afterCall j (state (held f (h .bytes) (h .numbers) (h .texts) (h .made)) (three a) (three b) l n)
-    go true u = λ i. state (heldBy (u .0 .0 i) (held true (h .bytes) (h .numbers) (h .texts) (h .made))) (u .1 i) (three (u .0 .1 i)) (u .0 .1 i .lines) (n ++ twoOf (u .0 .0 i))
-    go false u = λ i. state (heldBy (u .0 .0 i) (held false (h .bytes) (h .numbers) (h .texts) (h .made))) (three (u .0 .1 i)) (u .1 i) (u .0 .1 i .lines) (n ++ twoOf (u .0 .0 i))
+    go : (f : Bool) → Turn j (state (placed h f) (three a) (three b) l []) (state (placed h f) (three a′) (three b′) l′ []) x
+        → state (heldBy (answerOf x) (placed h f)) (three a′) (three b′) l′ (n ++ twoOf (answerOf x)) ≡ afterCall j (state (placed h f) (three a) (three b) l n)
+    go true u = λ i. state (heldBy (u .0 .0 i) (placed h true)) (u .1 i) (three (u .0 .1 i)) (u .0 .1 i .lines) (n ++ twoOf (u .0 .0 i))
+    go false u = λ i. state (heldBy (u .0 .0 i) (placed h false)) (three (u .0 .1 i)) (u .1 i) (u .0 .1 i .lines) (n ++ twoOf (u .0 .0 i))
 
 -- ── what a call in code gives, by the set that the content stands in: a call has written b′ and l′ over b and l
 module _ (j : Job) (h : Held) (a b b′ : Lent) (l l′ : List ℕ) (x : Answer) where
   TurnIn : Bool → Lent → Lent → Lent → Lent → Type 0
   TurnIn f first other first′ other′ =
-      Leaves j (frontOf (h .bytes) (h .numbers) (h .texts) (cond f first other)) (withLines (cond f other first) l) (withLines (cond f other′ first′) l′) x × (cond f first′ other′ ≡ cond f first other)
+      Leaves j (frontOf (h .bytes) (h .numbers) (h .texts) (cond f first other)) (withLines (cond f other first) l) (withLines (cond f other′ first′) l′) x
+      × (cond f first′ other′ ≡ cond f first other)
 
   pub to-other : h .first ≡ true → Leaves j (frontOf (h .bytes) (h .numbers) (h .texts) a) (withLines b l) (withLines b′ l′) x → Turn j (state h a b l []) (state h a b′ l′ []) x
   unfolding TurnIn

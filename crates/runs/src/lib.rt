@@ -531,7 +531,8 @@ pub fn bring_back(
 )
     requires { ⌜ Sound s (lentOf (now bytes) (now numbers) (now texts)) (lentOf (now «other_bytes») (now «other_numbers») (now «other_texts»)) ⌝ }
     ensures { λ _. ⌜ lentOf (now (bytes .exit)) (now (numbers .exit)) (now (texts .exit))
-        ≡ firstAtEnd (state s (lentOf (now (bytes .entry)) (now (numbers .entry)) (now (texts .entry))) (lentOf (now («other_bytes» .entry)) (now («other_numbers» .entry)) (now («other_texts» .entry))) [] []) ⌝ }
+        ≡ firstAtEnd (state s (lentOf (now (bytes .entry)) (now (numbers .entry)) (now (texts .entry)))
+        (lentOf (now («other_bytes» .entry)) (now («other_numbers» .entry)) (now («other_texts» .entry))) [] []) ⌝ }
 {
     if s.first {
         return;

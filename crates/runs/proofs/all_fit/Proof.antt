@@ -39,11 +39,14 @@ fits-requires c κs = search needs
 
 returns : tie.Need-returns Inv-loop μ-loop
 returns c =
-    let s = c .before .before .before .before .before .before in
-    let l = c .before .before .before .before .loop in
-    let q = c .before .before .request-at in
     let w = c .before .fits2 in
-    sym (one-bad (s .args .p) (s .args .q) (length (s .args .calls .now) / 8) (l .k) (s .args .calls .now) (c .before .before .before .loop-test .taken) (q .result) (w .result) (q .ensures) (w .ensures) (not-true (w .result) (c .if1 .taken))) ∙ l .inv .1
+    let q = c .before .before .request-at in
+    let t = c .before .before .before in
+    let l = t .before .loop in
+    let s = t .before .before .before in
+    let n = length (s .args .calls .now) / 8 in
+    sym (one-bad (s .args .p) (s .args .q) n (l .k) (s .args .calls .now) (t .loop-test .taken) (q .result) (w .result) (q .ensures) (w .ensures)
+    (not-true (w .result) (c .if1 .taken))) ∙ l .inv .1
 
 add-k : tie.Need-add-k Inv-loop μ-loop
 add-k c = search needs
@@ -53,11 +56,16 @@ loop-less c = search needs
 
 loop-again : tie.Need-loop-again Inv-loop μ-loop
 loop-again c =
-    let s = c .before .before .before .before .before .before in
-    let l = c .before .before .before .before .loop in
-    let q = c .before .before .request-at in
     let w = c .before .fits2 in
-    (search needs, sym (one-good (s .args .p) (s .args .q) (length (s .args .calls .now) / 8) (l .k) (s .args .calls .now) (c .before .before .before .loop-test .taken) (q .result) (w .result) (q .ensures) (w .ensures) (not-false (w .result) (c .if1 .left))) ∙ l .inv .1)
+    let q = c .before .before .request-at in
+    let t = c .before .before .before in
+    let l = t .before .loop in
+    let s = t .before .before .before in
+    let n = length (s .args .calls .now) / 8 in (
+      search needs,
+      sym (one-good (s .args .p) (s .args .q) n (l .k) (s .args .calls .now) (t .loop-test .taken) (q .result) (w .result) (q .ensures) (w .ensures)
+          (not-false (w .result) (c .if1 .left))) ∙ l .inv .1,
+    )
 
 returns-2 : tie.Need-returns-2 Inv-loop μ-loop
 returns-2 c =

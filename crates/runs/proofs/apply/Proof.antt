@@ -26,6 +26,10 @@ use Rattle.truncate.proofs.write_truncated_start.Reads as write-truncated-start
 use Rattle.wrap.proofs.write_wrapped.Reads as write-wrapped-reads
 
 -- ── what the call was given
+-- before the kinds are tried
+abbrev start : tie.After-slice-known4 → tie.Start
+start c = c .before .before .before .before .before .before .before .before .before .before
+
 abbrev content : tie.Start → Recording
 content s = recording (s .args .content .now) (s .args .entries .now) (s .args .text .now)
 
@@ -58,9 +62,11 @@ same-length-3 c = search needs
 returns : tie.Need-returns
 unfolding linesLeft
 returns c =
-    let s = c .before .before .before .before .before .before .before .before .before .before .before .before .before .before .before .before .before .before .before .before .before in
-    let k = c .before .before .before .before .before .before .write-truncated-start in
-    no-lines s (truncateStart (s .args .width) (second s)) (job-start (s .args .kind) (s .args .width) (second s) (c .before .before .before .before .before .before .before .before .before .before .if1 .taken)) refl _ _ _ (k .result) (k .ensures)
+    let w = c .before .before .before .before .before .before in
+    let t = w .before .before .before .before in
+    let s = start (t .before) in
+    no-lines s (truncateStart (s .args .width) (second s))
+    (job-start (s .args .kind) (s .args .width) (second s) (t .if1 .taken)) refl _ _ _ (w .write-truncated-start .result) (w .write-truncated-start .ensures)
 
 write-truncated-end-requires : tie.Need-write-truncated-end-requires
 write-truncated-end-requires c κs = search needs
@@ -77,9 +83,11 @@ same-length-6 c = search needs
 returns-2 : tie.Need-returns-2
 unfolding linesLeft
 returns-2 c =
-    let s = c .before .before .before .before .before .before .before .before .before .before .before .before .before .before .before .before .before .before .before .before .before .before in
-    let k = c .before .before .before .before .before .before .write-truncated-end in
-    no-lines s (truncateEnd (s .args .width) (second s)) (job-end (s .args .kind) (s .args .width) (second s) (c .before .before .before .before .before .before .before .before .before .before .if2 .taken)) refl _ _ _ (k .result) (k .ensures)
+    let w = c .before .before .before .before .before .before in
+    let t = w .before .before .before .before in
+    let s = start (t .before .before) in
+    no-lines s (truncateEnd (s .args .width) (second s))
+    (job-end (s .args .kind) (s .args .width) (second s) (t .if2 .taken)) refl _ _ _ (w .write-truncated-end .result) (w .write-truncated-end .ensures)
 
 write-padded-start-requires : tie.Need-write-padded-start-requires
 write-padded-start-requires c κs = search needs
@@ -96,9 +104,11 @@ same-length-9 c = search needs
 returns-3 : tie.Need-returns-3
 unfolding linesLeft
 returns-3 c =
-    let s = c .before .before .before .before .before .before .before .before .before .before .before .before .before .before .before .before .before .before .before .before .before .before .before in
-    let k = c .before .before .before .before .before .before .write-padded-start in
-    no-lines s (padStart (s .args .width) (second s)) (job-pad-start (s .args .kind) (s .args .width) (second s) (c .before .before .before .before .before .before .before .before .before .before .if3 .taken)) refl _ _ _ (k .result) (k .ensures)
+    let w = c .before .before .before .before .before .before in
+    let t = w .before .before .before .before in
+    let s = start (t .before .before .before) in
+    no-lines s (padStart (s .args .width) (second s))
+    (job-pad-start (s .args .kind) (s .args .width) (second s) (t .if3 .taken)) refl _ _ _ (w .write-padded-start .result) (w .write-padded-start .ensures)
 
 write-padded-end-requires : tie.Need-write-padded-end-requires
 write-padded-end-requires c κs = search needs
@@ -115,9 +125,11 @@ same-length-12 c = search needs
 returns-4 : tie.Need-returns-4
 unfolding linesLeft
 returns-4 c =
-    let s = c .before .before .before .before .before .before .before .before .before .before .before .before .before .before .before .before .before .before .before .before .before .before .before .before in
-    let k = c .before .before .before .before .before .before .write-padded-end in
-    no-lines s (padEnd (s .args .width) (second s)) (job-pad-end (s .args .kind) (s .args .width) (second s) (c .before .before .before .before .before .before .before .before .before .before .if4 .taken)) refl _ _ _ (k .result) (k .ensures)
+    let w = c .before .before .before .before .before .before in
+    let t = w .before .before .before .before in
+    let s = start (t .before .before .before .before) in
+    no-lines s (padEnd (s .args .width) (second s))
+    (job-pad-end (s .args .kind) (s .args .width) (second s) (t .if4 .taken)) refl _ _ _ (w .write-padded-end .result) (w .write-padded-end .ensures)
 
 write-padded-centered-requires : tie.Need-write-padded-centered-requires
 write-padded-centered-requires c κs = search needs
@@ -134,9 +146,11 @@ same-length-15 c = search needs
 returns-5 : tie.Need-returns-5
 unfolding linesLeft
 returns-5 c =
-    let s = c .before .before .before .before .before .before .before .before .before .before .before .before .before .before .before .before .before .before .before .before .before .before .before .before .before in
-    let k = c .before .before .before .before .before .before .write-padded-centered in
-    no-lines s (padCentered (s .args .width) (second s)) (job-pad-centered (s .args .kind) (s .args .width) (second s) (c .before .before .before .before .before .before .before .before .before .before .if5 .taken)) refl _ _ _ (k .result) (k .ensures)
+    let w = c .before .before .before .before .before .before in
+    let t = w .before .before .before .before in
+    let s = start (t .before .before .before .before .before) in
+    no-lines s (padCentered (s .args .width) (second s))
+    (job-pad-centered (s .args .kind) (s .args .width) (second s) (t .if5 .taken)) refl _ _ _ (w .write-padded-centered .result) (w .write-padded-centered .ensures)
 
 write-indented-requires : tie.Need-write-indented-requires
 write-indented-requires c κs = search needs
@@ -153,9 +167,11 @@ same-length-18 c = search needs
 returns-6 : tie.Need-returns-6
 unfolding linesLeft
 returns-6 c =
-    let s = c .before .before .before .before .before .before .before .before .before .before .before .before .before .before .before .before .before .before .before .before .before .before .before .before .before .before in
-    let k = c .before .before .before .before .before .before .write-indented in
-    no-lines s (indent (second s)) (job-indent (s .args .kind) (s .args .width) (second s) (c .before .before .before .before .before .before .before .before .before .before .if6 .taken)) refl _ _ _ (k .result) (k .ensures)
+    let w = c .before .before .before .before .before .before in
+    let t = w .before .before .before .before in
+    let s = start (t .before .before .before .before .before .before) in
+    no-lines s (indent (second s))
+    (job-indent (s .args .kind) (s .args .width) (second s) (t .if6 .taken)) refl _ _ _ (w .write-indented .result) (w .write-indented .ensures)
 
 write-wrapped-requires : tie.Need-write-wrapped-requires
 write-wrapped-requires c κs = search needs
@@ -174,9 +190,11 @@ same-length-22 c = search needs
 
 returns-7 : tie.Need-returns-7
 returns-7 c =
-    let s = c .before .before .before .before .before .before .before .before .before .before .before .before .before .before .before .before .before .before .before .before .before .before .before .before .before .before .before .before .before .before in
-    let k = c .before .before .before .before .before .before .before .before .write-wrapped in
-    lined (job s) (wrap (s .args .width) false) (content s) (s .args .bytes .now) (s .args .numbers .now) (s .args .texts .now) (s .args .lines .now) _ _ _ _ (k .result) (job-wrap (s .args .kind) (s .args .width) (second s) (c .before .before .before .before .before .before .before .before .before .before .before .before .before .if7 .taken)) (k .ensures)
+    let w = c .before .before .before .before .before .before .before .before in
+    let t = w .before .before .before .before .before in
+    let s = start (t .before .before .before .before .before .before .before) in
+    lined (job s) (wrap (s .args .width) false) (content s) (s .args .bytes .now) (s .args .numbers .now) (s .args .texts .now) (s .args .lines .now) _ _ _ _ (w .write-wrapped .result)
+    (job-wrap (s .args .kind) (s .args .width) (second s) (t .if7 .taken)) (w .write-wrapped .ensures)
 
 write-wrapped-requires-2 : tie.Need-write-wrapped-requires-2
 write-wrapped-requires-2 c κs = search needs
@@ -195,9 +213,11 @@ same-length-26 c = search needs
 
 returns-8 : tie.Need-returns-8
 returns-8 c =
-    let s = c .before .before .before .before .before .before .before .before .before .before .before .before .before .before .before .before .before .before .before .before .before .before .before .before .before .before .before .before .before .before .before in
-    let k = c .before .before .before .before .before .before .before .before .write-wrapped2 in
-    lined (job s) (wrap (s .args .width) true) (content s) (s .args .bytes .now) (s .args .numbers .now) (s .args .texts .now) (s .args .lines .now) _ _ _ _ (k .result) (job-break (s .args .kind) (s .args .width) (second s) (c .before .before .before .before .before .before .before .before .before .before .before .before .before .if8 .taken)) (k .ensures)
+    let w = c .before .before .before .before .before .before .before .before in
+    let t = w .before .before .before .before .before in
+    let s = start (t .before .before .before .before .before .before .before .before) in
+    lined (job s) (wrap (s .args .width) true) (content s) (s .args .bytes .now) (s .args .numbers .now) (s .args .texts .now) (s .args .lines .now) _ _ _ _ (w .write-wrapped2 .result)
+    (job-break (s .args .kind) (s .args .width) (second s) (t .if8 .taken)) (w .write-wrapped2 .ensures)
 
 write-replaced-flat-requires : tie.Need-write-replaced-flat-requires
 write-replaced-flat-requires c κs = search needs
@@ -214,11 +234,19 @@ same-length-29 c = search needs
 returns-9 : tie.Need-returns-9
 unfolding linesLeft
 returns-9 c =
-    let e = c .before .before .before .before .before .before .before .before .before .before in
-    let s = c .before .before .before .before .before .before .before .before .before .before .before .before .before .before .before .before .before .before .before .before .before .before .before .before .before .before .before .before in
-    let k = c .before .before .before .before .before .before .write-replaced-flat in
+    let w = c .before .before .before .before .before .before in
+    let e8 = w .before .before .before .before in
+    let e7 = e8 .before in
+    let e6 = e7 .before in
+    let e5 = e6 .before in
+    let e4 = e5 .before in
+    let e3 = e4 .before in
+    let e2 = e3 .before in
+    let e1 = e2 .before in
+    let s = start (e1 .before) in
     no-lines s (replace (recordsOf (second s .entryNumbers)) (second s .dataBytes))
-    (job-replace (s .args .kind) (s .args .width) (second s) (e .before .before .before .before .before .before .before .if1 .left) (e .before .before .before .before .before .before .if2 .left) (e .before .before .before .before .before .if3 .left) (e .before .before .before .before .if4 .left) (e .before .before .before .if5 .left) (e .before .before .if6 .left) (e .before .if7 .left) (e .if8 .left)) refl _ _ _ (k .result) (k .ensures)
+    (job-replace (s .args .kind) (s .args .width) (second s) (e1 .if1 .left) (e2 .if2 .left) (e3 .if3 .left)
+    (e4 .if4 .left) (e5 .if5 .left) (e6 .if6 .left) (e7 .if7 .left) (e8 .if8 .left)) refl _ _ _ (w .write-replaced-flat .result) (w .write-replaced-flat .ensures)
 
 pub apply-spec : {M : Type 1} → statement M
 apply-spec =

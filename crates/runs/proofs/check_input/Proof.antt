@@ -17,29 +17,62 @@ returns c = rw (c .if1 .taken)
 
 returns-2 : tie.Need-returns-2
 unfolding inputFault settledFault
-returns-2 c = rw (c .before .if1 .left, not-true (c .before .before .before .args .same) (c .if2 .taken))
+returns-2 c =
+    let s = c .before .before .before in
+    rw (c .before .if1 .left, not-true (s .args .same) (c .if2 .taken))
 
 returns-3 : tie.Need-returns-3
 unfolding inputFault settledFault
-returns-3 c = rw (c .before .before .if1 .left, not-false (c .before .before .before .before .args .same) (c .before .if2 .left), ne-eqb _ _ (c .if3 .taken))
+returns-3 c =
+    let s = c .before .before .before .before in
+    rw (c .before .before .if1 .left, not-false (s .args .same) (c .before .if2 .left), ne-eqb _ _ (c .if3 .taken))
 
 all-fit-requires : tie.Need-all-fit-requires
 all-fit-requires c κs = search needs
 
 returns-4 : tie.Need-returns-4
 unfolding inputFault settledFault
-returns-4 c = rw (c .before .before .before .before .if1 .left, not-false (c .before .before .before .before .before .before .args .same) (c .before .before .before .if2 .left), eq-eqb _ _ (c .before .before .if3 .left), sym (c .before .all-fit .ensures), not-true (c .before .all-fit .result) (c .if4 .taken))
+returns-4 c =
+    let s = c .before .before .before .before .before .before in
+    let a = c .before .all-fit in
+    rw (
+      c .before .before .before .before .if1 .left,
+      not-false (s .args .same) (c .before .before .before .if2 .left),
+      eq-eqb _ _ (c .before .before .if3 .left),
+      sym (a .ensures),
+      not-true (a .result) (c .if4 .taken),
+    )
 
 mul-if5 : tie.Need-mul-if5
 mul-if5 c = search needs
 
 returns-5 : tie.Need-returns-5
 unfolding inputFault settledFault
-returns-5 c = rw (c .before .before .before .before .before .if1 .left, not-false (c .before .before .before .before .before .before .before .args .same) (c .before .before .before .before .if2 .left), eq-eqb _ _ (c .before .before .before .if3 .left), sym (c .before .before .all-fit .ensures), not-false (c .before .before .all-fit .result) (c .before .if4 .left), lt-ltb _ _ (c .if5 .taken))
+returns-5 c =
+    let s = c .before .before .before .before .before .before .before in
+    let a = c .before .before .all-fit in
+    rw (
+      c .before .before .before .before .before .if1 .left,
+      not-false (s .args .same) (c .before .before .before .before .if2 .left),
+      eq-eqb _ _ (c .before .before .before .if3 .left),
+      sym (a .ensures),
+      not-false (a .result) (c .before .if4 .left),
+      lt-ltb _ _ (c .if5 .taken),
+    )
 
 returns-6 : tie.Need-returns-6
 unfolding inputFault settledFault
-returns-6 c = rw (c .before .before .before .before .before .if1 .left, not-false (c .before .before .before .before .before .before .before .args .same) (c .before .before .before .before .if2 .left), eq-eqb _ _ (c .before .before .before .if3 .left), sym (c .before .before .all-fit .ensures), not-false (c .before .before .all-fit .result) (c .before .if4 .left), le-ltb _ _ (c .if5 .left))
+returns-6 c =
+    let s = c .before .before .before .before .before .before .before in
+    let a = c .before .before .all-fit in
+    rw (
+      c .before .before .before .before .before .if1 .left,
+      not-false (s .args .same) (c .before .before .before .before .if2 .left),
+      eq-eqb _ _ (c .before .before .before .if3 .left),
+      sym (a .ensures),
+      not-false (a .result) (c .before .if4 .left),
+      le-ltb _ _ (c .if5 .left),
+    )
 
 pub check-input-spec : {M : Type 1} → statement M
 check-input-spec =

@@ -19,21 +19,36 @@ range-fits-requires c κs = search needs
 
 returns-2 : tie.Need-returns-2
 unfolding fitsIn
-returns-2 c = rw (le-leb _ _ (c .before .before .if1 .left), sym (c .before .range-fits .ensures), not-true (c .before .range-fits .result) (c .if2 .taken))
+returns-2 c =
+    let a = c .before .range-fits in
+    rw (le-leb _ _ (c .before .before .if1 .left), sym (a .ensures), not-true (a .result) (c .if2 .taken))
 
 range-fits-requires-2 : tie.Need-range-fits-requires-2
 range-fits-requires-2 c κs = search needs
 
 returns-3 : tie.Need-returns-3
 unfolding fitsIn
-returns-3 c = rw (le-leb _ _ (c .before .before .before .before .if1 .left), sym (c .before .before .before .range-fits .ensures), not-false (c .before .before .before .range-fits .result) (c .before .before .if2 .left), sym (c .before .range-fits2 .ensures), not-true (c .before .range-fits2 .result) (c .if3 .taken))
+returns-3 c =
+    let a = c .before .before .before .range-fits in
+    let b = c .before .range-fits2 in
+    rw (le-leb _ _ (c .before .before .before .before .if1 .left), sym (a .ensures), not-false (a .result) (c .before .before .if2 .left), sym (b .ensures), not-true (b .result) (c .if3 .taken))
 
 range-fits-requires-3 : tie.Need-range-fits-requires-3
 range-fits-requires-3 c κs = search needs
 
 returns-4 : tie.Need-returns-4
 unfolding fitsIn
-returns-4 c = rw (le-leb _ _ (c .before .before .before .before .before .if1 .left), sym (c .before .before .before .before .range-fits .ensures), not-false (c .before .before .before .before .range-fits .result) (c .before .before .before .if2 .left), sym (c .before .before .range-fits2 .ensures), not-false (c .before .before .range-fits2 .result) (c .before .if3 .left), c .range-fits3 .ensures)
+returns-4 c =
+    let a = c .before .before .before .before .range-fits in
+    let b = c .before .before .range-fits2 in
+    rw (
+      le-leb _ _ (c .before .before .before .before .before .if1 .left),
+      sym (a .ensures),
+      not-false (a .result) (c .before .before .before .if2 .left),
+      sym (b .ensures),
+      not-false (b .result) (c .before .if3 .left),
+      c .range-fits3 .ensures,
+    )
 
 pub fits-spec : {M : Type 1} → statement M
 fits-spec =

@@ -64,13 +64,14 @@ same-length-4 c = search needs
 returns : tie.Need-returns
 unfolding jobIn
 returns c =
-    let s = c .before .before .before .before .before .before .before .before .before .before .before .before .before .before .before .before .before .before .before .before .before .before .before .before .before .before .before in
-    let x = c .before .before .before .before .before .before .before .before .before .before .before .before .before .before .before .before .fitting-at in
-    let k = c .before .before .before .before .before .before .before .before .apply in
+    let w = c .before .before .before .before .before .before .before .before in
+    let x = w .before .before .before .before .before .before .before .before in
+    let s = x .before .before .before .before .before .before .before .before .before .before .before in
     let ps = s .args .pool .now in
     let ns = s .args .pool-numbers .now in
-    lined (jobIn ps ns (requestAt (drop (s .args .i) (s .args .calls .now)))) (jobIn ps ns (x .result)) (recording (s .args .content .now) (s .args .entries .now) (s .args .text .now))
-    (s .args .bytes .now) (s .args .numbers .now) (s .args .texts .now) (s .args .lines .now) _ _ _ _ (k .result) (ap (jobIn ps ns) (sym (x .ensures .0))) (k .ensures)
+    lined (jobIn ps ns (requestAt (drop (s .args .i) (s .args .calls .now)))) (jobIn ps ns (x .fitting-at .result))
+    (recording (s .args .content .now) (s .args .entries .now) (s .args .text .now)) (s .args .bytes .now) (s .args .numbers .now) (s .args .texts .now) (s .args .lines .now) _ _ _ _
+    (w .apply .result) (ap (jobIn ps ns) (sym (x .fitting-at .ensures .0))) (w .apply .ensures)
 
 pub make-call-spec : {M : Type 1} → statement M
 make-call-spec =

@@ -42,6 +42,10 @@ begun c = start (c .before .before)
 none : (c : tie.After-enum-told) → runFault (given-of (begun c)) (lent-of (begun c)) ≡ 0
 none c = is-room (runFault (given-of (begun c)) (lent-of (begun c))) (c .before .before .check-input .result) (c .enum-told .given .1) (fault (c .before .before))
 
+-- once all calls are made
+abbrev ran : tie.After-bring-back-arg6 → tie.After-run-all
+ran c = c .before .before .before .before .before .before .before .before .before .before .before .before .before .before .before .before .before .before .before .before .before .before
+
 -- ── what is asked on the way
 too-long-requires : tie.Need-too-long-requires
 too-long-requires c κs = search needs
@@ -70,7 +74,7 @@ run-all-requires c κs =
     ((refl, k .room), (k .fit, k .sound))
 
 bring-back-requires : tie.Need-bring-back-requires
-bring-back-requires c κs = c .before .before .before .before .before .before .before .before .before .before .before .before .before .before .before .before .before .before .before .before .before .before .run-all .ensures .sound
+bring-back-requires c κs = ran c .run-all .ensures .sound
 
 same-length : tie.Need-same-length
 same-length c = search needs
@@ -98,9 +102,10 @@ same-length-8 c = search needs
 
 returns-2 : tie.Need-returns-2
 returns-2 c =
-    let e = c .before .before .before .before .before .before .before .before .before .before .before .before .before .before .before .before .before .before .before .before .before .before .before .before .before .before .before .before .before .before .before .before .before .before .before .before .before .before in
-    let k = c .before .before .before .before .before .before .before .before .before .before .before .before .before .before .before .before .before .before .before .before .before .before .before .before .before .before .before .before .before .run-all in
-    finishes (given-of (begun e)) (lent-of (begun e)) (none e) (k .result) _ _ _ _ _ _ _ _ _ _ _ _ (k .ensures) (c .before .before .before .before .before .before .bring-back .ensures)
+    let d = c .before .before .before .before .before .before in
+    let k = ran (d .before) in
+    let e = k .before .before .before .before .before .before .before .before .before in
+    finishes (given-of (begun e)) (lent-of (begun e)) (none e) (k .run-all .result) _ _ _ _ _ _ _ _ _ _ _ _ (k .run-all .ensures) (d .bring-back .ensures)
 
 pub run-calls-spec : {M : Type 1} → statement M
 run-calls-spec =

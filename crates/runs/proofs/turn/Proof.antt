@@ -14,6 +14,10 @@ use Rattle.runs.proofs.turn.Lts as lts
 use Rattle.runs.proofs.make_call.Reads as make-call-reads
 
 -- ── what the call was given
+-- before the sets are told apart
+abbrev start : tie.After-slice-known7 → tie.Start
+start c = c .before .before .before .before .before .before .before .before .before .before
+
 abbrev job : tie.Start → Job
 job s = jobIn (s .args .pool .now) (s .args .pool-numbers .now) (requestAt (drop (s .args .i) (s .args .calls .now)))
 
@@ -28,22 +32,22 @@ slice-reshare-prefix-make-call : tie.Need-slice-reshare-prefix-make-call
 slice-reshare-prefix-make-call c = search needs
 
 slice-aggregate-make-call : tie.Need-slice-aggregate-make-call
-slice-aggregate-make-call c = let k = c .before .before .before .before .before .before .before .before .before .before .before .before .pre .1 .1 in simp length-take (omega (arith, k .bytes, k .like-bytes))
+slice-aggregate-make-call c = let k = start (c .before .before) .pre .1 .1 in simp length-take (omega (arith, k .bytes, k .like-bytes))
 
 slice-reshare-prefix-make-call-2 : tie.Need-slice-reshare-prefix-make-call-2
 slice-reshare-prefix-make-call-2 c = search needs
 
 slice-aggregate-make-call-2 : tie.Need-slice-aggregate-make-call-2
-slice-aggregate-make-call-2 c = let k = c .before .before .before .before .before .before .before .before .before .before .before .before .before .pre .1 .1 in simp length-take (omega (arith, k .numbers, k .like-numbers))
+slice-aggregate-make-call-2 c = let k = start (c .before .before .before) .pre .1 .1 in simp length-take (omega (arith, k .numbers, k .like-numbers))
 
 slice-reshare-prefix-make-call-3 : tie.Need-slice-reshare-prefix-make-call-3
 slice-reshare-prefix-make-call-3 c = search needs
 
 slice-aggregate-make-call-3 : tie.Need-slice-aggregate-make-call-3
-slice-aggregate-make-call-3 c = let k = c .before .before .before .before .before .before .before .before .before .before .before .before .before .before .pre .1 .1 in simp length-take (omega (arith, k .texts, k .like-texts))
+slice-aggregate-make-call-3 c = let k = start (c .before .before .before .before) .pre .1 .1 in simp length-take (omega (arith, k .texts, k .like-texts))
 
 make-call-requires : tie.Need-make-call-requires
-make-call-requires c κs = let s = c .before .before .before .before .before .before .before .before .before .before .before .before .before .before .before .before .before .before in (s .pre .0, s .pre .1 .0)
+make-call-requires c κs = let s = start (c .before .before .before .before .before .before .before .before) in (s .pre .0, s .pre .1 .0)
 
 same-length : tie.Need-same-length
 same-length c = search needs
@@ -68,30 +72,31 @@ same-length-7 c = search needs
 
 returns : tie.Need-returns
 returns c =
-    let s = c .before .before .before .before .before .before .before .before .before .before .before .before .before .before .before .before .before .before .before .before .before .before .before .before .before .before .before in
-    let k = c .before .before .before .before .before .before .before .before .make-call in
-    to-other (job s) (s .args .s) (first s) (other s) _ (s .args .lines .now) _ (k .result) (c .before .before .before .before .before .before .before .before .before .before .before .before .before .before .before .before .if1 .taken) (k .ensures)
+    let w = c .before .before .before .before .before .before .before .before in
+    let t = w .before .before .before .before .before .before .before .before in
+    let s = start (t .before) in
+    to-other (job s) (s .args .s) (first s) (other s) _ (s .args .lines .now) _ (w .make-call .result) (t .if1 .taken) (w .make-call .ensures)
 
 slice-reshare-prefix-make-call-4 : tie.Need-slice-reshare-prefix-make-call-4
 slice-reshare-prefix-make-call-4 c = search needs
 
 slice-aggregate-make-call-4 : tie.Need-slice-aggregate-make-call-4
-slice-aggregate-make-call-4 c = let k = c .before .before .before .before .before .before .before .before .before .before .before .before .pre .1 .1 in simp length-take (omega (arith, k .bytes, k .like-bytes))
+slice-aggregate-make-call-4 c = let k = start (c .before .before) .pre .1 .1 in simp length-take (omega (arith, k .bytes, k .like-bytes))
 
 slice-reshare-prefix-make-call-5 : tie.Need-slice-reshare-prefix-make-call-5
 slice-reshare-prefix-make-call-5 c = search needs
 
 slice-aggregate-make-call-5 : tie.Need-slice-aggregate-make-call-5
-slice-aggregate-make-call-5 c = let k = c .before .before .before .before .before .before .before .before .before .before .before .before .before .pre .1 .1 in simp length-take (omega (arith, k .numbers, k .like-numbers))
+slice-aggregate-make-call-5 c = let k = start (c .before .before .before) .pre .1 .1 in simp length-take (omega (arith, k .numbers, k .like-numbers))
 
 slice-reshare-prefix-make-call-6 : tie.Need-slice-reshare-prefix-make-call-6
 slice-reshare-prefix-make-call-6 c = search needs
 
 slice-aggregate-make-call-6 : tie.Need-slice-aggregate-make-call-6
-slice-aggregate-make-call-6 c = let k = c .before .before .before .before .before .before .before .before .before .before .before .before .before .before .pre .1 .1 in simp length-take (omega (arith, k .texts, k .like-texts))
+slice-aggregate-make-call-6 c = let k = start (c .before .before .before .before) .pre .1 .1 in simp length-take (omega (arith, k .texts, k .like-texts))
 
 make-call-requires-2 : tie.Need-make-call-requires-2
-make-call-requires-2 c κs = let s = c .before .before .before .before .before .before .before .before .before .before .before .before .before .before .before .before .before .before in (s .pre .0, s .pre .1 .0)
+make-call-requires-2 c κs = let s = start (c .before .before .before .before .before .before .before .before) in (s .pre .0, s .pre .1 .0)
 
 same-length-8 : tie.Need-same-length-8
 same-length-8 c = search needs
@@ -116,9 +121,10 @@ same-length-14 c = search needs
 
 returns-2 : tie.Need-returns-2
 returns-2 c =
-    let s = c .before .before .before .before .before .before .before .before .before .before .before .before .before .before .before .before .before .before .before .before .before .before .before .before .before .before .before in
-    let k = c .before .before .before .before .before .before .before .before .make-call2 in
-    to-first (job s) (s .args .s) (other s) (first s) _ (s .args .lines .now) _ (k .result) (c .before .before .before .before .before .before .before .before .before .before .before .before .before .before .before .before .if1 .left) (k .ensures)
+    let w = c .before .before .before .before .before .before .before .before in
+    let t = w .before .before .before .before .before .before .before .before in
+    let s = start (t .before) in
+    to-first (job s) (s .args .s) (other s) (first s) _ (s .args .lines .now) _ (w .make-call2 .result) (t .if1 .left) (w .make-call2 .ensures)
 
 pub turn-spec : {M : Type 1} → statement M
 turn-spec =
