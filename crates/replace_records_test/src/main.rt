@@ -1,5 +1,5 @@
 // Runs `write_replaced` over arrays of two records and prints a line for each case: the refusal, or the three lengths; then what the buffers hold, dots where they were not written.
-// Cases that `replace_test` runs over flat numbers have its names and its lines here.
+// Its cases are those that `vectors` has over flat numbers, under the same titles.
 use layout::Replacement;
 use recording::Answer;
 use replace_records::write_replaced;
