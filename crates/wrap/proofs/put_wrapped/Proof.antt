@@ -139,7 +139,8 @@ returns c =
     let l = p .put-line .ensures in
     let s = listed p .set-line in
     let m = not-true (n .result .more) (c .before .before .before .before .before .before .before .before .before .before .if1 .taken) in (
-      laws.finish _ _ _ _ _ _ _ _ _ (S .0) (start (found p) .pre .1 .1 .0) (n .result) (n .ensures .0) _ _ (l .0) (l .1 .0) (l .1 .1 .0) (l .1 .1 .1) m _ (c .before .before .before .before .before .before .skip .ensures .0),
+      laws.finish _ _ _ _ _ _ _ _ _ (S .0) (start (found p) .pre .1 .1 .0) (n .result) (n .ensures .0) _ _ (l .0) (l .1 .0) (l .1 .1 .0) (l .1 .1 .1) m _
+          (c .before .before .before .before .before .before .skip .ensures .0),
       (lists.last _ _ _ _ _ _ _ (S .1) (n .result) (n .ensures .0) _ (s .ensures .1) m, lists.last-count _ _ _ _ _ _ _ (S .1) (n .result) (n .ensures .0) (s .result) (s .ensures .0) m),
     )
 
