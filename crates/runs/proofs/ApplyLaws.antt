@@ -12,7 +12,7 @@ use borrow.Author.Tests.{le-ltb, ne-eqb}
 use Rattle.buffer.specs.Place.{over}
 use Rattle.recording.specs.declared.Answer.{Answer}
 use Rattle.recording.specs.Recording.{Recording}
-use Rattle.recording.specs.Outcome.{Room, Result, Faults, Outcome, refused, done, noRoom, refusalOf, settle, Lent, lentAfter, returned, answerOf, Promised}
+use Rattle.recording.specs.Outcome.{Room, Result, Faults, Outcome, refused, done, noRoom, refusalOf, settle, Lent, lentAfter, Promised}
 use Rattle.layout.specs.Layout.{Job, truncateStart, truncateEnd, padStart, padEnd, padCentered, indent, wrap, replace, linesLeft, resultOf, faultsOf, outcome}
 use Rattle.layout.specs.Lent.{lentOf, lentLined, callIn, Leaves}
 use Rattle.replace.specs.Records.{recordsOf}

@@ -1,6 +1,6 @@
 -- The promise of `run_calls`, from what its parts promise: refused with nothing touched (`refuses`), or run (`finishes`).
 -- The idea: the front of the first set at the end is the content of the last state, which is `run` of the calls (`StateLaws.run-content`), and `demand3` holds of every list of calls.
-use Prim.Native.Nat.{ℕ, _+_, _-_, _*_, _/_, _%_, _≤_}
+use Prim.Native.Nat.{ℕ, _-_, _*_, _/_, _%_, _≤_}
 use native.Mathlib.Omega.{arith}
 use mathlib.Core.Bool.{Bool, true, false, cond, not, _||_, _&&_}
 use mathlib.Core.Path.{_≡_, refl, sym, ap, subst, _∙_}
@@ -11,12 +11,11 @@ use lib.Seq.{length-take-le}
 use borrow.Author.Tests.{eqb-true, ltb-false, ne-eqb}
 use Rattle.buffer.specs.Place.{over, overAt, part}
 use Rattle.buffer.proofs.Laws.{take-over}
-use Rattle.recording.specs.declared.Answer.{Answer}
 use Rattle.recording.specs.declared.Answer.the-variants.{Refused, Done}
 use Rattle.recording.specs.declared.Refusal.{Refusal}
-use Rattle.recording.specs.Recording.{Recording, recording}
+use Rattle.recording.specs.Recording.{recording}
 use Rattle.recording.specs.Refusals.{numberOf, refuseIf}
-use Rattle.recording.specs.Outcome.{Lent, Returned, answerOf}
+use Rattle.recording.specs.Outcome.{Lent, answerOf}
 use Rattle.recording.proofs.OutcomeLaws.{number-pos}
 use Rattle.recording.proofs.Lists.{or-left, or-right, not-false}
 use Rattle.recording.proofs.FaultLaws.{firstOf-zero, refuseIf-zero}

@@ -1,12 +1,11 @@
 -- The numbers of the calls one after another: what is left of the list after k calls (`next`, `none`), and that what fits has ranges within its pools.
 use Prim.Native.Nat.{ℕ, suc, _+_, _*_, _-_, _≤_, _<_}
 use native.Mathlib.Omega.{arith}
-use native.Mathlib.Numerals.{add-one}
 use mathlib.Core.Bool.{Bool, true, false, _&&_, false≢true}
 use mathlib.Core.Path.{_≡_, refl, sym, ap, _∙_}
 use mathlib.Core.List.{List, [], _∷_}
 use lib.Dec.{leb}
-use lib.ListN.{length, drop, getD}
+use lib.ListN.{drop, getD}
 use lib.Seq.{drop-drop, getD-drop}
 use borrow.Author.Tests.{leb-true}
 use Rattle.runs.specs.declared.Request.{Request}

@@ -4,9 +4,9 @@ use Prim.Native.Nat.{ℕ, _+_, _*_, _/_, _≤_, _<_}
 use native.Mathlib.Omega.{arith}
 use mathlib.Core.Bool.{Bool, true, false, cond, not}
 use mathlib.Core.Path.{_≡_, refl, sym, ap, subst, _∙_}
-use mathlib.Core.List.{List, [], _∷_, _++_, append-assoc}
+use mathlib.Core.List.{List, [], _++_, append-assoc}
 use lib.Dec.{eqb}
-use lib.ListN.{length, take, drop, length-append, length-take, take-append-drop}
+use lib.ListN.{length, take, drop, length-append, take-append-drop}
 use lib.Seq.{take-append-seam, drop-append-seam, drop-drop, length-take-le}
 use Rattle.buffer.specs.Place.{over, overAt}
 use Rattle.recording.specs.declared.Answer.{Answer}
@@ -17,7 +17,7 @@ use Rattle.layout.specs.Lent.{lentOf}
 use Rattle.runs.specs.declared.Held.{Held}
 use Rattle.runs.specs.declared.Request.{Request}
 use Rattle.runs.specs.Requests.{requestAt, requestsOf, jobIn, jobsIn, fitsIn, allFit}
-use Rattle.runs.specs.Runs.{State, state, Sound, three, heldBy, twoOf, afterCall, Turn, runSets, Ran}
+use Rattle.runs.specs.Runs.{State, state, Sound, heldBy, twoOf, afterCall, Turn, runSets, Ran}
 use Rattle.runs.proofs.RequestLaws.{rest, rest-all, next, none, and-left, and-right}
 use Rattle.runs.proofs.StateLaws.{sound-after, turned}
 

@@ -7,9 +7,8 @@ use mathlib.Core.Path.{_≡_, refl, sym, ap, subst, _∙_}
 use mathlib.Core.List.{List, [], _∷_, _++_}
 use mathlib.Core.Logic.{_≢_}
 use lib.Dec.{eqb}
-use lib.ListN.{length, take, drop}
+use lib.ListN.{length}
 use borrow.Author.Tests.{eqb-true, eqb-false, ne-eqb, ltb-false}
-use Rattle.buffer.specs.Place.{over}
 use Rattle.buffer.proofs.Laws.{take-over, length-over}
 use Rattle.recording.specs.declared.Answer.{Answer}
 use Rattle.recording.specs.declared.Answer.the-variants.{Refused}
@@ -19,10 +18,10 @@ use Rattle.recording.specs.Outcome.{Room, Result, Faults, Outcome, refused, don
 use Rattle.recording.proofs.OutcomeLaws.{number-pos}
 use Rattle.recording.proofs.FaultLaws.{Roomy, roomy, granted}
 use Rattle.layout.specs.Layout.{Job, Call, contentAfter, faultsOf, resultOf, outcome, after, run}
-use Rattle.layout.specs.Lent.{lentOf, lentLined, callIn, Leaves}
+use Rattle.layout.specs.Lent.{Leaves}
 use Rattle.runs.specs.declared.Held.{Held}
 use Rattle.runs.specs.Requests.{callsIn}
-use Rattle.runs.specs.Runs.{State, state, Sound, frontOf, standing, content, withLines, three, target, outcomeIn, heldBy, twoOf, stepTo, afterCall, Turn, runSets}
+use Rattle.runs.specs.Runs.{State, state, Sound, frontOf, content, withLines, three, target, outcomeIn, heldBy, twoOf, stepTo, afterCall, Turn, runSets}
 
 -- ── an outcome that is refused has a number; one that is done has a result within its room
 record Holds (q : Recording) (l : List ℕ) (o : Room) : Type 0 where

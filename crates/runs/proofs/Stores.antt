@@ -1,10 +1,10 @@
 -- Stores one after another: two numbers over a list, and a copy from the front on.
-use Prim.Native.Nat.{ℕ, suc, _+_, _≤_, _<_}
+use Prim.Native.Nat.{ℕ, _+_, _≤_, _<_}
 use native.Mathlib.Omega.{arith}
 use native.Mathlib.Numerals.{add-one}
-use mathlib.Core.Path.{_≡_, refl, sym, ap, subst, _∙_}
+use mathlib.Core.Path.{_≡_, _∙_}
 use mathlib.Core.List.{List, [], _∷_, _++_, append-assoc}
-use lib.ListN.{length, take, drop, getD, set, length-take}
+use lib.ListN.{length, take, drop, getD, set}
 use lib.Seq.{sets-eq, drop-drop, drop-cons, set-at, take-suc, append-snoc, length-take-le}
 use Rattle.buffer.specs.Place.{over, overAt}
 

@@ -1,10 +1,10 @@
 -- Layout calls as numbers, eight a call: its kind, its width, and three ranges of two lent pools. With a second recording these are its data, entry numbers and text;
 -- of a replacement the numbers are the records, four each, and the data their text.
-use Prim.Native.Nat.{ℕ, zero, suc, _/_, _%_}
-use mathlib.Core.Bool.{Bool, true, false, cond, _&&_, _||_, not}
+use Prim.Native.Nat.{ℕ, zero, suc}
+use mathlib.Core.Bool.{Bool, true, false, cond, _&&_}
 use mathlib.Core.List.{List, [], _∷_}
-use lib.Dec.{ltb, leb, eqb}
-use lib.ListN.{length, drop, getD}
+use lib.Dec.{leb, eqb}
+use lib.ListN.{drop, getD}
 use Rattle.buffer.specs.Place.{part}
 use Rattle.recording.specs.Recording.{Bytes, Recording, recording}
 use Rattle.recording.specs.Outcome.{Room}
@@ -48,19 +48,22 @@ jobOf k n q =
 abbrev pub rangesOf : Bytes → List ℕ → Request → Recording
 rangesOf ps ns x = recording (part (x .from) (x .to) ps) (part (x .first) (x .last) ns) (part (x .start) (x .end) ps)
 
+-- the call that eight numbers ask for
 unfoldable pub jobIn : Bytes → List ℕ → Request → Job
 jobIn ps ns x = jobOf (x .kind) (x .width) (rangesOf ps ns x)
 
+-- all of them
 abbrev pub jobsIn : Bytes → List ℕ → List Request → List Job
 jobsIn ps ns [] = []
 jobsIn ps ns (x ∷ xs) = jobIn ps ns x ∷ jobsIn ps ns xs
 
--- all in buffers of the same lengths
+-- in buffers of the same lengths
 abbrev pub callsIn : Room → List Job → List Call
 callsIn o [] = []
 callsIn o (j ∷ js) = record { job = j; room = o } ∷ callsIn o js
 
 -- ── whether they are calls
+-- a range of n that runs forwards
 abbrev pub rangeFits : ℕ → ℕ → ℕ → Bool
 rangeFits n a b = leb a b && leb b n
 
@@ -69,6 +72,7 @@ unfoldable pub fitsIn : ℕ → ℕ → Request → Bool
 fitsIn p q x =
     leb (x .kind) 8 && (rangeFits p (x .from) (x .to) && (rangeFits q (x .first) (x .last) && rangeFits p (x .start) (x .end)))
 
+-- all of them fit
 abbrev pub allFit : ℕ → ℕ → List Request → Bool
 allFit p q [] = true
 allFit p q (x ∷ xs) = fitsIn p q x && allFit p q xs

@@ -1,6 +1,6 @@
 -- A list of layout calls on two sets of lent buffers: where the content stands, what each call leaves, what is answered, and the promise of `run_calls`.
 use Prim.Native.Nat.{ℕ, _+_, _*_, _/_, _%_, _≤_}
-use mathlib.Core.Bool.{Bool, true, false, cond, _||_, _&&_, not}
+use mathlib.Core.Bool.{Bool, true, cond, _||_, _&&_, not}
 use mathlib.Core.Path.{_≡_}
 use mathlib.Core.List.{List, [], _∷_, _++_}
 use lib.Dec.{ltb, eqb}
@@ -10,7 +10,7 @@ use Rattle.recording.specs.declared.Answer.{Answer}
 use Rattle.recording.specs.Recording.{Bytes, Recording, recording}
 use Rattle.recording.specs.Coloured.{balanced}
 use Rattle.recording.specs.Refusals.{firstOf, refuseIf}
-use Rattle.recording.specs.Outcome.{Room, Outcome, Lent, lentAfter, roomIn, Returned, returned, answerOf}
+use Rattle.recording.specs.Outcome.{Outcome, Lent, lentAfter, roomIn, Returned, returned, answerOf}
 use Rattle.layout.specs.Layout.{Job, Call, outcome, run}
 use Rattle.layout.specs.Lent.{lentOf, lentLined, callIn, Leaves}
 use Rattle.layout.specs.Theorem.{Proper, Demand3}
@@ -46,6 +46,7 @@ frontOf d e t b = recording (take d (b .dataBytes)) (take e (b .entryNumbers)) (
 abbrev pub standing : State → Lent
 standing s = cond (s .held .first) (s .first) (s .other)
 
+-- and the content itself
 abbrev pub content : State → Recording
 content s = frontOf (s .held .bytes) (s .held .numbers) (s .held .texts) (standing s)
 
@@ -61,6 +62,7 @@ abbrev pub target : State → Lent
 target s = withLines (cond (s .held .first) (s .other) (s .first)) (s .lines)
 
 -- ── one call
+-- what it comes to, in the room that it is lent
 unfoldable pub outcomeIn : Job → State → Outcome
 outcomeIn j s = outcome (callIn j (target s)) (content s)
 
@@ -72,7 +74,7 @@ heldBy n h = cond (eqb (n .refusal) 0) (record { first = not (h .first); bytes =
 abbrev pub twoOf : Returned → List ℕ
 twoOf n = n .refusal ∷ n .number ∷ []
 
--- b is what it has left of what it was lent, n what it has returned
+-- the state after a call that has left b of what it was lent and has returned n
 unfoldable pub stepTo : Lent → Returned → State → State
 stepTo b n s =
     record {
@@ -83,6 +85,7 @@ stepTo b n s =
       answers = s .answers ++ twoOf n;
     }
 
+-- and after the call j, by its outcome
 unfoldable pub afterCall : Job → State → State
 afterCall j s = stepTo (lentAfter (outcomeIn j s) (target s)) (returned (outcomeIn j s)) s
 
@@ -90,7 +93,7 @@ afterCall j s = stepTo (lentAfter (outcomeIn j s) (target s)) (returned (outcome
 abbrev pub Turn : Job → State → State → Answer → Type 0
 Turn j s s′ a = Leaves j (content s) (target s) (target s′) a × (standing s′ ≡ standing s)
 
--- ── all calls; then the result stands in the first set: from the other one it is copied
+-- ── all calls, each from the state that the one before has left
 abbrev pub runSets : List Job → State → State
 runSets [] s = s
 runSets (j ∷ js) s = runSets js (afterCall j s)
@@ -101,6 +104,7 @@ pub record Ran (ps : Bytes) (ns cs : List ℕ) (s : State) (ans : List ℕ) (s�
   pub sound : Sound (s′ .held) (s′ .first) (s′ .other)
   pub answered : ans′ ≡ over (s′ .answers) ans
 
+-- then the result stands in the first set: from the other one it is copied
 abbrev pub overSet : Recording → Lent → Lent
 overSet r b = lentOf (over (r .dataBytes) (b .dataBytes)) (over (r .entryNumbers) (b .entryNumbers)) (over (r .text) (b .text))
 
@@ -132,6 +136,7 @@ buffers a b l n = record { first = a; other = b; lines = l; answers = n }
 abbrev pub count : Given → ℕ
 count g = length (g .calls) / 8
 
+-- what the numbers ask for
 abbrev pub jobs : Given → List Job
 jobs g = jobsIn (g .pool) (g .poolNumbers) (requestsOf (count g) (g .calls))
 
@@ -143,6 +148,7 @@ firstContent g b = frontOf (g .dataLen) (g .entriesLen) (g .textLen) (b .first)
 abbrev pub calls : Given → Buffers → List Call
 calls g b = callsIn (roomIn (withLines (b .first) (b .lines))) (jobs g)
 
+-- before the first call, and after the last one
 abbrev pub atStart : Given → Buffers → State
 atStart g b =
     record {
@@ -156,19 +162,23 @@ atStart g b =
 abbrev pub atEnd : Given → Buffers → State
 atEnd g b = runSets (jobs g) (atStart g b)
 
--- ── what it refuses, before any call: 10 a used length above its buffer, 61 sets that differ in a length, 62 numbers that are no calls, 63 a list of answers that is too short
+-- ── what it refuses, before any call
+-- a used length above its buffer
 abbrev pub tooLong : ℕ → ℕ → ℕ → ℕ → ℕ → ℕ → Bool
 tooLong d e t od oe ot = ltb od d || (ltb oe e || ltb ot t)
 
+-- sets with the same lengths
 abbrev pub alike : ℕ → ℕ → ℕ → ℕ → ℕ → ℕ → Bool
 alike d e t d′ e′ t′ = eqb d d′ && (eqb e e′ && eqb t t′)
 
--- p and q: the lengths of the pools; n: the length of the list of answers
+-- THE ORDER: 10 a used length above its buffer, 61 sets that differ in a length, 62 numbers that are no calls, 63 a list of answers that is too short;
+-- p and q are the lengths of the pools, n that of the list of answers
 unfoldable pub inputFault : Bool → Bool → List ℕ → ℕ → ℕ → ℕ → ℕ
 inputFault long same cs p q n =
     firstOf (refuseIf long 10 ∷ refuseIf (not same) 61 ∷ refuseIf (not (eqb (length cs % 8) 0) || not (allFit p q (requestsOf (length cs / 8) cs))) 62
     ∷ refuseIf (ltb n (2 * (length cs / 8))) 63 ∷ [])
 
+-- the same of what is given and lent
 abbrev pub usedTooLong : Given → Lent → Bool
 usedTooLong g b = tooLong (g .dataLen) (g .entriesLen) (g .textLen) (length (b .dataBytes)) (length (b .entryNumbers)) (length (b .text))
 
@@ -198,5 +208,6 @@ pub record LaidOut (g : Given) (b b′ : Buffers) (n : Returned) : Type 0 where
   pub result : frontOf (n .dataBytes) (n .entryNumbers) (n .text) (b′ .first) ≡ run (calls g b) (firstContent g b)
   pub commutes : balanced (firstContent g b) ≡ true → Proper (calls g b) (firstContent g b) → Demand3 (calls g b) (firstContent g b)
 
+-- refused with nothing touched, or run
 abbrev pub RunsCalls : Given → Buffers → Buffers → Answer → Type 0
 RunsCalls g b b′ a = (answerOf a ≡ returnedRun g b) × ((b′ ≡ leftRun g b) × (runFault g b ≡ 0 → LaidOut g b b′ (answerOf a)))

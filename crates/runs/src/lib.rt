@@ -53,7 +53,7 @@ pub struct Held {
 // ── the numbers of the calls
 
 // The call whose eight numbers start at i.
-pub fn request_at(calls: &[u32], i: usize) -> Request
+fn request_at(calls: &[u32], i: usize) -> Request
     requires { ⌜ i + 8 ≤ length (now calls) ⌝ }
     ensures { λ r. ⌜ r ≡ requestAt (drop i (now (calls .entry))) ⌝ }
 {
@@ -70,7 +70,7 @@ pub fn request_at(calls: &[u32], i: usize) -> Request
 }
 
 // Whether a range runs forwards and within n.
-pub fn range_fits(n: usize, from: usize, to: usize) -> bool
+fn range_fits(n: usize, from: usize, to: usize) -> bool
     ensures { λ r. ⌜ r ≡ requests.rangeFits n from to ⌝ }
 {
     if to < from {
@@ -80,7 +80,7 @@ pub fn range_fits(n: usize, from: usize, to: usize) -> bool
 }
 
 // Whether a call has a known kind, and its ranges lie in pools of p bytes and q numbers.
-pub fn fits(x: Request, p: usize, q: usize) -> bool
+fn fits(x: Request, p: usize, q: usize) -> bool
     ensures { λ r. ⌜ r ≡ fitsIn p q x ⌝ }
 {
     if 8 < x.kind {
@@ -96,7 +96,7 @@ pub fn fits(x: Request, p: usize, q: usize) -> bool
 }
 
 // Whether all calls do; a rest of fewer than eight numbers is none.
-pub fn all_fit(calls: &[u32], p: usize, q: usize) -> bool
+fn all_fit(calls: &[u32], p: usize, q: usize) -> bool
     ensures { λ r. ⌜ r ≡ allFit p q (requestsOf (length (now (calls .entry)) / 8) (now (calls .entry))) ⌝ }
 {
     let mut k = 0;
@@ -112,7 +112,7 @@ pub fn all_fit(calls: &[u32], p: usize, q: usize) -> bool
 // ── refusals of the list itself
 
 // Whether one of three used lengths is above its buffer.
-pub fn too_long(d: usize, e: usize, t: usize, bytes: usize, numbers: usize, texts: usize) -> bool
+fn too_long(d: usize, e: usize, t: usize, bytes: usize, numbers: usize, texts: usize) -> bool
     ensures { λ r. ⌜ r ≡ runs.tooLong d e t bytes numbers texts ⌝ }
 {
     if bytes < d {
@@ -125,7 +125,7 @@ pub fn too_long(d: usize, e: usize, t: usize, bytes: usize, numbers: usize, text
 }
 
 // Whether two sets have the same lengths.
-pub fn alike(d: usize, e: usize, t: usize, bytes: usize, numbers: usize, texts: usize) -> bool
+fn alike(d: usize, e: usize, t: usize, bytes: usize, numbers: usize, texts: usize) -> bool
     ensures { λ r. ⌜ r ≡ runs.alike d e t bytes numbers texts ⌝ }
 {
     if d != bytes {
@@ -138,7 +138,7 @@ pub fn alike(d: usize, e: usize, t: usize, bytes: usize, numbers: usize, texts: 
 }
 
 // What is refused before any call, in order; `long` and `same` are what the two tests of lengths say, p and q the lengths of the pools, n that of the list of answers.
-pub fn check_input(long: bool, same: bool, calls: &[u32], p: usize, q: usize, n: usize) -> Settled
+fn check_input(long: bool, same: bool, calls: &[u32], p: usize, q: usize, n: usize) -> Settled
     ensures { λ r. ⌜ settledFault r ≡ inputFault long same (now (calls .entry)) p q n ⌝ }
 {
     if long {
@@ -163,7 +163,7 @@ pub fn check_input(long: bool, same: bool, calls: &[u32], p: usize, q: usize, n:
 
 // One call, chosen by its kind: 0 and 1 truncate at the start and the end; 2, 3 and 4 pad there and on both sides; 5 indents; 6 wraps, 7 wraps and breaks; all others replace.
 // `second` is the ellipsis, fill or prefix; of a replacement its numbers are the records and its data their text.
-pub fn apply(
+fn apply(
     kind: u32,
     width: u32,
     content: &[u8],
@@ -304,7 +304,7 @@ pub fn apply(
 }
 
 // The call whose eight numbers start at i, with its ranges known to lie in their pools.
-pub fn fitting_at(calls: &[u32], i: usize, p: usize, q: usize) -> Request
+fn fitting_at(calls: &[u32], i: usize, p: usize, q: usize) -> Request
     requires { ⌜ i + 8 ≤ length (now calls) ⌝ }
     requires { ⌜ fitsIn p q (requestAt (drop i (now calls))) ≡ true ⌝ }
     ensures { λ r. ⌜ r ≡ requestAt (drop i (now (calls .entry))) ⌝ }
@@ -314,7 +314,7 @@ pub fn fitting_at(calls: &[u32], i: usize, p: usize, q: usize) -> Request
 }
 
 // The call whose eight numbers start at i, on a content, into the lent buffers.
-pub fn make_call(
+fn make_call(
     calls: &[u32],
     i: usize,
     pool: &[u8],
@@ -358,7 +358,7 @@ pub fn make_call(
 }
 
 // The same on the content where it stands, into the other set.
-pub fn turn(
+fn turn(
     s: Held,
     calls: &[u32],
     i: usize,
@@ -412,7 +412,7 @@ pub fn turn(
 }
 
 // Where the content stands after an answer: in the other set if the call is done.
-pub fn moved(s: Held, a: Answer) -> Held
+fn moved(s: Held, a: Answer) -> Held
     requires { ⌜ s .made < 18446744073709551615 ⌝ }
     ensures { λ r. ⌜ r ≡ heldBy (answerOf a) s ⌝ }
 {
@@ -433,7 +433,7 @@ pub fn moved(s: Held, a: Answer) -> Held
     }
 }
 
-pub fn put_two(answers: &mut [u64], k: usize, x: u64, y: u64)
+fn put_two(answers: &mut [u64], k: usize, x: u64, y: u64)
     requires { ⌜ k + 2 ≤ length (now answers) ⌝ }
     ensures { λ _. ⌜ now (answers .exit) ≡ overAt k (x ∷ y ∷ []) (now (answers .entry)) ⌝ }
 {
@@ -442,7 +442,7 @@ pub fn put_two(answers: &mut [u64], k: usize, x: u64, y: u64)
 }
 
 // A call's two numbers: its refusal or 0, and its width or count.
-pub fn put_answer(answers: &mut [u64], k: usize, a: Answer)
+fn put_answer(answers: &mut [u64], k: usize, a: Answer)
     requires { ⌜ k + 2 ≤ length (now answers) ⌝ }
     ensures { λ _. ⌜ now (answers .exit) ≡ overAt k (twoOf (answerOf a)) (now (answers .entry)) ⌝ }
 {
@@ -460,7 +460,7 @@ pub fn put_answer(answers: &mut [u64], k: usize, a: Answer)
 // ── all calls
 
 // All calls of a list that fits, each with its two numbers in the list of answers.
-pub fn run_all(
+fn run_all(
     s: Held,
     calls: &[u32],
     pool: &[u8],
@@ -520,7 +520,7 @@ pub fn put_numbers(to: &mut [u32], from: &[u32], n: usize)
 }
 
 // Copies a result that stands in the other set to the first one.
-pub fn bring_back(
+fn bring_back(
     s: Held,
     bytes: &mut [u8],
     numbers: &mut [u32],

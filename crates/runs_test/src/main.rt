@@ -350,6 +350,7 @@ fn lists(
     answers: &mut [u64],
 ) {
     let pool_numbers = [
+        // The entries of =>.
         0,
         0,
         0,
@@ -358,6 +359,7 @@ fn lists(
         1,
         0,
         0,
+        // Of ~.
         0,
         2,
         0,
@@ -370,6 +372,7 @@ fn lists(
         1,
         0,
         0,
+        // Of -+.
         0,
         0,
         0,
@@ -378,6 +381,7 @@ fn lists(
         1,
         0,
         0,
+        // Of | .
         0,
         0,
         0,
@@ -386,6 +390,7 @@ fn lists(
         1,
         0,
         0,
+        // Records beyond the data.
         0,
         2,
         0,
@@ -394,6 +399,7 @@ fn lists(
         20,
         0,
         0,
+        // Records.
         2,
         5,
         0,
@@ -402,9 +408,11 @@ fn lists(
         8,
         1,
         2,
+        // Three numbers.
         0,
         1,
         0,
+        // The entries of > .
         0,
         0,
         0,
@@ -415,6 +423,7 @@ fn lists(
         0,
     ];
     let calls = [
+        // Truncate at the start to 9: 11 wide, with => before it.
         0,
         9,
         0,
@@ -423,6 +432,7 @@ fn lists(
         8,
         2,
         3,
+        // Records beyond the data: refused (8).
         8,
         0,
         23,
@@ -431,6 +441,7 @@ fn lists(
         44,
         26,
         26,
+        // Truncate at the end to 8, with a raw sequence and a label in the ellipsis.
         1,
         8,
         3,
@@ -439,6 +450,7 @@ fn lists(
         20,
         4,
         7,
+        // Pad at the start to 10 with a character two columns wide.
         2,
         10,
         7,
@@ -447,6 +459,7 @@ fn lists(
         20,
         10,
         10,
+        // Pad to the largest width: refused (9).
         3,
         4294967295,
         10,
@@ -455,6 +468,7 @@ fn lists(
         28,
         12,
         16,
+        // Pad at the end to 14.
         3,
         14,
         10,
@@ -463,6 +477,7 @@ fn lists(
         28,
         12,
         16,
+        // Pad on both sides to 60: more than the data's room, refused (21).
         4,
         60,
         0,
@@ -471,6 +486,7 @@ fn lists(
         8,
         2,
         3,
+        // Pad on both sides to 17.
         4,
         17,
         16,
@@ -479,6 +495,7 @@ fn lists(
         36,
         18,
         23,
+        // Wrap to 8.
         6,
         8,
         0,
@@ -487,6 +504,7 @@ fn lists(
         0,
         0,
         0,
+        // Wrap to 1 and break: more lines than the list holds, refused (24).
         7,
         1,
         0,
@@ -495,6 +513,7 @@ fn lists(
         0,
         0,
         0,
+        // Wrap to 7 and break.
         7,
         7,
         0,
@@ -503,6 +522,7 @@ fn lists(
         0,
         0,
         0,
+        // The same again: it changes nothing.
         7,
         7,
         0,
@@ -511,6 +531,7 @@ fn lists(
         0,
         0,
         0,
+        // An ellipsis with three numbers for an entry: refused (2).
         0,
         3,
         28,
@@ -519,6 +540,7 @@ fn lists(
         55,
         29,
         29,
+        // Indent with a long label: more than the text's room, refused (23).
         5,
         0,
         16,
@@ -527,6 +549,7 @@ fn lists(
         36,
         18,
         23,
+        // Indent.
         5,
         0,
         29,
@@ -535,6 +558,7 @@ fn lists(
         63,
         31,
         32,
+        // Replace.
         8,
         0,
         26,
@@ -543,6 +567,7 @@ fn lists(
         52,
         28,
         28,
+        // Truncate at the end to 12: the result is shorter than the one before.
         1,
         12,
         3,
@@ -598,6 +623,7 @@ fn refusals(
 ) {
     let pool_numbers = [0; 63];
     let bad = [
+        // A good call.
         0,
         9,
         0,
@@ -606,6 +632,7 @@ fn refusals(
         8,
         2,
         3,
+        // An unknown kind.
         9,
         9,
         0,
@@ -614,6 +641,7 @@ fn refusals(
         8,
         2,
         3,
+        // A range that runs backwards: bytes, numbers, text.
         0,
         9,
         2,
@@ -638,6 +666,7 @@ fn refusals(
         8,
         3,
         2,
+        // A range beyond its pool: bytes, numbers, text.
         0,
         9,
         0,
@@ -663,6 +692,7 @@ fn refusals(
         0,
         33,
     ];
+    // The range among the calls, the used data, the lent other text and the lent answers.
     let rows = [
         0,
         8,

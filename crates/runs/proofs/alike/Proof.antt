@@ -1,6 +1,4 @@
 -- Two sets have the same lengths: the tests in order.
-use native.Mathlib.Omega.{arith}
-use borrow.Author.Needs.{needs}
 use borrow.Author.Tests.{eq-eqb, ne-eqb}
 use Rattle.runs.proofs.alike.Statement.{statement}
 use Rattle.runs.proofs.alike.Tie as tie

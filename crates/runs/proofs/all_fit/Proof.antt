@@ -6,7 +6,7 @@ use Rattle.runs.proofs.RequestLaws.{rest, none, one-bad, one-good}
 use Rattle.runs.specs.Requests.{requestsOf, allFit}
 use borrow.Author.Tests.{not-true, not-false}
 use lib.ListN.{length}
-use mathlib.Core.Path.{_≡_, refl, sym, ap, _∙_}
+use mathlib.Core.Path.{_≡_, sym, ap, _∙_}
 use Prim.Native.Nat.{_/_, _-_, _≤_}
 use Rattle.runs.proofs.all_fit.Statement.{statement}
 use Rattle.runs.proofs.all_fit.Tie as tie

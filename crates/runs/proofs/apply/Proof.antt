@@ -1,5 +1,4 @@
 -- `apply` leaves and answers what the job of its kind does: at each return, the promise of the call of that kind, with the line list as it was where that call has none.
-use native.Mathlib.Omega.{arith}
 use borrow.Author.Needs.{needs}
 use Rattle.runs.proofs.ApplyLaws.{unlined, lined, job-start, job-end, job-pad-start, job-pad-end, job-pad-centered, job-indent, job-wrap, job-break, job-replace}
 use Rattle.runs.specs.Requests.{jobOf}

@@ -1,5 +1,4 @@
 -- A result in the other set is copied, part by part; one in the first set stays.
-use native.Mathlib.Omega.{arith}
 use borrow.Author.Needs.{needs}
 use Rattle.recording.specs.Outcome.{Lent}
 use Rattle.runs.proofs.PromiseLaws.{stays, copied}

@@ -1,5 +1,4 @@
 -- The refusals of a list, in order: each test on the way decides one.
-use native.Mathlib.Omega.{arith}
 use borrow.Author.Needs.{needs}
 use Rattle.runs.specs.Runs.{inputFault}
 use Rattle.writer.specs.Sizes.{settledFault}

@@ -1,5 +1,4 @@
 -- A call fits: its kind, then its ranges, in order.
-use native.Mathlib.Omega.{arith}
 use borrow.Author.Needs.{needs}
 use Rattle.runs.specs.Requests.{fitsIn}
 use mathlib.Core.Path.{sym}

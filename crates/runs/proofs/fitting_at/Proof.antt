@@ -1,5 +1,4 @@
 -- What fits has its ranges within the pools (`fit`).
-use native.Mathlib.Omega.{arith}
 use borrow.Author.Needs.{needs}
 use Rattle.runs.proofs.RequestLaws.{fit}
 use Rattle.runs.proofs.fitting_at.Statement.{statement}

@@ -1,5 +1,4 @@
 -- The call whose numbers start at i: the promise of `apply` for its kind, width and ranges.
-use native.Mathlib.Omega.{arith}
 use borrow.Author.Needs.{needs}
 use Rattle.runs.proofs.ApplyLaws.{lined}
 use Rattle.runs.specs.Requests.{requestAt, jobIn}

@@ -1,5 +1,4 @@
 -- Where the content stands after each of the two answers: no refusal has the number 0.
-use native.Mathlib.Omega.{arith}
 use borrow.Author.Needs.{needs}
 use Rattle.runs.proofs.StateLaws.{held-refused}
 use Rattle.runs.specs.Runs.{heldBy}

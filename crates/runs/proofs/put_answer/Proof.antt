@@ -1,5 +1,4 @@
 -- A call's two numbers, by its answer.
-use native.Mathlib.Omega.{arith}
 use borrow.Author.Needs.{needs}
 use mathlib.Core.Path.{sym}
 use Rattle.recording.specs.Outcome.{answerOf}

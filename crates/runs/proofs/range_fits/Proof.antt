@@ -1,6 +1,4 @@
 -- A range runs forwards and within its pool: the tests in order.
-use native.Mathlib.Omega.{arith}
-use borrow.Author.Needs.{needs}
 use borrow.Author.Tests.{lt-leb, le-leb}
 use Rattle.runs.proofs.range_fits.Statement.{statement}
 use Rattle.runs.proofs.range_fits.Tie as tie

@@ -1,6 +1,5 @@
 -- All calls lead where the definition leads. Invariant: `RunLaws.Running`, what is left of the list leads there from the state as it stands.
 use native.Mathlib.Omega.{arith}
-use borrow.Author.Needs.{needs}
 use Rattle.runs.proofs.RunLaws.{Running, Same, starts, head-fits, again, ran}
 use Rattle.runs.specs.Runs.{State, state}
 use Rattle.layout.specs.Lent.{lentOf}
@@ -18,13 +17,13 @@ use Rattle.runs.proofs.put_answer.Reads as put-answer-reads
 use Rattle.runs.proofs.turn.Reads as turn-reads
 
 abbrev Inv-loop : tie.InvT-loop
-Inv-loop calls pool pool-numbers bytes₀ numbers₀ texts₀ other-bytes₀ other-numbers₀ other-texts₀ lines₀ answers₀ held₀ k₀ bytes numbers texts other-bytes other-numbers other-texts lines answers held k =
-    Running pool pool-numbers calls (state held₀ (lentOf bytes₀ numbers₀ texts₀) (lentOf other-bytes₀ other-numbers₀ other-texts₀) lines₀ []) answers₀
+Inv-loop calls pool nums bytes₀ numbers₀ texts₀ other-bytes₀ other-numbers₀ other-texts₀ lines₀ answers₀ held₀ k₀ bytes numbers texts other-bytes other-numbers other-texts lines answers held k =
+    Running pool nums calls (state held₀ (lentOf bytes₀ numbers₀ texts₀) (lentOf other-bytes₀ other-numbers₀ other-texts₀) lines₀ []) answers₀
     held k (lentOf bytes numbers texts) (lentOf other-bytes other-numbers other-texts) lines answers
     × Same bytes₀ numbers₀ texts₀ other-bytes₀ other-numbers₀ other-texts₀ lines₀ bytes numbers texts other-bytes other-numbers other-texts lines
 
 abbrev μ-loop : tie.MeasureT-loop
-μ-loop calls pool pool-numbers bytes₀ numbers₀ texts₀ other-bytes₀ other-numbers₀ other-texts₀ lines₀ answers₀ held₀ k₀ bytes numbers texts other-bytes other-numbers other-texts lines answers held k =
+μ-loop calls pool nums bytes₀ numbers₀ texts₀ other-bytes₀ other-numbers₀ other-texts₀ lines₀ answers₀ held₀ k₀ bytes numbers texts other-bytes other-numbers other-texts lines answers held k =
     length calls / 8 - k
 
 -- ── what the call was given

@@ -1,5 +1,4 @@
 -- The promise of `run_calls`: what its parts promise, put together by `proofs/PromiseLaws.antt`.
-use native.Mathlib.Omega.{arith}
 use borrow.Author.Needs.{needs}
 use Rattle.runs.proofs.PromiseLaws.{input-fault, is-room, accepted, refuses, finishes}
 use Rattle.runs.specs.Runs.{Given, given, Buffers, buffers, runFault}

@@ -1,6 +1,4 @@
 -- One of three lengths is above its buffer: the tests in order.
-use native.Mathlib.Omega.{arith}
-use borrow.Author.Needs.{needs}
 use borrow.Author.Tests.{lt-ltb, le-ltb}
 use Rattle.runs.proofs.too_long.Statement.{statement}
 use Rattle.runs.proofs.too_long.Tie as tie

@@ -13,25 +13,31 @@ use Rattle.report.proofs.numbers.Reads as numbers-reads
 use Rattle.runs_test.proofs.one_call.Reads as one-call-reads
 
 abbrev Inv-loop : tie.InvT-loop
-Inv-loop calls pool pool-numbers bytes₀ numbers₀ texts₀ other-bytes₀ other-numbers₀ other-texts₀ lines₀ answers₀ used₀ i₀ t16 t17 bytes numbers texts other-bytes other-numbers other-texts lines answers used i =
-    (length bytes ≡ length bytes₀)
-    × (length numbers ≡ length numbers₀)
-    × (length texts ≡ length texts₀)
-    × (length other-bytes ≡ length other-bytes₀)
-    × (length other-numbers ≡ length other-numbers₀)
-    × (length other-texts ≡ length other-texts₀)
-    × (length lines ≡ length lines₀)
-    × (length answers ≡ length answers₀)
+Inv-loop cs ps ns d₀ e₀ t₀ d′₀ e′₀ t′₀ l₀ a₀ u₀ i₀ t16 t17 d e t d′ e′ t′ l a u i =
+    (length d ≡ length d₀) × (length e ≡ length e₀) × (length t ≡ length t₀)
+    × (length d′ ≡ length d′₀) × (length e′ ≡ length e′₀) × (length t′ ≡ length t′₀) × (length l ≡ length l₀) × (length a ≡ length a₀)
 
 abbrev μ-loop : tie.MeasureT-loop
-μ-loop calls pool pool-numbers bytes₀ numbers₀ texts₀ other-bytes₀ other-numbers₀ other-texts₀ lines₀ answers₀ used₀ i₀ t16 t17 bytes numbers texts other-bytes other-numbers other-texts lines answers used i =
-    length calls / 8 - i
+μ-loop cs ps ns d₀ e₀ t₀ d′₀ e′₀ t′₀ l₀ a₀ u₀ i₀ t16 t17 d e t d′ e′ t′ l a u i =
+    length cs / 8 - i
 
+-- ── the places on the way
+abbrev start : tie.At-loop Inv-loop μ-loop → tie.Start Inv-loop μ-loop
+start c = c .before .before .before .before .before .before .before .before .before .before .before .before
+
+-- a turn of the loop, from its end: the call, and the test before it
+abbrev made : tie.After-slice-known16 Inv-loop μ-loop → tie.After-one-call Inv-loop μ-loop
+made c = c .before .before .before .before .before .before .before .before .before .before .before .before .before .before .before .before
+
+abbrev tested : tie.After-one-call Inv-loop μ-loop → tie.In-loop Inv-loop μ-loop
+tested c = c .before .before .before .before .before .before .before .before .before .before .before .before .before .before .before .before
+
+-- ── what is asked on the way
 loop-holds : tie.Need-loop-holds Inv-loop μ-loop
 loop-holds c = (refl, refl, refl, refl, refl, refl, refl, refl)
 
 mul-at : tie.Need-mul-at Inv-loop μ-loop
-mul-at c = omega (arith, c .loop-test .taken, c .before .before .before .before .before .before .before .before .before .before .before .before .before .good)
+mul-at c = omega (arith, c .loop-test .taken, start (c .before) .good)
 
 slice-aggregate-write-all : tie.Need-slice-aggregate-write-all Inv-loop μ-loop
 slice-aggregate-write-all c = search needs
@@ -82,15 +88,15 @@ one-call-requires : tie.Need-one-call-requires Inv-loop μ-loop
 one-call-requires c κs = search needs
 
 add-i : tie.Need-add-i Inv-loop μ-loop
-add-i c = omega (arith, c .before .before .before .before .before .before .before .before .before .before .before .before .before .before .before .before .before .before .before .before .before .before .before .before .before .before .before .before .before .before .before .before .loop-test .taken, c .before .before .before .before .before .before .before .before .before .before .before .before .before .before .before .before .before .before .before .before .before .before .before .before .before .before .before .before .before .before .before .before .before .before .before .before .before .before .before .before .before .before .before .before .before .good)
+add-i c = let t = tested (made c) in omega (arith, t .loop-test .taken, start (t .before) .good)
 
 loop-less : tie.Need-loop-less Inv-loop μ-loop
-loop-less c = omega (arith, c .before .before .before .before .before .before .before .before .before .before .before .before .before .before .before .before .before .before .before .before .before .before .before .before .before .before .before .before .before .before .before .before .loop-test .taken)
+loop-less c = omega (arith, tested (made c) .loop-test .taken)
 
 loop-again : tie.Need-loop-again Inv-loop μ-loop
 loop-again c =
-    let k = c .before .before .before .before .before .before .before .before .before .before .before .before .before .before .before .before .one-call .kept .1 .1 .1 .1 in
-    let v = c .before .before .before .before .before .before .before .before .before .before .before .before .before .before .before .before .before .before .before .before .before .before .before .before .before .before .before .before .before .before .before .before .before .loop .inv in
+    let k = made c .one-call .kept .1 .1 .1 .1 in
+    let v = tested (made c) .before .loop .inv in
     (k .0 ∙ v .0, k .1 .0 ∙ v .1, k .1 .1 .0 ∙ v .2, k .1 .1 .1 .0 ∙ v .3, k .1 .1 .1 .1 .0 ∙ v .4, k .1 .1 .1 .1 .1 .0 ∙ v .5, k .1 .1 .1 .1 .1 .1 .0 ∙ v .6, k .1 .1 .1 .1 .1 .1 .1 .0 ∙ v .7)
 
 same-length : tie.Need-same-length Inv-loop μ-loop

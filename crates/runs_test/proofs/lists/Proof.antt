@@ -1,5 +1,4 @@
 -- The buffers keep their lengths: each call leaves them as long as they were.
-use native.Mathlib.Omega.{arith}
 use borrow.Author.Needs.{needs}
 use mathlib.Core.Path.{_∙_}
 use Rattle.runs_test.proofs.lists.Statement.{statement}
@@ -10,6 +9,20 @@ use Rattle.runs_test.proofs.at_once.Reads as at-once-reads
 use Rattle.runs_test.proofs.each.Reads as each-reads
 use Rattle.runs_test.proofs.start.Reads as start-reads
 
+-- ── the calls, from the last one back
+abbrev last : tie.After-slice-known30 → tie.After-each
+last c = c .before .before .before .before .before .before .before .before .before .before .before .before .before .before .before .before
+
+abbrev again : tie.After-each → tie.After-start2
+again c = c .before .before .before .before .before .before .before .before .before .before .before .before .before .before .before .before .before
+
+abbrev once : tie.After-start2 → tie.After-at-once
+once c = c .before .before .before .before .before .before .before .before .before .before .before .before .before .before .before .before .before .before .before .before
+
+abbrev begun : tie.After-at-once → tie.After-start
+begun c = c .before .before .before .before .before .before .before .before .before .before .before .before .before .before .before .before .before
+
+-- ── what is asked on the way
 start-requires : tie.Need-start-requires
 start-requires c κs = search needs
 
@@ -36,49 +49,49 @@ each-requires c κs = search needs
 
 same-length : tie.Need-same-length
 same-length c =
-    c .before .before .before .before .before .before .before .before .before .before .before .before .before .before .before .before .each .kept .1 .1 .1 .1 .0
-    ∙ c .before .before .before .before .before .before .before .before .before .before .before .before .before .before .before .before .before .before .before .before .before .before .before .before .before .before .before .before .before .before .before .before .before .start2 .kept .0
-    ∙ c .before .before .before .before .before .before .before .before .before .before .before .before .before .before .before .before .before .before .before .before .before .before .before .before .before .before .before .before .before .before .before .before .before .before .before .before .before .before .before .before .before .before .before .before .before .before .before .before .before .before .before .before .before .at-once .kept .1 .1 .1 .1 .0
-    ∙ c .before .before .before .before .before .before .before .before .before .before .before .before .before .before .before .before .before .before .before .before .before .before .before .before .before .before .before .before .before .before .before .before .before .before .before .before .before .before .before .before .before .before .before .before .before .before .before .before .before .before .before .before .before .before .before .before .before .before .before .before .before .before .before .before .before .before .before .before .before .before .start .kept .0
+    last c .each .kept .1 .1 .1 .1 .0
+    ∙ again (last c) .start2 .kept .0
+    ∙ once (again (last c)) .at-once .kept .1 .1 .1 .1 .0
+    ∙ begun (once (again (last c))) .start .kept .0
 
 same-length-2 : tie.Need-same-length-2
 same-length-2 c =
-    c .before .before .before .before .before .before .before .before .before .before .before .before .before .before .before .before .each .kept .1 .1 .1 .1 .1 .0
-    ∙ c .before .before .before .before .before .before .before .before .before .before .before .before .before .before .before .before .before .before .before .before .before .before .before .before .before .before .before .before .before .before .before .before .before .start2 .kept .1 .0
-    ∙ c .before .before .before .before .before .before .before .before .before .before .before .before .before .before .before .before .before .before .before .before .before .before .before .before .before .before .before .before .before .before .before .before .before .before .before .before .before .before .before .before .before .before .before .before .before .before .before .before .before .before .before .before .before .at-once .kept .1 .1 .1 .1 .1 .0
-    ∙ c .before .before .before .before .before .before .before .before .before .before .before .before .before .before .before .before .before .before .before .before .before .before .before .before .before .before .before .before .before .before .before .before .before .before .before .before .before .before .before .before .before .before .before .before .before .before .before .before .before .before .before .before .before .before .before .before .before .before .before .before .before .before .before .before .before .before .before .before .before .before .start .kept .1 .0
+    last c .each .kept .1 .1 .1 .1 .1 .0
+    ∙ again (last c) .start2 .kept .1 .0
+    ∙ once (again (last c)) .at-once .kept .1 .1 .1 .1 .1 .0
+    ∙ begun (once (again (last c))) .start .kept .1 .0
 
 same-length-3 : tie.Need-same-length-3
 same-length-3 c =
-    c .before .before .before .before .before .before .before .before .before .before .before .before .before .before .before .before .each .kept .1 .1 .1 .1 .1 .1 .0
-    ∙ c .before .before .before .before .before .before .before .before .before .before .before .before .before .before .before .before .before .before .before .before .before .before .before .before .before .before .before .before .before .before .before .before .before .start2 .kept .1 .1 .0
-    ∙ c .before .before .before .before .before .before .before .before .before .before .before .before .before .before .before .before .before .before .before .before .before .before .before .before .before .before .before .before .before .before .before .before .before .before .before .before .before .before .before .before .before .before .before .before .before .before .before .before .before .before .before .before .before .at-once .kept .1 .1 .1 .1 .1 .1 .0
-    ∙ c .before .before .before .before .before .before .before .before .before .before .before .before .before .before .before .before .before .before .before .before .before .before .before .before .before .before .before .before .before .before .before .before .before .before .before .before .before .before .before .before .before .before .before .before .before .before .before .before .before .before .before .before .before .before .before .before .before .before .before .before .before .before .before .before .before .before .before .before .before .before .start .kept .1 .1 .0
+    last c .each .kept .1 .1 .1 .1 .1 .1 .0
+    ∙ again (last c) .start2 .kept .1 .1 .0
+    ∙ once (again (last c)) .at-once .kept .1 .1 .1 .1 .1 .1 .0
+    ∙ begun (once (again (last c))) .start .kept .1 .1 .0
 
 same-length-4 : tie.Need-same-length-4
 same-length-4 c =
-    c .before .before .before .before .before .before .before .before .before .before .before .before .before .before .before .before .each .kept .1 .1 .1 .1 .1 .1 .1 .0
-    ∙ c .before .before .before .before .before .before .before .before .before .before .before .before .before .before .before .before .before .before .before .before .before .before .before .before .before .before .before .before .before .before .before .before .before .before .before .before .before .before .before .before .before .before .before .before .before .before .before .before .before .before .before .before .before .at-once .kept .1 .1 .1 .1 .1 .1 .1 .0
+    last c .each .kept .1 .1 .1 .1 .1 .1 .1 .0
+    ∙ once (again (last c)) .at-once .kept .1 .1 .1 .1 .1 .1 .1 .0
 
 same-length-5 : tie.Need-same-length-5
 same-length-5 c =
-    c .before .before .before .before .before .before .before .before .before .before .before .before .before .before .before .before .each .kept .1 .1 .1 .1 .1 .1 .1 .1 .0
-    ∙ c .before .before .before .before .before .before .before .before .before .before .before .before .before .before .before .before .before .before .before .before .before .before .before .before .before .before .before .before .before .before .before .before .before .before .before .before .before .before .before .before .before .before .before .before .before .before .before .before .before .before .before .before .before .at-once .kept .1 .1 .1 .1 .1 .1 .1 .1 .0
+    last c .each .kept .1 .1 .1 .1 .1 .1 .1 .1 .0
+    ∙ once (again (last c)) .at-once .kept .1 .1 .1 .1 .1 .1 .1 .1 .0
 
 same-length-6 : tie.Need-same-length-6
 same-length-6 c =
-    c .before .before .before .before .before .before .before .before .before .before .before .before .before .before .before .before .each .kept .1 .1 .1 .1 .1 .1 .1 .1 .1 .0
-    ∙ c .before .before .before .before .before .before .before .before .before .before .before .before .before .before .before .before .before .before .before .before .before .before .before .before .before .before .before .before .before .before .before .before .before .before .before .before .before .before .before .before .before .before .before .before .before .before .before .before .before .before .before .before .before .at-once .kept .1 .1 .1 .1 .1 .1 .1 .1 .1 .0
+    last c .each .kept .1 .1 .1 .1 .1 .1 .1 .1 .1 .0
+    ∙ once (again (last c)) .at-once .kept .1 .1 .1 .1 .1 .1 .1 .1 .1 .0
 
 same-length-7 : tie.Need-same-length-7
 same-length-7 c =
-    c .before .before .before .before .before .before .before .before .before .before .before .before .before .before .before .before .each .kept .1 .1 .1 .1 .1 .1 .1 .1 .1 .1 .0
-    ∙ c .before .before .before .before .before .before .before .before .before .before .before .before .before .before .before .before .before .before .before .before .before .before .before .before .before .before .before .before .before .before .before .before .before .before .before .before .before .before .before .before .before .before .before .before .before .before .before .before .before .before .before .before .before .at-once .kept .1 .1 .1 .1 .1 .1 .1 .1 .1 .1 .0
+    last c .each .kept .1 .1 .1 .1 .1 .1 .1 .1 .1 .1 .0
+    ∙ once (again (last c)) .at-once .kept .1 .1 .1 .1 .1 .1 .1 .1 .1 .1 .0
 
 same-length-8 : tie.Need-same-length-8
 same-length-8 c =
-    c .before .before .before .before .before .before .before .before .before .before .before .before .before .before .before .before .each .kept .1 .1 .1 .1 .1 .1 .1 .1 .1 .1 .1 .0
-    ∙ c .before .before .before .before .before .before .before .before .before .before .before .before .before .before .before .before .before .before .before .before .before .before .before .before .before .before .before .before .before .before .before .before .before .before .before .before .before .before .before .before .before .before .before .before .before .before .before .before .before .before .before .before .before .at-once .kept .1 .1 .1 .1 .1 .1 .1 .1 .1 .1 .1 .0
+    last c .each .kept .1 .1 .1 .1 .1 .1 .1 .1 .1 .1 .1 .0
+    ∙ once (again (last c)) .at-once .kept .1 .1 .1 .1 .1 .1 .1 .1 .1 .1 .1 .0
 
 returns : tie.Need-returns
 returns c = search needs

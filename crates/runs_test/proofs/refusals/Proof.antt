@@ -1,5 +1,4 @@
 -- The buffers keep their lengths: two calls after another write into the first set.
-use native.Mathlib.Omega.{arith}
 use borrow.Author.Needs.{needs}
 use mathlib.Core.Path.{_∙_}
 use Rattle.runs_test.proofs.refusals.Statement.{statement}
@@ -10,6 +9,17 @@ use Rattle.runs_test.proofs.refused_lists.Reads as refused-lists-reads
 use Rattle.runs_test.proofs.show.Reads as show-reads
 use Rattle.runs_test.proofs.start.Reads as start-reads
 
+-- ── the calls, from the last one back
+abbrev shown : tie.After-show → tie.After-answers
+shown c = c .before .before .before .before .before .before .before .before .before .before
+
+abbrev ran : tie.After-answers → tie.After-refused-lists
+ran c = c .before .before .before .before .before .before .before .before .before .before .before .before .before .before .before
+
+abbrev begun : tie.After-refused-lists → tie.After-start
+begun c = c .before .before .before .before .before .before .before .before .before .before .before .before .before .before .before .before .before .before
+
+-- ── what is asked on the way
 start-requires : tie.Need-start-requires
 start-requires c κs = search needs
 
@@ -29,19 +39,13 @@ show-requires : tie.Need-show-requires
 show-requires c κs = search needs
 
 same-length : tie.Need-same-length
-same-length c =
-    c .before .before .before .before .before .before .before .before .before .before .before .before .before .before .before .before .before .before .before .before .before .before .before .before .before .refused-lists .kept .1 .1 .1 .1 .0
-    ∙ c .before .before .before .before .before .before .before .before .before .before .before .before .before .before .before .before .before .before .before .before .before .before .before .before .before .before .before .before .before .before .before .before .before .before .before .before .before .before .before .before .before .before .before .start .kept .0
+same-length c = ran (shown c) .refused-lists .kept .1 .1 .1 .1 .0 ∙ begun (ran (shown c)) .start .kept .0
 
 same-length-2 : tie.Need-same-length-2
-same-length-2 c =
-    c .before .before .before .before .before .before .before .before .before .before .before .before .before .before .before .before .before .before .before .before .before .before .before .before .before .refused-lists .kept .1 .1 .1 .1 .1 .0
-    ∙ c .before .before .before .before .before .before .before .before .before .before .before .before .before .before .before .before .before .before .before .before .before .before .before .before .before .before .before .before .before .before .before .before .before .before .before .before .before .before .before .before .before .before .before .start .kept .1 .0
+same-length-2 c = ran (shown c) .refused-lists .kept .1 .1 .1 .1 .1 .0 ∙ begun (ran (shown c)) .start .kept .1 .0
 
 same-length-3 : tie.Need-same-length-3
-same-length-3 c =
-    c .before .before .before .before .before .before .before .before .before .before .before .before .before .before .before .before .before .before .before .before .before .before .before .before .before .refused-lists .kept .1 .1 .1 .1 .1 .1 .0
-    ∙ c .before .before .before .before .before .before .before .before .before .before .before .before .before .before .before .before .before .before .before .before .before .before .before .before .before .before .before .before .before .before .before .before .before .before .before .before .before .before .before .before .before .before .before .start .kept .1 .1 .0
+same-length-3 c = ran (shown c) .refused-lists .kept .1 .1 .1 .1 .1 .1 .0 ∙ begun (ran (shown c)) .start .kept .1 .1 .0
 
 same-length-4 : tie.Need-same-length-4
 same-length-4 c = search needs

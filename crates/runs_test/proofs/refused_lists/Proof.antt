@@ -12,25 +12,31 @@ use Rattle.runs_test.proofs.refused_list.Reads as refused-list-reads
 use Rattle.runs_test.proofs.row_at.Reads as row-at-reads
 
 abbrev Inv-loop : tie.InvT-loop
-Inv-loop rows bad pool pool-numbers bytes₀ numbers₀ texts₀ other-bytes₀ other-numbers₀ other-texts₀ lines₀ answers₀ i₀ bytes numbers texts other-bytes other-numbers other-texts lines answers i =
-    (length bytes ≡ length bytes₀)
-    × (length numbers ≡ length numbers₀)
-    × (length texts ≡ length texts₀)
-    × (length other-bytes ≡ length other-bytes₀)
-    × (length other-numbers ≡ length other-numbers₀)
-    × (length other-texts ≡ length other-texts₀)
-    × (length lines ≡ length lines₀)
-    × (length answers ≡ length answers₀)
+Inv-loop rs bs ps ns d₀ e₀ t₀ d′₀ e′₀ t′₀ l₀ a₀ i₀ d e t d′ e′ t′ l a i =
+    (length d ≡ length d₀) × (length e ≡ length e₀) × (length t ≡ length t₀)
+    × (length d′ ≡ length d′₀) × (length e′ ≡ length e′₀) × (length t′ ≡ length t′₀) × (length l ≡ length l₀) × (length a ≡ length a₀)
 
 abbrev μ-loop : tie.MeasureT-loop
-μ-loop rows bad pool pool-numbers bytes₀ numbers₀ texts₀ other-bytes₀ other-numbers₀ other-texts₀ lines₀ answers₀ i₀ bytes numbers texts other-bytes other-numbers other-texts lines answers i =
-    length rows / 5 - i
+μ-loop rs bs ps ns d₀ e₀ t₀ d′₀ e′₀ t′₀ l₀ a₀ i₀ d e t d′ e′ t′ l a i =
+    length rs / 5 - i
 
+-- ── the places on the way
+abbrev start : tie.At-loop Inv-loop μ-loop → tie.Start Inv-loop μ-loop
+start c = c .before .before .before .before .before .before .before .before .before .before .before .before .before
+
+-- a turn of the loop, from its end: the call, and the test before it
+abbrev made : tie.After-slice-known16 Inv-loop μ-loop → tie.After-refused-list Inv-loop μ-loop
+made c = c .before .before .before .before .before .before .before .before .before .before .before .before .before .before .before .before
+
+abbrev tested : tie.After-refused-list Inv-loop μ-loop → tie.In-loop Inv-loop μ-loop
+tested c = c .before .before .before .before .before .before .before .before .before .before
+
+-- ── what is asked on the way
 loop-holds : tie.Need-loop-holds Inv-loop μ-loop
 loop-holds c = (refl, refl, refl, refl, refl, refl, refl, refl)
 
 mul-row-at : tie.Need-mul-row-at Inv-loop μ-loop
-mul-row-at c = omega (arith, c .loop-test .taken, c .before .before .before .before .before .before .before .before .before .before .before .before .before .before .good)
+mul-row-at c = omega (arith, c .loop-test .taken, start (c .before) .good)
 
 row-at-requires : tie.Need-row-at-requires Inv-loop μ-loop
 row-at-requires c κs = omega (arith, c .loop-test .taken)
@@ -39,15 +45,15 @@ refused-list-requires : tie.Need-refused-list-requires Inv-loop μ-loop
 refused-list-requires c κs = search needs
 
 add-i : tie.Need-add-i Inv-loop μ-loop
-add-i c = omega (arith, c .before .before .before .before .before .before .before .before .before .before .before .before .before .before .before .before .before .before .before .before .before .before .before .before .before .before .loop-test .taken, c .before .before .before .before .before .before .before .before .before .before .before .before .before .before .before .before .before .before .before .before .before .before .before .before .before .before .before .before .before .before .before .before .before .before .before .before .before .before .before .before .good)
+add-i c = let t = tested (made c) in omega (arith, t .loop-test .taken, start (t .before) .good)
 
 loop-less : tie.Need-loop-less Inv-loop μ-loop
-loop-less c = omega (arith, c .before .before .before .before .before .before .before .before .before .before .before .before .before .before .before .before .before .before .before .before .before .before .before .before .before .before .loop-test .taken)
+loop-less c = omega (arith, tested (made c) .loop-test .taken)
 
 loop-again : tie.Need-loop-again Inv-loop μ-loop
 loop-again c =
-    let k = c .before .before .before .before .before .before .before .before .before .before .before .before .before .before .before .before .refused-list .kept .1 .1 .1 .1 in
-    let v = c .before .before .before .before .before .before .before .before .before .before .before .before .before .before .before .before .before .before .before .before .before .before .before .before .before .before .before .loop .inv in
+    let k = made c .refused-list .kept .1 .1 .1 .1 in
+    let v = tested (made c) .before .loop .inv in
     (k .0 ∙ v .0, k .1 .0 ∙ v .1, k .1 .1 .0 ∙ v .2, k .1 .1 .1 .0 ∙ v .3, k .1 .1 .1 .1 .0 ∙ v .4, k .1 .1 .1 .1 .1 .0 ∙ v .5, k .1 .1 .1 .1 .1 .1 .0 ∙ v .6, k .1 .1 .1 .1 .1 .1 .1 .0 ∙ v .7)
 
 same-length : tie.Need-same-length Inv-loop μ-loop
