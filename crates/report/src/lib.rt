@@ -1,9 +1,9 @@
-// Printing for the programs that are run: lists of numbers and answers, each number with a space before it.
+// Printing for the programs that are run: numbers, lists of them, bytes and answers, each with a space before it.
 // Proved to be safe and no more: what a program prints is held to its file `stdout`.
 use recording::Answer;
 use recording::number_of;
 
-fn number(n: u64) {
+pub fn number(n: u64) {
     io::write_all(1, b" ");
     io::print_decimal(1, n);
 }
@@ -12,6 +12,25 @@ pub fn numbers(s: &[u32]) {
     let mut i = 0;
     while i < s.len() {
         number(s[i] as u64);
+        i += 1;
+    }
+}
+
+fn byte(b: u8) {
+    if b == 10 {
+        io::write_all(1, b"$");
+        return;
+    }
+    let one = [b];
+    io::write_all(1, &one);
+}
+
+// Bytes as they are, with 0A shown as `$`.
+pub fn text(s: &[u8]) {
+    io::write_all(1, b" ");
+    let mut i = 0;
+    while i < s.len() {
+        byte(s[i]);
         i += 1;
     }
 }
