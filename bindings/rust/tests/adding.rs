@@ -2,17 +2,10 @@
 use ruszvedok::lent::{self, Buffers, Done, Used, View};
 use ruszvedok::*;
 
-/// Numbers that look random, the same in each run.
-struct Numbers(u64);
+mod numbers;
+use numbers::Numbers;
 
 impl Numbers {
-    fn below(&mut self, n: usize) -> usize {
-        self.0 ^= self.0 << 13;
-        self.0 ^= self.0 >> 7;
-        self.0 ^= self.0 << 17;
-        (self.0 >> 16) as usize % n
-    }
-
     /// Mostly small, sometimes around a limit.
     fn size(&mut self, limit: usize) -> usize {
         match self.below(16) {

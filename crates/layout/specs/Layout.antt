@@ -114,6 +114,7 @@ abbrev pub singleOps : Single → Bytes → List Op
 singleOps (writeWrapped w b) d = wrapOps (length d) 0 (wrapLines w b d)
 singleOps (writeReplaced xs t) d = replaceOps t 0 xs
 
+-- the lines that it leaves in the line list
 abbrev pub singleLines : Single → Bytes → List Line
 singleLines (writeWrapped w b) d = wrapLines w b d
 singleLines (writeReplaced xs t) d = []
@@ -173,6 +174,7 @@ abbrev pub recordsFault : ℕ → ℕ → ℕ → List Replacement → ℕ
 recordsFault at n t [] = 0
 recordsFault at n t (x ∷ xs) = cond (badRecord at n t x) 8 (recordsFault (x .end) n t xs)
 
+-- the refusals of a call on the content alone: of replacing, 8
 abbrev pub singleFault : Single → Bytes → ℕ
 singleFault (writeWrapped w b) d = 0
 singleFault (writeReplaced xs t) d = recordsFault 0 (length d) (length t) xs

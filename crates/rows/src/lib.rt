@@ -291,6 +291,7 @@ fn help(output: i32) {
 }
 
 // The program, with the files that it reads and writes: `--help` tells what it does.
+// No contract can say what is read from a file or written to one: what is printed is what `write_output` promises of the bytes that `read_sheet` has counted.
 pub fn run(argument: &[u8], input: i32, output: i32, errors: i32) {
     if check::same(argument, b"--help") {
         help(output);
