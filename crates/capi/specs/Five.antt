@@ -6,7 +6,7 @@ use Rattle.recording.specs.Recording.{Recording}
 use Rattle.recording.specs.Outcome.{Outcome, Lent, lentAfter, Returned, returned}
 use Rattle.layout.specs.Layout.{Job, outcome}
 use Rattle.layout.specs.Lent.{callIn}
-use Rattle.runs.specs.Runs.{Given, Buffers, runFault, returnedRun, leftRun, LaidOut}
+use Rattle.call_lists.specs.Runs.{Given, Buffers, runFault, returnedRun, leftRun, LaidOut}
 
 unfoldable pub five : Returned → List ℕ
 five r = r .refusal ∷ r .dataBytes ∷ r .entryNumbers ∷ r .text ∷ r .number ∷ []

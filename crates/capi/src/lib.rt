@@ -38,7 +38,7 @@ ghost use Rattle.layout.specs.Layout.{truncateStart, truncateEnd, padStart, pad
 ghost use Rattle.layout.specs.Lent.{lentOf, lentLined};
 ghost use Rattle.wrap_lines.specs.WrapBytes.{lentLines, wrapBytesOutcome};
 ghost use Rattle.replace.specs.Records.{recordsOf};
-ghost use Rattle.runs.specs.Runs.{given, buffers};
+ghost use Rattle.call_lists.specs.Runs.{given, buffers};
 ghost use Rattle.elide.specs.Elide.{lent, elideEndOutcome, elideStartOutcome, completeNewlineOutcome};
 ghost use Rattle.capi.specs.Five.{five, PromisedNumbers, LeavesNumbers, RunsNumbers};
 

@@ -1,8 +1,8 @@
 // Runs lists of layout calls: lists that are refused, with the buffers as they were; one list of all kinds, refused calls among them, by one call; and its calls one by one.
 // What is proved of a program is that it is safe; what it should print stands in the file `stdout`: the five numbers, the two sets of buffers, the line list and the list of answers.
 use buffer::put;
+use call_lists::put_numbers;
 use recording::Answer;
-use runs::put_numbers;
 use runs::run_calls;
 ghost use Prim.Native.Nat.{_+_, _≤_};
 ghost use lib.ListN.{length};

@@ -5,7 +5,7 @@ use mathlib.Core.List.{List}
 use borrow.Author.Needs.{needs}
 use Rattle.recording.specs.declared.Answer.{Answer}
 use Rattle.recording.specs.Outcome.{Returned, answerOf}
-use Rattle.runs.specs.Runs.{Given, Buffers, LaidOut, RunsCalls}
+use Rattle.call_lists.specs.Runs.{Given, Buffers, LaidOut, RunsCalls}
 use Rattle.capi.specs.Five.{five, RunsNumbers}
 use Rattle.capi.proofs.ruszvedok_run_calls.Statement.{statement}
 use Rattle.capi.proofs.ruszvedok_run_calls.Tie as tie

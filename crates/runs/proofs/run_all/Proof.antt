@@ -1,7 +1,7 @@
 -- All calls lead where the definition leads. Invariant: `RunLaws.Running`, what is left of the list leads there from the state as it stands.
 use native.Mathlib.Omega.{arith}
-use Rattle.runs.proofs.RunLaws.{Running, Same, starts, head-fits, again, ran}
-use Rattle.runs.specs.Runs.{State, state}
+use Rattle.call_lists.proofs.RunLaws.{Running, Same, starts, head-fits, again, ran}
+use Rattle.call_lists.specs.Runs.{State, state}
 use Rattle.layout.specs.Lent.{lentOf}
 use Rattle.recording.specs.Outcome.{Lent}
 use lib.ListN.{length}
@@ -12,8 +12,8 @@ use Rattle.runs.proofs.run_all.Statement.{statement}
 use Rattle.runs.proofs.run_all.Tie as tie
 use Rattle.runs.proofs.run_all.Reads as reads
 use Rattle.runs.proofs.run_all.Lts as lts
-use Rattle.runs.proofs.moved.Reads as moved-reads
-use Rattle.runs.proofs.put_answer.Reads as put-answer-reads
+use Rattle.call_lists.proofs.moved.Reads as moved-reads
+use Rattle.call_lists.proofs.put_answer.Reads as put-answer-reads
 use Rattle.runs.proofs.turn.Reads as turn-reads
 
 abbrev Inv-loop : tie.InvT-loop

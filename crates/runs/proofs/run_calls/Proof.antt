@@ -1,7 +1,7 @@
 -- The promise of `run_calls`: what its parts promise, put together by `proofs/PromiseLaws.antt`.
 use borrow.Author.Needs.{needs}
-use Rattle.runs.proofs.PromiseLaws.{input-fault, is-room, accepted, refuses, finishes}
-use Rattle.runs.specs.Runs.{Given, given, Buffers, buffers, runFault}
+use Rattle.call_lists.proofs.PromiseLaws.{input-fault, is-room, accepted, refuses, finishes}
+use Rattle.call_lists.specs.Runs.{Given, given, Buffers, buffers, runFault}
 use Rattle.layout.specs.Lent.{lentOf}
 use Rattle.writer.specs.Sizes.{settledFault}
 use mathlib.Core.Path.{_≡_, refl}
@@ -9,11 +9,11 @@ use Rattle.runs.proofs.run_calls.Statement.{statement}
 use Rattle.runs.proofs.run_calls.Tie as tie
 use Rattle.runs.proofs.run_calls.Reads as reads
 use Rattle.runs.proofs.run_calls.Lts as lts
-use Rattle.runs.proofs.alike.Reads as alike-reads
-use Rattle.runs.proofs.bring_back.Reads as bring-back-reads
-use Rattle.runs.proofs.check_input.Reads as check-input-reads
+use Rattle.call_lists.proofs.alike.Reads as alike-reads
+use Rattle.call_lists.proofs.bring_back.Reads as bring-back-reads
+use Rattle.call_lists.proofs.check_input.Reads as check-input-reads
 use Rattle.runs.proofs.run_all.Reads as run-all-reads
-use Rattle.runs.proofs.too_long.Reads as too-long-reads
+use Rattle.call_lists.proofs.too_long.Reads as too-long-reads
 
 -- ── the places on the way, and what is known there
 -- what the call was given and lent

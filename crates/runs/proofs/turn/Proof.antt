@@ -1,8 +1,8 @@
 -- One call on the content where it stands: the promise of `make_call`, by the set (`to-other`, `to-first`).
 use native.Mathlib.Omega.{arith}
 use borrow.Author.Needs.{needs}
-use Rattle.runs.proofs.StateLaws.{to-other, to-first}
-use Rattle.runs.specs.Requests.{requestAt, jobIn}
+use Rattle.call_lists.proofs.StateLaws.{to-other, to-first}
+use Rattle.requests.specs.Requests.{requestAt, jobIn}
 use Rattle.layout.specs.Lent.{lentOf}
 use Rattle.layout.specs.Layout.{Job}
 use Rattle.recording.specs.Outcome.{Lent}
@@ -11,7 +11,7 @@ use Rattle.runs.proofs.turn.Statement.{statement}
 use Rattle.runs.proofs.turn.Tie as tie
 use Rattle.runs.proofs.turn.Reads as reads
 use Rattle.runs.proofs.turn.Lts as lts
-use Rattle.runs.proofs.make_call.Reads as make-call-reads
+use Rattle.requests.proofs.make_call.Reads as make-call-reads
 
 -- ── what the call was given
 -- before the sets are told apart

@@ -1,0 +1,4 @@
+pub mod Stores
+pub mod StateLaws
+pub mod RunLaws
+pub mod PromiseLaws
