@@ -185,7 +185,7 @@ static void lists(void)
     ruszvedok_call_answer answers[10];
     RUSZVEDOK_RECORDING(row, 32, 4, 8);
     RUSZVEDOK_RECORDING(other, 32, 4, 8);
-    RUSZVEDOK_CALLS(list, 10, 16, 8);
+    RUSZVEDOK_CALLS(list, COUNT(answers), 16, 8);
     ruszvedok_string_to(&row, "red spruce");
     expect("list", ruszvedok_add_call(&list, RUSZVEDOK_CALL_TRUNCATE_END, 8, dots)); /* "red sp.." */
     expect("list", ruszvedok_add_call(&list, RUSZVEDOK_CALL_TRUNCATE_START, 5, dots)); /* "..p.." */
@@ -198,17 +198,20 @@ static void lists(void)
     expect("list", ruszvedok_add_call(&list, RUSZVEDOK_CALL_WRAP, 5, none)); /* ">", "X...p....." */
     expect("list", !ruszvedok_add_call(&list, RUSZVEDOK_CALL_PAD_END, 5, ruszvedok_plain("too long for the pool")) && list.calls_len == 9);
     expect("list", ruszvedok_add_call(&list, RUSZVEDOK_CALL_WRAP_BREAKING, 5, none)); /* ">", "X...p", "....." */
-    expect("list", !ruszvedok_add_call(&list, RUSZVEDOK_CALL_WRAP, 5, none) && list.calls_len == 10);
+    expect("list", !ruszvedok_add_call(&list, RUSZVEDOK_CALL_WRAP, 5, none) && list.calls_len == COUNT(answers));
 
     /* A list of answers that is too short: nothing is touched. */
     memset(answers, 0xEE, sizeof answers);
-    expect("answers", ruszvedok_run_calls_to(&row, &other, &list, lines, COUNT(lines), answers, 9).refusal == RUSZVEDOK_ANSWER_LIST_TOO_SHORT);
-    expect("answers", row.data_len == 10 && memcmp(row.data, "red spruce", 10) == 0 && answers[0].refusal == answers[9].number);
+    expect("answers", ruszvedok_run_calls_to(&row, &other, &list, lines, COUNT(lines), answers, COUNT(answers) - 1).refusal
+            == RUSZVEDOK_ANSWER_LIST_TOO_SHORT);
+    expect("answers", row.data_len == 10 && memcmp(row.data, "red spruce", 10) == 0
+            && answers[0].refusal == answers[COUNT(answers) - 1].number);
     other.data_room--;
-    expect("sets", ruszvedok_run_calls_to(&row, &other, &list, lines, COUNT(lines), answers, 10).refusal == RUSZVEDOK_SETS_DIFFER);
+    expect("sets", ruszvedok_run_calls_to(&row, &other, &list, lines, COUNT(lines), answers, COUNT(answers)).refusal == RUSZVEDOK_SETS_DIFFER);
     other.data_room++;
-    holds("list, run", ruszvedok_run_calls_to(&row, &other, &list, lines, COUNT(lines), answers, 10), &row, ">\nX...p\n.....", 9);
-    answered("list, answers", answers, 10, wanted);
+    holds("list, run", ruszvedok_run_calls_to(&row, &other, &list, lines, COUNT(lines), answers, COUNT(answers)), &row,
+        ">\nX...p\n.....", COUNT(answers) - 1);
+    answered("list, answers", answers, COUNT(answers), wanted);
 }
 
 /* What refuses a list by its numbers: calls that are no calls, a length. */

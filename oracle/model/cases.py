@@ -3,6 +3,7 @@ import random
 
 import lists
 
+from runs import NAMES
 from ruszvedok_model import balanced, call, chars, coloured, recording, text_width, wraplist
 
 WRAPS = [
@@ -84,7 +85,7 @@ def random_recording(pick, inside=True):
 
 
 def random_call(pick):
-    name = pick.choice("write_truncated_start write_truncated_end write_padded_start write_padded_end write_padded_centered write_indented write_wrapped write_replaced".split())
+    name = pick.choice(list(dict.fromkeys(NAMES)))
     if name == "write_wrapped":
         return name, pick.randrange(6), pick.random() < 0.5
     if name == "write_replaced":

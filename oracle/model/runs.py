@@ -14,7 +14,7 @@ def fault(calls, pool, pool_numbers, used, first, other, answers):
         return 61
     rows = [calls[i:i + 8] for i in range(0, len(calls), 8)]
     inside = lambda a, b, whole: a <= b <= len(whole)
-    if len(calls) % 8 or any(k > 8 or not (inside(a, b, pool) and inside(n, m, pool_numbers) and inside(s, e, pool)) for k, _, a, b, n, m, s, e in rows):
+    if len(calls) % 8 or any(k >= len(NAMES) or not (inside(a, b, pool) and inside(n, m, pool_numbers) and inside(s, e, pool)) for k, _, a, b, n, m, s, e in rows):
         return 62
     return 63 if len(answers) < 2 * len(rows) else 0
 

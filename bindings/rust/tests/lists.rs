@@ -146,7 +146,7 @@ const CONTENTS: [View; 5] = [
     View { data: b"ill", entries: &[4, 1, 0, 0], text: b"" },
 ];
 
-const KINDS: [Kind; 9] = [
+const KINDS: &[Kind] = &[
     Kind::TruncateStart,
     Kind::TruncateEnd,
     Kind::PadStart,
@@ -174,7 +174,7 @@ fn lent_as_one_by_one() {
         let (mut bytes, mut numbers) = (vec![], vec![]);
         let calls: Vec<Call> = (0..random.below(7))
             .map(|_| {
-                let kind = *random.of(&KINDS);
+                let kind = *random.of(KINDS);
                 let part = *random.of(if kind == Kind::Replace { &RECORDS } else { &SECONDS });
                 let (data, entries) = (pooled(&mut bytes, part.data), pooled(&mut numbers, part.entries));
                 Call { kind, width: random.width() as u32, data, entries, text: pooled(&mut bytes, part.text) }
@@ -296,16 +296,17 @@ fn layouts_as_one_by_one() {
         let layouts: Vec<Layout> = (0..random.below(7))
             .map(|_| {
                 let (width, second) = (random.width(), random.of(&seconds));
-                match random.below(9) {
-                    0 => Layout::TruncateStart { max_width: width, ellipsis: second },
-                    1 => Layout::TruncateEnd { max_width: width, ellipsis: second },
-                    2 => Layout::PadStart { min_width: width, fill: second },
-                    3 => Layout::PadEnd { min_width: width, fill: second },
-                    4 => Layout::PadCentered { min_width: width, fill: second },
-                    5 => Layout::Indent { prefix: second },
-                    6 => Layout::Wrap { width, break_words: false },
-                    7 => Layout::Wrap { width, break_words: true },
-                    _ => Layout::Replace { records: &random.of(&records)[..], text: b"X\n" },
+                match random.of(KINDS) {
+                    Kind::TruncateStart => Layout::TruncateStart { max_width: width, ellipsis: second },
+                    Kind::TruncateEnd => Layout::TruncateEnd { max_width: width, ellipsis: second },
+                    Kind::PadStart => Layout::PadStart { min_width: width, fill: second },
+                    Kind::PadEnd => Layout::PadEnd { min_width: width, fill: second },
+                    Kind::PadCentered => Layout::PadCentered { min_width: width, fill: second },
+                    Kind::Indent => Layout::Indent { prefix: second },
+                    Kind::Wrap => Layout::Wrap { width, break_words: false },
+                    Kind::WrapBreaking => Layout::Wrap { width, break_words: true },
+                    Kind::Replace => Layout::Replace { records: &random.of(&records)[..], text: b"X\n" },
+                    _ => unreachable!(),
                 }
             })
             .collect();

@@ -1,4 +1,4 @@
--- The eight layout calls (document 01, modules 2 to 5): what each leaves, returns and refuses.
+-- The layout calls (document 01, modules 2 to 5): what each leaves, returns and refuses.
 use Prim.Native.Nat.{ℕ, zero, suc, _+_, _-_, _/_}
 use mathlib.Core.Bool.{Bool, true, cond, _&&_, _||_, not}
 use mathlib.Core.List.{List, [], _∷_, _++_}
@@ -191,7 +191,7 @@ faultsOf j r = record { lengths = 0; content = recordingFault r; second = second
 unfoldable pub refusal : Call → Recording → ℕ
 refusal c r = refusalOf (faultsOf (c .job) r) (c .room) (resultOf (c .job) r)
 
--- THE OUTCOME of a call, in all eight contracts and in the theorem
+-- THE OUTCOME of a call, in the contract of each and in the theorem
 unfoldable pub outcome : Call → Recording → Outcome
 outcome c r = settle (faultsOf (c .job) r) (c .room) (resultOf (c .job) r)
 

