@@ -1,9 +1,9 @@
-//! Times the library against the Rust originals: `bench [--rounds N] [--one] [CASE...]`.
+//! Times the library against the Rust originals: `bench [--rounds N] [--one] [CASE...]`; or `bench --count [CASE...]`, which `count` runs.
 mod cases;
 
 use std::process::ExitCode;
 
-use bench::inputs::{Input, KINDS};
+use bench::inputs::{Input, KINDS, Kind};
 use bench::timing;
 use cases::{CASES, Case};
 
@@ -23,13 +23,19 @@ fn table(case: &Case, rounds: usize, many: usize) -> Result<(), String> {
     Ok(())
 }
 
+/// Not timed: the library's call twice on each of 64 short ASCII texts, once as it is compared and once as it would be timed.
+fn once(case: &Case) -> Result<(), String> {
+    (case.sides)(&Input::new(Kind::Ascii, 80, 64)).map(|pair| pair.rattle_once())
+}
+
 fn main() -> ExitCode {
-    let (mut rounds, mut many, mut names) = (30, 64, vec![]);
+    let (mut rounds, mut many, mut count, mut names) = (30, 64, false, vec![]);
     let mut words = std::env::args().skip(1);
     while let Some(word) = words.next() {
         match word.as_str() {
             "--rounds" => rounds = words.next().and_then(|n| n.parse().ok()).filter(|n| *n > 0).expect("--rounds N"),
             "--one" => many = 1,
+            "--count" => count = true,
             _ => names.push(word),
         }
     }
@@ -37,10 +43,13 @@ fn main() -> ExitCode {
         eprintln!("bench: no case {name}");
         return ExitCode::from(2);
     }
-    println!("Time of Rattle as a part of Rust's, below 1 is faster (in brackets: Rattle / Rust, nanoseconds a byte).");
-    println!("The shortest of {rounds} rounds in turns; short inputs are {many} text(s) in a row.");
+    if !count {
+        println!("Time of Rattle as a part of Rust's, below 1 is faster (in brackets: Rattle / Rust, nanoseconds a byte).");
+        println!("The shortest of {rounds} rounds in turns; short inputs are {many} text(s) in a row.");
+    }
     for case in CASES.iter().filter(|case| names.is_empty() || names.iter().any(|name| name == case.name)) {
-        if let Err(difference) = table(case, rounds, many) {
+        let done = if count { once(case) } else { table(case, rounds, many) };
+        if let Err(difference) = done {
             eprintln!("bench: the sides differ: {difference}");
             return ExitCode::FAILURE;
         }

@@ -37,6 +37,11 @@ impl Pair {
         };
         Self::new(parts, check, rust, rattle)
     }
+
+    /// The library's call, once on every part.
+    pub fn rattle_once(&self) {
+        (self.rattle)(1);
+    }
 }
 
 fn repeated<P: 'static, R>(parts: Rc<Vec<P>>, call: impl Fn(&P) -> R + 'static) -> Box<dyn Fn(usize)> {

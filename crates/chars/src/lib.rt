@@ -491,17 +491,6 @@ pub fn long_well_formed(t: &[u16; 256], s: &[u8]) -> bool
     well_formed_from(t, s, at)
 }
 
-// Whether each character of a text is well-formed. Short texts, as labels are, pay for no call: this is small enough to be inlined.
-pub fn well_formed(t: &[u16; 256], s: &[u8]) -> bool
-    requires { ⌜ now t ≡ leadTable ⌝ }
-    ensures { λ r. ⌜ r ≡ wellFormed (now (s .entry)) ⌝ }
-{
-    if 35 <= s.len() {
-        return long_well_formed(t, &s[0..]);
-    }
-    well_formed_from(t, s, 0)
-}
-
 // A place in a text, and the width of the part that is kept.
 pub struct Cut {
     pub pos: usize,
@@ -583,12 +572,29 @@ pub fn display_width(s: &[u8]) -> u64
     text_width(&t, s)
 }
 
-// Whether a text is well-formed UTF-8.
-pub fn is_well_formed(s: &[u8]) -> bool
+// Whether a text is well-formed UTF-8, by the table. It stays a call: it is called at two places.
+fn well_formed_by_table(s: &[u8]) -> bool
     ensures { λ r. ⌜ r ≡ wellFormed (now (s .entry)) ⌝ }
 {
     let t = LEADS;
-    well_formed(&t, s)
+    long_well_formed(&t, s)
+}
+
+// Whether a text is well-formed UTF-8. A short one in ASCII, as labels are, pays for no table and no call: this is small enough to be inlined.
+pub fn is_well_formed(s: &[u8]) -> bool
+    ensures { λ r. ⌜ r ≡ wellFormed (now (s .entry)) ⌝ }
+{
+    if 35 <= s.len() {
+        return well_formed_by_table(s);
+    }
+    let mut at = 0;
+    while at < s.len() {
+        if 127 < s[at] {
+            return well_formed_by_table(s);
+        }
+        at += 1;
+    }
+    true
 }
 
 // Where the longest beginning ends that is at most max wide, and its width.

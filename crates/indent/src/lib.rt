@@ -1,7 +1,6 @@
 // Indenting: `write_indented` (document 01, module 3), the prefix, a recording, before every line that is not empty.
 // It keeps one promise, `Leaves` (layout), for the job `indent`.
 // `bytes`, `numbers` and `texts` are the lent buffers; `content`, `entries` and `text` the recording that is indented.
-use chars::LEADS;
 use recording::Answer;
 use recording::CheckedBoth;
 use recording::check_both;
@@ -177,16 +176,7 @@ pub fn write_indented(
         (recording (now (content .entry)) (now (entries .entry)) (now (text .entry)))
         (lentOf (now (bytes .entry)) (now (numbers .entry)) (now (texts .entry))) (lentOf (now (bytes .exit)) (now (numbers .exit)) (now (texts .exit))) r ⌝ }
 {
-    let t = LEADS;
-    let checked = check_both(
-        &t,
-        content,
-        entries,
-        text,
-        prefix,
-        prefix_entries,
-        prefix_text,
-    );
+    let checked = check_both(content, entries, text, prefix, prefix_entries, prefix_text);
     let sizes = match checked {
         CheckedBoth::Refused(f) => {
             return Answer::Refused(f);

@@ -234,7 +234,7 @@ fn write_padded(
         (lentOf (now (bytes .entry)) (now (numbers .entry)) (now (texts .entry))) (lentOf (now (bytes .exit)) (now (numbers .exit)) (now (texts .exit))) r ⌝ }
 {
     let t = LEADS;
-    let checked = check_both(&t, content, entries, text, fill, fill_entries, fill_text);
+    let checked = check_both(content, entries, text, fill, fill_entries, fill_text);
     let sizes = match checked {
         CheckedBoth::Refused(f) => {
             return Answer::Refused(f);

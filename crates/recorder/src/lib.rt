@@ -1,9 +1,7 @@
 // Module 1 of document 01, the recorder: append data, push a label, pop it, append a raw sequence, replay. None of the calls requires anything.
 // Each keeps the promise (`Promised`) of its outcome in `specs/Recorder.antt`; refused calls write nothing.
-// A call makes the lead table once and lends it down: that is the parameter t of the functions behind it.
 use buffer::put;
-use chars::LEADS;
-use chars::well_formed;
+use chars::is_well_formed;
 use recording::Answer;
 use recording::Checked;
 use recording::Entry;
@@ -19,28 +17,26 @@ ghost use Prim.Native.Nat.{_+_, _≤_};
 ghost use mathlib.Core.List.{[], _∷_};
 ghost use lib.ListN.{length};
 ghost use Rattle.buffer.specs.Place.{overAt};
-ghost use Rattle.chars.specs.Leads.{leadTable};
 ghost use Rattle.recording.specs.Recording.{recording, entry, numbersOf};
 ghost use Rattle.recording.specs.Refusals.{firstOf, recordingFault};
 ghost use Rattle.recording.specs.Outcome.{Promised};
 ghost use Rattle.recording.specs.Check.{faultOf};
 ghost use Rattle.recorder.specs.Recorder.{lentOf, usedOf, lengthsFault, replayed, written, pushed, popped, rawAdded};
 
-fn replay_by(
-    t: &[u16; 256],
+// Copies a recording into three lent buffers, each entry's text one after another from 0; text that no entry uses is left out.
+pub fn replay(
     content: &[u8],
     entries: &[u32],
     text: &[u8],
-    bytes: &mut [u8],
-    numbers: &mut [u32],
-    texts: &mut [u8],
+    out_data: &mut [u8],
+    out_entries: &mut [u32],
+    out_text: &mut [u8],
 ) -> Answer
-    requires { ⌜ now t ≡ leadTable ⌝ }
     ensures { λ r. ⌜ Promised
-        (replayed (recording (now (content .entry)) (now (entries .entry)) (now (text .entry))) (lentOf (now (bytes .entry)) (now (numbers .entry)) (now (texts .entry))))
-        (lentOf (now (bytes .entry)) (now (numbers .entry)) (now (texts .entry))) (lentOf (now (bytes .exit)) (now (numbers .exit)) (now (texts .exit))) r ⌝ }
+        (replayed (recording (now (content .entry)) (now (entries .entry)) (now (text .entry))) (lentOf (now («out_data» .entry)) (now («out_entries» .entry)) (now («out_text» .entry))))
+        (lentOf (now («out_data» .entry)) (now («out_entries» .entry)) (now («out_text» .entry))) (lentOf (now («out_data» .exit)) (now («out_entries» .exit)) (now («out_text» .exit))) r ⌝ }
 {
-    let checked = check(t, content, entries, text);
+    let checked = check(content, entries, text);
     let size = match checked {
         Checked::Refused(f) => {
             return Answer::Refused(f);
@@ -52,9 +48,9 @@ fn replay_by(
         entries.len(),
         size,
         0,
-        bytes.len(),
-        numbers.len(),
-        texts.len(),
+        out_data.len(),
+        out_entries.len(),
+        out_text.len(),
         0,
     );
     match verdict {
@@ -70,7 +66,15 @@ fn replay_by(
         e: 0,
         t: 0,
     };
-    let c = put_recording(bytes, numbers, texts, content, entries, text, start);
+    let c = put_recording(
+        out_data,
+        out_entries,
+        out_text,
+        content,
+        entries,
+        text,
+        start,
+    );
     Answer::Done {
         data: c.d,
         entries: c.e,
@@ -79,34 +83,8 @@ fn replay_by(
     }
 }
 
-// Copies a recording into three lent buffers, each entry's text one after another from 0; text that no entry uses is left out.
-pub fn replay(
-    content: &[u8],
-    entries: &[u32],
-    text: &[u8],
-    out_data: &mut [u8],
-    out_entries: &mut [u32],
-    out_text: &mut [u8],
-) -> Answer
-    ensures { λ r. ⌜ Promised
-        (replayed (recording (now (content .entry)) (now (entries .entry)) (now (text .entry))) (lentOf (now («out_data» .entry)) (now («out_entries» .entry)) (now («out_text» .entry))))
-        (lentOf (now («out_data» .entry)) (now («out_entries» .entry)) (now («out_text» .entry))) (lentOf (now («out_data» .exit)) (now («out_entries» .exit)) (now («out_text» .exit))) r ⌝ }
-{
-    let t = LEADS;
-    replay_by(&t, content, entries, text, out_data, out_entries, out_text)
-}
-
 // Refusal 10, then the content's 1 to 6, in buffers of which d, e and n numbers are used.
-fn check_used(
-    t: &[u16; 256],
-    content: &[u8],
-    entries: &[u32],
-    text: &[u8],
-    d: usize,
-    e: usize,
-    n: usize,
-) -> Checked
-    requires { ⌜ now t ≡ leadTable ⌝ }
+fn check_used(content: &[u8], entries: &[u32], text: &[u8], d: usize, e: usize, n: usize) -> Checked
     ensures { λ r. ⌜ faultOf r
         ≡ firstOf (lengthsFault (lentOf (now (content .entry)) (now (entries .entry)) (now (text .entry))) d e n
         ∷ recordingFault (usedOf (lentOf (now (content .entry)) (now (entries .entry)) (now (text .entry))) d e n) ∷ []) ⌝ }
@@ -120,16 +98,7 @@ fn check_used(
     if text.len() < n {
         return Checked::Refused(Refusal::LengthOverBuffer);
     }
-    check(t, &content[..d], &entries[..e], &text[..n])
-}
-
-fn check_lent(content: &[u8], entries: &[u32], text: &[u8], d: usize, e: usize, n: usize) -> Checked
-    ensures { λ r. ⌜ faultOf r
-        ≡ firstOf (lengthsFault (lentOf (now (content .entry)) (now (entries .entry)) (now (text .entry))) d e n
-        ∷ recordingFault (usedOf (lentOf (now (content .entry)) (now (entries .entry)) (now (text .entry))) d e n) ∷ []) ⌝ }
-{
-    let t = LEADS;
-    check_used(&t, content, entries, text, d, e, n)
+    check(&content[..d], &entries[..e], &text[..n])
 }
 
 // Appends bytes to the data; none is allowed.
@@ -146,7 +115,7 @@ pub fn write(
         (written (now (added .entry)) (lentOf (now (content .entry)) (now (entries .entry)) (now (text .entry))) «content_len» «entries_len» «text_len»)
         (lentOf (now (content .entry)) (now (entries .entry)) (now (text .entry))) (lentOf (now (content .exit)) (now (entries .entry)) (now (text .entry))) r ⌝ }
 {
-    let checked = check_lent(content, entries, text, content_len, entries_len, text_len);
+    let checked = check_used(content, entries, text, content_len, entries_len, text_len);
     match checked {
         Checked::Refused(f) => {
             return Answer::Refused(f);
@@ -192,7 +161,7 @@ pub fn pop_label(
         (popped (lentOf (now (content .entry)) (now (entries .entry)) (now (text .entry))) «content_len» «entries_len» «text_len»)
         (lentOf (now (content .entry)) (now (entries .entry)) (now (text .entry))) (lentOf (now (content .entry)) (now (entries .exit)) (now (text .entry))) r ⌝ }
 {
-    let checked = check_lent(content, entries, text, content_len, entries_len, text_len);
+    let checked = check_used(content, entries, text, content_len, entries_len, text_len);
     match checked {
         Checked::Refused(f) => {
             return Answer::Refused(f);
@@ -255,8 +224,8 @@ fn put_mark(
     put(texts, n, part, 0, part.len());
 }
 
-fn push_by(
-    t: &[u16; 256],
+// Pushes a label, at the current end.
+pub fn push_label(
     content: &[u8],
     content_len: usize,
     entries: &mut [u32],
@@ -265,27 +234,18 @@ fn push_by(
     text_len: usize,
     label: &[u8],
 ) -> Answer
-    requires { ⌜ now t ≡ leadTable ⌝ }
     ensures { λ r. ⌜ Promised
         (pushed (now (label .entry)) (lentOf (now (content .entry)) (now (entries .entry)) (now (text .entry))) «content_len» «entries_len» «text_len»)
         (lentOf (now (content .entry)) (now (entries .entry)) (now (text .entry))) (lentOf (now (content .entry)) (now (entries .exit)) (now (text .exit))) r ⌝ }
 {
-    let checked = check_used(
-        t,
-        content,
-        entries,
-        text,
-        content_len,
-        entries_len,
-        text_len,
-    );
+    let checked = check_used(content, entries, text, content_len, entries_len, text_len);
     match checked {
         Checked::Refused(f) => {
             return Answer::Refused(f);
         }
         Checked::Fine(_) => {}
     }
-    if !well_formed(t, label) {
+    if !is_well_formed(label) {
         return Answer::Refused(Refusal::LabelIllFormed);
     }
     let verdict = settle(
@@ -313,33 +273,6 @@ fn push_by(
     }
 }
 
-// Pushes a label, at the current end.
-pub fn push_label(
-    content: &[u8],
-    content_len: usize,
-    entries: &mut [u32],
-    entries_len: usize,
-    text: &mut [u8],
-    text_len: usize,
-    label: &[u8],
-) -> Answer
-    ensures { λ r. ⌜ Promised
-        (pushed (now (label .entry)) (lentOf (now (content .entry)) (now (entries .entry)) (now (text .entry))) «content_len» «entries_len» «text_len»)
-        (lentOf (now (content .entry)) (now (entries .entry)) (now (text .entry))) (lentOf (now (content .entry)) (now (entries .exit)) (now (text .exit))) r ⌝ }
-{
-    let t = LEADS;
-    push_by(
-        &t,
-        content,
-        content_len,
-        entries,
-        entries_len,
-        text,
-        text_len,
-        label,
-    )
-}
-
 // Appends a raw sequence as one entry at the current end; it is never empty.
 pub fn raw(
     content: &[u8],
@@ -354,7 +287,7 @@ pub fn raw(
         (rawAdded (now (sequence .entry)) (lentOf (now (content .entry)) (now (entries .entry)) (now (text .entry))) «content_len» «entries_len» «text_len»)
         (lentOf (now (content .entry)) (now (entries .entry)) (now (text .entry))) (lentOf (now (content .entry)) (now (entries .exit)) (now (text .exit))) r ⌝ }
 {
-    let checked = check_lent(content, entries, text, content_len, entries_len, text_len);
+    let checked = check_used(content, entries, text, content_len, entries_len, text_len);
     match checked {
         Checked::Refused(f) => {
             return Answer::Refused(f);

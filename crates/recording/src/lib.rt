@@ -1,10 +1,9 @@
 // A recording: data bytes, entries and the entries' texts; and its check, refusals 1 to 6.
-use chars::well_formed;
+use chars::is_well_formed;
 ghost use mathlib.Core.Path.{_≡_};
 ghost use Prim.Native.Nat.{_+_, _%_, _≤_};
 ghost use mathlib.Core.List.{_∷_};
 ghost use lib.ListN.{length, drop};
-ghost use Rattle.chars.specs.Leads.{leadTable};
 ghost use Rattle.recording.specs.Recording.{recording, entriesOf, items, textOf};
 ghost use Rattle.recording.specs.Refusals.{numberOf, badShape, entryFault, entriesFault, recordingFault};
 ghost use Rattle.recording.specs.Check.{faultOf, Counted, Within, BothChecked};
@@ -139,8 +138,7 @@ fn bad_shape(kind: u32, start: u32, len: u32) -> bool
 
 // Checks one entry, refusals 3, 4, 5, 6 in this order; `at` is the position of the entry before.
 // The part's end is the exact sum of start and length: two 32-bit numbers in 64 bits.
-fn check_entry(t: &[u16; 256], content: &[u8], text: &[u8], e: Entry, at: u32) -> Checked
-    requires { ⌜ now t ≡ leadTable ⌝ }
+fn check_entry(content: &[u8], text: &[u8], e: Entry, at: u32) -> Checked
     ensures { λ r. ⌜ faultOf r ≡ entryFault at (now (content .entry)) (now (text .entry)) e ⌝ }
     ensures { λ r. ⌜ Counted r (e .len) ⌝ }
 {
@@ -161,15 +159,14 @@ fn check_entry(t: &[u16; 256], content: &[u8], text: &[u8], e: Entry, at: u32) -
     if e.kind != 0 {
         return Checked::Fine(e.len as usize);
     }
-    if !well_formed(t, &text[start..end]) {
+    if !is_well_formed(&text[start..end]) {
         return Checked::Refused(Refusal::LabelIllFormed);
     }
     Checked::Fine(e.len as usize)
 }
 
 // Checks the entries, one after another.
-fn check_entries(t: &[u16; 256], content: &[u8], entries: &[u32], text: &[u8]) -> Checked
-    requires { ⌜ now t ≡ leadTable ⌝ }
+fn check_entries(content: &[u8], entries: &[u32], text: &[u8]) -> Checked
     requires { ⌜ (length (now entries) % 4 ≡ 0) × (length (now entries) ≤ 16384) × (length (now text) ≤ 65536) ⌝ }
     ensures { λ r. ⌜ faultOf r ≡ entriesFault 0 (now (content .entry)) (now (text .entry)) (entriesOf (now (entries .entry))) ⌝ }
     ensures { λ r. ⌜ Counted r (length (textOf (items (recording (now (content .entry)) (now (entries .entry)) (now (text .entry)))))) ⌝ }
@@ -180,7 +177,7 @@ fn check_entries(t: &[u16; 256], content: &[u8], entries: &[u32], text: &[u8]) -
     let mut size = 0;
     while k < entries.len() {
         let e = entry_at(entries, k);
-        let got = check_entry(t, content, text, e, at);
+        let got = check_entry(content, text, e, at);
         match got {
             Checked::Refused(_) => {
                 return got;
@@ -196,8 +193,7 @@ fn check_entries(t: &[u16; 256], content: &[u8], entries: &[u32], text: &[u8]) -
 }
 
 // Checks a recording: refusals 1, 2 and 5 for its lengths, then entry by entry. 268435456 is 4,096 texts of 65,536 bytes: parts may overlap.
-pub fn check(t: &[u16; 256], content: &[u8], entries: &[u32], text: &[u8]) -> Checked
-    requires { ⌜ now t ≡ leadTable ⌝ }
+pub fn check(content: &[u8], entries: &[u32], text: &[u8]) -> Checked
     ensures { λ r. ⌜ faultOf r ≡ recordingFault (recording (now (content .entry)) (now (entries .entry)) (now (text .entry))) ⌝ }
     ensures { λ r. ⌜ Counted r (length (textOf (items (recording (now (content .entry)) (now (entries .entry)) (now (text .entry)))))) ⌝ }
     ensures { λ r. ⌜ Within r 268435456 ⌝ }
@@ -214,12 +210,11 @@ pub fn check(t: &[u16; 256], content: &[u8], entries: &[u32], text: &[u8]) -> Ch
     if 65536 < text.len() {
         return Checked::Refused(Refusal::TextPart);
     }
-    check_entries(t, content, entries, text)
+    check_entries(content, entries, text)
 }
 
 // Checks the content, whole, and then the second recording, whole.
 pub fn check_both(
-    t: &[u16; 256],
     content: &[u8],
     entries: &[u32],
     text: &[u8],
@@ -227,18 +222,17 @@ pub fn check_both(
     second_entries: &[u32],
     second_text: &[u8],
 ) -> CheckedBoth
-    requires { ⌜ now t ≡ leadTable ⌝ }
     ensures { λ r. ⌜ BothChecked r (recording (now (content .entry)) (now (entries .entry)) (now (text .entry)))
         (recording (now (second .entry)) (now («second_entries» .entry)) (now («second_text» .entry))) ⌝ }
 {
-    let first = check(t, content, entries, text);
+    let first = check(content, entries, text);
     let size = match first {
         Checked::Refused(f) => {
             return CheckedBoth::Refused(f);
         }
         Checked::Fine(n) => n,
     };
-    let next = check(t, second, second_entries, second_text);
+    let next = check(second, second_entries, second_text);
     match next {
         Checked::Refused(f) => CheckedBoth::Refused(f),
         Checked::Fine(n) => CheckedBoth::Fine(TextSizes {

@@ -2,7 +2,6 @@
 // `write_replaced` over a list of structs stands in crate `replace_records`: one definition, two front doors.
 // All records are scanned first, for refusal 8 and for the size of the result, and written only then. The scan hands each record's four numbers, with a state by value, to `check_numbers`.
 // What the call answers and leaves is the `outcome` of the job `replace` in `layout/specs/Layout.antt`; the records behind the numbers are `recordsOf` of `specs/Records.antt`.
-use chars::LEADS;
 use layout::Replacement;
 use recording::Answer;
 use recording::Checked;
@@ -230,8 +229,7 @@ pub fn write_replaced_flat(
     ensures { λ r. ⌜ Leaves (replace (recordsOf (now (records .entry))) (now (new .entry))) (recording (now (content .entry)) (now (entries .entry)) (now (text .entry)))
         (lentOf (now (bytes .entry)) (now (numbers .entry)) (now (texts .entry))) (lentOf (now (bytes .exit)) (now (numbers .exit)) (now (texts .exit))) r ⌝ }
 {
-    let t = LEADS;
-    let checked = check(&t, content, entries, text);
+    let checked = check(content, entries, text);
     let size = match checked {
         Checked::Refused(f) => {
             return Answer::Refused(f);

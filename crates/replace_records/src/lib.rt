@@ -1,7 +1,6 @@
 // Replacing stretches of a recording's data by a lent list of records (document 01, module 5): `write_replaced`.
 // Two thin scans over the list read a record and hand it on with a state by value, the checking one its four numbers; the call above them is a run of calls. These three are proved by hand, as walks.
 // Every decision is in a covered function, so a walk has no branch: where the call is refused the writing goes over the records and writes nothing.
-use chars::LEADS;
 use layout::Replacement;
 use recording::Answer;
 use recording::Checked;
@@ -71,8 +70,7 @@ fn judge(
     requires { ⌜ (s .bad ≡ false → s .at ≤ length (now content)) ⌝ }
     ensures { λ r. ⌜ settledFault r ≡ planFault (now (content .entry)) (now (entries .entry)) (now (text .entry)) s (roomOf bytes numbers texts 0) ⌝ }
 {
-    let t = LEADS;
-    let checked = check(&t, content, entries, text);
+    let checked = check(content, entries, text);
     let size = match checked {
         Checked::Refused(f) => {
             return Settled::Refused(f);

@@ -321,9 +321,7 @@ pub fn write_truncated_end(
         (recording (now (content .entry)) (now (entries .entry)) (now (text .entry)))
         (lentOf (now (bytes .entry)) (now (numbers .entry)) (now (texts .entry))) (lentOf (now (bytes .exit)) (now (numbers .exit)) (now (texts .exit))) r ⌝ }
 {
-    let t = LEADS;
     let checked = check_both(
-        &t,
         content,
         entries,
         text,
@@ -337,6 +335,7 @@ pub fn write_truncated_end(
         }
         CheckedBoth::Fine(n) => n,
     };
+    let t = LEADS;
     let p = measure_end(&t, content, ellipsis, max_width);
     let verdict = settle(
         p.content + p.ellipsis,
@@ -391,9 +390,7 @@ pub fn write_truncated_start(
         (recording (now (content .entry)) (now (entries .entry)) (now (text .entry)))
         (lentOf (now (bytes .entry)) (now (numbers .entry)) (now (texts .entry))) (lentOf (now (bytes .exit)) (now (numbers .exit)) (now (texts .exit))) r ⌝ }
 {
-    let t = LEADS;
     let checked = check_both(
-        &t,
         content,
         entries,
         text,
@@ -407,6 +404,7 @@ pub fn write_truncated_start(
         }
         CheckedBoth::Fine(n) => n,
     };
+    let t = LEADS;
     let p = measure_start(&t, content, ellipsis, max_width);
     let verdict = settle(
         (content.len() - p.content) + (ellipsis.len() - p.ellipsis),

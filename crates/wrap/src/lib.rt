@@ -213,7 +213,7 @@ pub fn write_wrapped(
         (lentLined (now (bytes .exit)) (now (numbers .exit)) (now (texts .exit)) (now (lines .exit))) r ⌝ }
 {
     let t = LEADS;
-    let checked = check(&t, content, entries, text);
+    let checked = check(content, entries, text);
     let size = match checked {
         Checked::Refused(f) => {
             return Answer::Refused(f);

@@ -12,12 +12,12 @@ use Rattle.recorder.proofs.pop_label.Statement.{statement}
 use Rattle.recorder.proofs.pop_label.Tie as tie
 use Rattle.recorder.proofs.pop_label.Reads as reads
 use Rattle.recorder.proofs.pop_label.Lts as lts
-use Rattle.recorder.proofs.check_lent.Reads as check-lent-reads
+use Rattle.recorder.proofs.check_used.Reads as check-used-reads
 use Rattle.writer.proofs.set_entry.Reads as set-entry-reads
 use Rattle.writer.proofs.settle.Reads as settle-reads
 
-check-lent-requires : tie.Need-check-lent-requires
-check-lent-requires c κs = search needs
+check-used-requires : tie.Need-check-used-requires
+check-used-requires c κs = search needs
 
 enum-known-checked : tie.Need-enum-known-checked
 enum-known-checked c = search needs
@@ -32,7 +32,7 @@ returns c =
     let b = lentOf (a .content .now) (a .entries .now) (a .text .now) in
     let u = usedOf b (a .content-len) (a .entries-len) (a .text-len) in
     let q = withEntry 1 0 [] u in
-    let k = c .before .before .before .check-lent in
+    let k = c .before .before .before .check-used in
     let g = c .before .checked .given in
     add-refused (addFaults 0 b (a .content-len) (a .entries-len) (a .text-len)) b q (g .0 .0)
     (check-refused b (a .content-len) (a .entries-len) (a .text-len) (k .result) (k .ensures) 0 (roomIn b) (leaves q) (g .0 .0) (g .1))
@@ -44,7 +44,7 @@ add-settle : tie.Need-add-settle
 add-settle c =
     let a = c .before .before .before .before .before .before .before .args in
     let b = lentOf (a .content .now) (a .entries .now) (a .text .now) in
-    let k = c .before .before .check-lent in
+    let k = c .before .before .check-used in
     let g = c .enum-told .given in
     omega (arith, limits b (a .content-len) (a .entries-len) (a .text-len) (k .result) (k .ensures) (g .0 .0) (g .1), c .before .before .before .before .before .before .before .good)
 
@@ -64,7 +64,7 @@ returns-2 c =
     let b = lentOf (a .content .now) (a .entries .now) (a .text .now) in
     let u = usedOf b (a .content-len) (a .entries-len) (a .text-len) in
     let q = withEntry 1 0 [] u in
-    let k = c .before .before .before .before .before .before .check-lent in
+    let k = c .before .before .before .before .before .before .check-used in
     let v = c .before .before .before .settle in
     let g = c .before .before .before .before .enum-told .given in
     let h = c .before .verdict .given in
@@ -81,7 +81,7 @@ cast-t18 : tie.Need-cast-t18
 cast-t18 c =
     let a = c .before .before .before .before .before .before .before .before .before .before .args in
     let b = lentOf (a .content .now) (a .entries .now) (a .text .now) in
-    let k = c .before .before .before .before .before .check-lent in
+    let k = c .before .before .before .before .before .check-used in
     let g = c .before .before .before .enum-told .given in
     omega (
       arith,
@@ -95,7 +95,7 @@ set-entry-requires c κs =
     let b = lentOf (a .content .now) (a .entries .now) (a .text .now) in
     let u = usedOf b (a .content-len) (a .entries-len) (a .text-len) in
     let q = withEntry 1 0 [] u in
-    let k = c .before .before .before .before .before .before .check-lent in
+    let k = c .before .before .before .before .before .before .check-used in
     let v = c .before .before .before .settle in
     let g = c .before .before .before .before .enum-told .given in
     let g₂ = c .before .enum-told2 .given in
@@ -109,11 +109,11 @@ set-entry-requires c κs =
 add-t14 : tie.Need-add-t14
 add-t14 c =
     let at-enum-told = c .before .before .before .before .before .before .before in
-    let at-check-lent = at-enum-told .before .before in
-    let start = at-check-lent .before .before .before .before .before in
+    let at-check-used = at-enum-told .before .before in
+    let start = at-check-used .before .before .before .before .before in
     let a = start .args in
     let b = lentOf (a .content .now) (a .entries .now) (a .text .now) in
-    let k = at-check-lent .check-lent in
+    let k = at-check-used .check-used in
     let g = at-enum-told .enum-told .given in
     omega (
       arith,
@@ -130,13 +130,13 @@ returns-3 c =
     let at-enum-told2 = c .before .before .before .before in
     let at-settle = at-enum-told2 .before .before in
     let at-enum-told = at-settle .before in
-    let at-check-lent = at-enum-told .before .before in
-    let start = at-check-lent .before .before .before .before .before in
+    let at-check-used = at-enum-told .before .before in
+    let start = at-check-used .before .before .before .before .before in
     let a = start .args in
     let b = lentOf (a .content .now) (a .entries .now) (a .text .now) in
     let u = usedOf b (a .content-len) (a .entries-len) (a .text-len) in
     let q = withEntry 1 0 [] u in
-    let k = at-check-lent .check-lent in
+    let k = at-check-used .check-used in
     let v = at-settle .settle in
     let p = c .before .before .set-entry in
     let g = at-enum-told .enum-told .given in
@@ -153,7 +153,7 @@ pub pop-label-spec : {M : Type 1} → statement M
 pop-label-spec =
     tie.close
     (tie.spec
-    check-lent-requires
+    check-used-requires
     enum-known-checked
     same-length
     returns

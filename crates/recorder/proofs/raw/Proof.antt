@@ -14,12 +14,12 @@ use Rattle.recorder.proofs.raw.Statement.{statement}
 use Rattle.recorder.proofs.raw.Tie as tie
 use Rattle.recorder.proofs.raw.Reads as reads
 use Rattle.recorder.proofs.raw.Lts as lts
-use Rattle.recorder.proofs.check_lent.Reads as check-lent-reads
+use Rattle.recorder.proofs.check_used.Reads as check-used-reads
 use Rattle.recorder.proofs.put_mark.Reads as put-mark-reads
 use Rattle.writer.proofs.settle.Reads as settle-reads
 
-check-lent-requires : tie.Need-check-lent-requires
-check-lent-requires c κs = search needs
+check-used-requires : tie.Need-check-used-requires
+check-used-requires c κs = search needs
 
 enum-known-checked : tie.Need-enum-known-checked
 enum-known-checked c = search needs
@@ -38,7 +38,7 @@ returns c =
     let u = usedOf b (a .content-len) (a .entries-len) (a .text-len) in
     let n = refuseIf (eqb (length (a .sequence .now)) 0) 3 in
     let q = withEntry 2 (length (take (a .text-len) (a .text .now))) (a .sequence .now) u in
-    let k = c .before .before .before .check-lent in
+    let k = c .before .before .before .check-used in
     let g = c .before .checked .given in
     add-refused (addFaults n b (a .content-len) (a .entries-len) (a .text-len)) b q (g .0 .0)
     (check-refused b (a .content-len) (a .entries-len) (a .text-len) (k .result) (k .ensures) n (roomIn b) (leaves q) (g .0 .0) (g .1))
@@ -60,7 +60,7 @@ returns-2 c =
     let u = usedOf b (a .content-len) (a .entries-len) (a .text-len) in
     let n = refuseIf (eqb (length (a .sequence .now)) 0) 3 in
     let q = withEntry 2 (length (take (a .text-len) (a .text .now))) (a .sequence .now) u in
-    let k = c .before .before .before .check-lent in
+    let k = c .before .before .before .check-used in
     let g = c .before .enum-told .given in
     add-refused (addFaults n b (a .content-len) (a .entries-len) (a .text-len)) b q EntryShape
     (added-refused b (a .content-len) (a .entries-len) (a .text-len) (k .result) (k .ensures) (g .0 .0) (g .1) n (roomIn b) (leaves q) EntryShape (empty-raw _ (c .if1 .taken)))
@@ -69,7 +69,7 @@ add-settle : tie.Need-add-settle
 add-settle c =
     let a = c .before .before .before .before .before .before .before .before .before .before .args in
     let b = lentOf (a .content .now) (a .entries .now) (a .text .now) in
-    let k = c .before .before .before .check-lent in
+    let k = c .before .before .before .check-used in
     let g = c .before .enum-told .given in
     omega (
       arith,
@@ -81,7 +81,7 @@ add-settle-2 : tie.Need-add-settle-2
 add-settle-2 c =
     let a = c .before .before .before .before .before .before .before .before .before .before .args in
     let b = lentOf (a .content .now) (a .entries .now) (a .text .now) in
-    let k = c .before .before .before .check-lent in
+    let k = c .before .before .before .check-used in
     let g = c .before .enum-told .given in
     omega (
       arith,
@@ -106,14 +106,14 @@ unfolding rawAdded withRaw
 returns-3 c =
     let at-if1 = c .before .before .before .before in
     let at-enum-told = at-if1 .before in
-    let at-check-lent = at-enum-told .before .before in
-    let start = at-check-lent .before .before .before .before .before .before .before in
+    let at-check-used = at-enum-told .before .before in
+    let start = at-check-used .before .before .before .before .before .before .before in
     let a = start .args in
     let b = lentOf (a .content .now) (a .entries .now) (a .text .now) in
     let u = usedOf b (a .content-len) (a .entries-len) (a .text-len) in
     let n = refuseIf (eqb (length (a .sequence .now)) 0) 3 in
     let q = withEntry 2 (length (take (a .text-len) (a .text .now))) (a .sequence .now) u in
-    let k = at-check-lent .check-lent in
+    let k = at-check-used .check-used in
     let v = c .before .before .before .settle in
     let g = at-enum-told .enum-told .given in
     let h = c .before .verdict .given in
@@ -131,14 +131,14 @@ put-mark-requires c κs =
     let at-settle = c .before .before .before .before in
     let at-if1 = at-settle .before in
     let at-enum-told = at-if1 .before in
-    let at-check-lent = at-enum-told .before .before in
-    let start = at-check-lent .before .before .before .before .before .before .before in
+    let at-check-used = at-enum-told .before .before in
+    let start = at-check-used .before .before .before .before .before .before .before in
     let a = start .args in
     let b = lentOf (a .content .now) (a .entries .now) (a .text .now) in
     let u = usedOf b (a .content-len) (a .entries-len) (a .text-len) in
     let n = refuseIf (eqb (length (a .sequence .now)) 0) 3 in
     let q = withEntry 2 (length (take (a .text-len) (a .text .now))) (a .sequence .now) u in
-    let k = at-check-lent .check-lent in
+    let k = at-check-used .check-used in
     let v = at-settle .settle in
     let g = at-enum-told .enum-told .given in
     let g₂ = c .before .before .enum-told2 .given in
@@ -152,11 +152,11 @@ put-mark-requires c κs =
 add-t16 : tie.Need-add-t16
 add-t16 c =
     let at-enum-told = c .before .before .before .before .before .before .before .before .before .before .before in
-    let at-check-lent = at-enum-told .before .before in
-    let start = at-check-lent .before .before .before .before .before .before .before in
+    let at-check-used = at-enum-told .before .before in
+    let start = at-check-used .before .before .before .before .before .before .before in
     let a = start .args in
     let b = lentOf (a .content .now) (a .entries .now) (a .text .now) in
-    let k = at-check-lent .check-lent in
+    let k = at-check-used .check-used in
     let g = at-enum-told .enum-told .given in
     omega (
       arith,
@@ -167,11 +167,11 @@ add-t16 c =
 add-t23 : tie.Need-add-t23
 add-t23 c =
     let at-enum-told = c .before .before .before .before .before .before .before .before .before .before .before in
-    let at-check-lent = at-enum-told .before .before in
-    let start = at-check-lent .before .before .before .before .before .before .before in
+    let at-check-used = at-enum-told .before .before in
+    let start = at-check-used .before .before .before .before .before .before .before in
     let a = start .args in
     let b = lentOf (a .content .now) (a .entries .now) (a .text .now) in
-    let k = at-check-lent .check-lent in
+    let k = at-check-used .check-used in
     let g = at-enum-told .enum-told .given in
     omega (
       arith,
@@ -193,14 +193,14 @@ returns-4 c =
     let at-settle = at-enum-told2 .before .before in
     let at-if1 = at-settle .before in
     let at-enum-told = at-if1 .before in
-    let at-check-lent = at-enum-told .before .before in
-    let start = at-check-lent .before .before .before .before .before .before .before in
+    let at-check-used = at-enum-told .before .before in
+    let start = at-check-used .before .before .before .before .before .before .before in
     let a = start .args in
     let b = lentOf (a .content .now) (a .entries .now) (a .text .now) in
     let u = usedOf b (a .content-len) (a .entries-len) (a .text-len) in
     let n = refuseIf (eqb (length (a .sequence .now)) 0) 3 in
     let q = withEntry 2 (length (take (a .text-len) (a .text .now))) (a .sequence .now) u in
-    let k = at-check-lent .check-lent in
+    let k = at-check-used .check-used in
     let v = at-settle .settle in
     let p = at-put-mark .put-mark in
     let g = at-enum-told .enum-told .given in
@@ -219,7 +219,7 @@ pub raw-spec : {M : Type 1} → statement M
 raw-spec =
     tie.close
     (tie.spec
-    check-lent-requires
+    check-used-requires
     enum-known-checked
     same-length
     same-length-2

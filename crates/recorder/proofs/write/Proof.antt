@@ -12,11 +12,11 @@ use Rattle.recorder.proofs.write.Tie as tie
 use Rattle.recorder.proofs.write.Reads as reads
 use Rattle.recorder.proofs.write.Lts as lts
 use Rattle.buffer.proofs.put.Reads as put-reads
-use Rattle.recorder.proofs.check_lent.Reads as check-lent-reads
+use Rattle.recorder.proofs.check_used.Reads as check-used-reads
 use Rattle.writer.proofs.settle.Reads as settle-reads
 
-check-lent-requires : tie.Need-check-lent-requires
-check-lent-requires c κs = search needs
+check-used-requires : tie.Need-check-used-requires
+check-used-requires c κs = search needs
 
 enum-known-checked : tie.Need-enum-known-checked
 enum-known-checked c = search needs
@@ -31,7 +31,7 @@ returns c =
     let b = lentOf (a .content .now) (a .entries .now) (a .text .now) in
     let u = usedOf b (a .content-len) (a .entries-len) (a .text-len) in
     let q = withData (a .added .now) u in
-    let k = c .before .before .before .check-lent in
+    let k = c .before .before .before .check-used in
     let g = c .before .checked .given in
     add-refused (addFaults 0 b (a .content-len) (a .entries-len) (a .text-len)) b q (g .0 .0)
     (check-refused b (a .content-len) (a .entries-len) (a .text-len) (k .result) (k .ensures) 0 (roomIn b) (leaves q) (g .0 .0) (g .1))
@@ -43,7 +43,7 @@ add-total : tie.Need-add-total
 add-total c =
     let a = c .before .before .before .before .before .before .before .before .args in
     let b = lentOf (a .content .now) (a .entries .now) (a .text .now) in
-    let k = c .before .before .check-lent in
+    let k = c .before .before .check-used in
     let g = c .enum-told .given in
     omega (arith, limits b (a .content-len) (a .entries-len) (a .text-len) (k .result) (k .ensures) (g .0 .0) (g .1), c .before .before .before .before .before .before .before .before .good)
 
@@ -63,7 +63,7 @@ returns-2 c =
     let b = lentOf (a .content .now) (a .entries .now) (a .text .now) in
     let u = usedOf b (a .content-len) (a .entries-len) (a .text-len) in
     let q = withData (a .added .now) u in
-    let k = c .before .before .before .before .before .before .check-lent in
+    let k = c .before .before .before .before .before .before .check-used in
     let v = c .before .before .before .settle in
     let g = c .before .before .before .before .enum-told .given in
     let h = c .before .verdict .given in
@@ -82,7 +82,7 @@ put-requires c κs =
     let b = lentOf (a .content .now) (a .entries .now) (a .text .now) in
     let u = usedOf b (a .content-len) (a .entries-len) (a .text-len) in
     let q = withData (a .added .now) u in
-    let k = c .before .before .before .before .before .before .check-lent in
+    let k = c .before .before .before .before .before .before .check-used in
     let v = c .before .before .before .settle in
     let g = c .before .before .before .before .enum-told .given in
     let g₂ = c .before .enum-told2 .given in
@@ -102,13 +102,13 @@ returns-3 c =
     let at-enum-told2 = c .before .before .before .before in
     let at-settle = at-enum-told2 .before .before in
     let at-enum-told = at-settle .before in
-    let at-check-lent = at-enum-told .before .before in
-    let start = at-check-lent .before .before .before .before .before .before in
+    let at-check-used = at-enum-told .before .before in
+    let start = at-check-used .before .before .before .before .before .before in
     let a = start .args in
     let b = lentOf (a .content .now) (a .entries .now) (a .text .now) in
     let u = usedOf b (a .content-len) (a .entries-len) (a .text-len) in
     let q = withData (a .added .now) u in
-    let k = at-check-lent .check-lent in
+    let k = at-check-used .check-used in
     let v = at-settle .settle in
     let p = c .before .before .put in
     let g = at-enum-told .enum-told .given in
@@ -125,7 +125,7 @@ pub write-spec : {M : Type 1} → statement M
 write-spec =
     tie.close
     (tie.spec
-    check-lent-requires
+    check-used-requires
     enum-known-checked
     same-length
     returns

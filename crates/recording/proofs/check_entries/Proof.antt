@@ -14,11 +14,11 @@ use Rattle.recording.proofs.check_entry.Reads as check-entry-reads
 use Rattle.recording.proofs.entry_at.Reads as entry-at-reads
 
 abbrev Inv-loop : tie.InvT-loop
-Inv-loop t content entries text at₀ k₀ size₀ at k size =
+Inv-loop content entries text at₀ k₀ size₀ at k size =
     Seen content entries text at k size
 
 abbrev μ-loop : tie.MeasureT-loop
-μ-loop t content entries text at₀ k₀ size₀ at k size =
+μ-loop content entries text at₀ k₀ size₀ at k size =
     length entries - k
 
 loop-holds : tie.Need-loop-holds Inv-loop μ-loop
@@ -27,7 +27,7 @@ loop-holds c =
 
 entry-at-requires : tie.Need-entry-at-requires Inv-loop μ-loop
 entry-at-requires c κs =
-    whole _ _ _ _ _ _ (c .before .loop .inv) (c .before .before .before .before .before .pre .1 .0) (c .loop-test .taken)
+    whole _ _ _ _ _ _ (c .before .loop .inv) (c .before .before .before .before .before .pre .0) (c .loop-test .taken)
 
 check-entry-requires : tie.Need-check-entry-requires Inv-loop μ-loop
 check-entry-requires c κs = search needs
@@ -39,7 +39,7 @@ returns : tie.Need-returns Inv-loop μ-loop
 returns c =
     let g = c .enum-told .given in
     let k = c .before .before .check-entry in (
-      stops _ _ _ _ _ _ (c .before .before .before .before .before .loop .inv) (c .before .before .before .before .before .before .before .before .before .pre .1 .0)
+      stops _ _ _ _ _ _ (c .before .before .before .before .before .loop .inv) (c .before .before .before .before .before .before .before .before .before .pre .0)
           (c .before .before .before .before .loop-test .taken) _ (c .before .before .before .entry-at .ensures) (k .result) (k .ensures .0) (g .0 .0) (g .1),
       (refused-count (k .result) (g .0 .0) _ (g .1), refused-within (k .result) (g .0 .0) _ (g .1)),
     )
@@ -54,10 +54,10 @@ add-size c =
     omega (
       arith,
       fits-size _ _ _ _ _ _ (c .before .before .before .before .before .before .loop .inv)
-          (c .before .before .before .before .before .before .before .before .before .before .pre .1 .0) (c .before .before .before .before .before .loop-test .taken) _
+          (c .before .before .before .before .before .before .before .before .before .before .pre .0) (c .before .before .before .before .before .loop-test .taken) _
           (c .before .before .before .before .entry-at .ensures) (k .result) (k .ensures .0) (g .0 .0) (g .1) (k .ensures .1)
-          (c .before .before .before .before .before .before .before .before .before .before .pre .1 .2),
-      c .before .before .before .before .before .before .before .before .before .before .pre .1,
+          (c .before .before .before .before .before .before .before .before .before .before .pre .2),
+      c .before .before .before .before .before .before .before .before .before .before .pre,
       c .before .before .before .before .before .loop-test .taken,
     )
 
@@ -66,8 +66,8 @@ add-k c =
     omega (
       arith,
       whole _ _ _ _ _ _ (c .before .before .before .before .before .before .loop .inv)
-          (c .before .before .before .before .before .before .before .before .before .before .pre .1 .0) (c .before .before .before .before .before .loop-test .taken),
-      c .before .before .before .before .before .before .before .before .before .before .pre .1 .1,
+          (c .before .before .before .before .before .before .before .before .before .before .pre .0) (c .before .before .before .before .before .loop-test .taken),
+      c .before .before .before .before .before .before .before .before .before .before .pre,
     )
 
 loop-less : tie.Need-loop-less Inv-loop μ-loop
@@ -77,16 +77,16 @@ loop-again : tie.Need-loop-again Inv-loop μ-loop
 loop-again c =
     let g = c .before .got .given in
     let k = c .before .before .before .check-entry in
-    goes _ _ _ _ _ _ (c .before .before .before .before .before .before .loop .inv) (c .before .before .before .before .before .before .before .before .before .before .pre .1 .0)
+    goes _ _ _ _ _ _ (c .before .before .before .before .before .before .loop .inv) (c .before .before .before .before .before .before .before .before .before .before .pre .0)
     (c .before .before .before .before .before .loop-test .taken) _ (c .before .before .before .before .entry-at .ensures) (k .result) (k .ensures .0) (g .0 .0) (g .1)
-    (k .ensures .1) (c .before .before .before .before .before .before .before .before .before .before .pre .1 .2) _ refl
+    (k .ensures .1) (c .before .before .before .before .before .before .before .before .before .before .pre .2) _ refl
 
 returns-2 : tie.Need-returns-2 Inv-loop μ-loop
 unfolding faultOf Counted Within
 returns-2 c =
     let s = c .before .loop .inv in
     let l = seen-last _ _ _ _ _ _ s (c .loop-test .left) in
-    (l .0, (l .1, omega (arith, s .small, s .within, c .before .before .before .before .before .pre .1)))
+    (l .0, (l .1, omega (arith, s .small, s .within, c .before .before .before .before .before .pre)))
 
 pub check-entries-spec : {M : Type 1} → statement M
 check-entries-spec =

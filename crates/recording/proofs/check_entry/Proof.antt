@@ -9,7 +9,7 @@ use Rattle.recording.proofs.check_entry.Statement.{statement}
 use Rattle.recording.proofs.check_entry.Tie as tie
 use Rattle.recording.proofs.check_entry.Reads as reads
 use Rattle.recording.proofs.check_entry.Lts as lts
-use Rattle.chars.proofs.well_formed.Reads as well-formed-reads
+use Rattle.chars.proofs.is_well_formed.Reads as is-well-formed-reads
 use Rattle.recording.proofs.bad_shape.Reads as bad-shape-reads
 
 bad-shape-requires : tie.Need-bad-shape-requires
@@ -58,8 +58,8 @@ returns-4 c =
       tt,
     )
 
-cast-t16 : tie.Need-cast-t16
-cast-t16 c = search needs
+cast-t15 : tie.Need-cast-t15
+cast-t15 c = search needs
 
 returns-5 : tie.Need-returns-5
 unfolding faultOf Counted numberOf
@@ -73,17 +73,17 @@ returns-5 c =
       refl,
     )
 
-sub-well-formed : tie.Need-sub-well-formed
-sub-well-formed c = search needs
+sub-is-well-formed : tie.Need-sub-is-well-formed
+sub-is-well-formed c = search needs
 
-part-well-formed-start : tie.Need-part-well-formed-start
-part-well-formed-start c = search needs
+part-is-well-formed-start : tie.Need-part-is-well-formed-start
+part-is-well-formed-start c = search needs
 
-part-well-formed-end : tie.Need-part-well-formed-end
-part-well-formed-end c = search needs
+part-is-well-formed-end : tie.Need-part-is-well-formed-end
+part-is-well-formed-end c = search needs
 
-well-formed-requires : tie.Need-well-formed-requires
-well-formed-requires c κs = search needs
+is-well-formed-requires : tie.Need-is-well-formed-requires
+is-well-formed-requires c κs = search needs
 
 returns-6 : tie.Need-returns-6
 unfolding faultOf Counted numberOf
@@ -94,12 +94,12 @@ returns-6 c =
           ∙ c .before .before .before .before .before .before .before .before .before .before .before .before .if1 .left)
           (c .before .before .before .before .before .before .before .before .before .before .if2 .left)
           (c .before .before .before .before .before .before .before .before .if3 .left) (c .before .before .before .before .before .if4 .left) (c .before .before .before .if5 .left)
-          (c .before .well-formed .result) (c .before .well-formed .ensures) (not-true (c .before .well-formed .result) (c .if6 .taken))),
+          (c .before .is-well-formed .result) (c .before .is-well-formed .ensures) (not-true (c .before .is-well-formed .result) (c .if6 .taken))),
       tt,
     )
 
-cast-t13 : tie.Need-cast-t13
-cast-t13 c = search needs
+cast-t12 : tie.Need-cast-t12
+cast-t12 c = search needs
 
 returns-7 : tie.Need-returns-7
 unfolding faultOf Counted numberOf
@@ -110,8 +110,8 @@ returns-7 c =
           ∙ c .before .before .before .before .before .before .before .before .before .before .before .before .before .if1 .left)
           (c .before .before .before .before .before .before .before .before .before .before .before .if2 .left)
           (c .before .before .before .before .before .before .before .before .before .if3 .left) (c .before .before .before .before .before .before .if4 .left)
-          (c .before .before .before .before .if5 .left) (c .before .before .well-formed .result) (c .before .before .well-formed .ensures)
-          (not-false (c .before .before .well-formed .result) (c .before .if6 .left))),
+          (c .before .before .before .before .if5 .left) (c .before .before .is-well-formed .result) (c .before .before .is-well-formed .ensures)
+          (not-false (c .before .before .is-well-formed .result) (c .before .if6 .left))),
       refl,
     )
 
@@ -128,12 +128,12 @@ check-entry-spec =
     cast-end
     add-end
     returns-4
-    cast-t16
+    cast-t15
     returns-5
-    sub-well-formed
-    part-well-formed-start
-    part-well-formed-end
-    well-formed-requires
+    sub-is-well-formed
+    part-is-well-formed-start
+    part-is-well-formed-end
+    is-well-formed-requires
     returns-6
-    cast-t13
+    cast-t12
     returns-7)

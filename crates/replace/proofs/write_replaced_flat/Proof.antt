@@ -6,7 +6,6 @@ use mathlib.Core.Bool.{false}
 use lib.ListN.{length}
 use mathlib.Core.List.{List}
 use Prim.Native.Nat.{ℕ}
-use Rattle.chars.specs.Leads.{leadTable}
 use Rattle.buffer.specs.Place.{over}
 use Rattle.recording.specs.declared.Refusal.the-variants.{ReplacementRange}
 use Rattle.recording.specs.Edit.{editData}
@@ -54,7 +53,7 @@ lent s = lentOf (s .args .bytes .now) (s .args .numbers .now) (s .args .texts .n
 
 -- once the content is checked
 abbrev start : tie.After-checked2 → tie.Start
-start c = c .before .before .before .before .before .before .before .before .before .before .before .before
+start c = c .before .before .before .before .before .before .before .before .before .before .before
 
 abbrev size : tie.After-checked2 → ℕ
 size c = c .checked2 .given .0 .0
@@ -96,7 +95,6 @@ sized c =
 
 -- ── what is asked on the way
 check-requires : tie.Need-check-requires
-unfolding leadTable
 check-requires c κs = search needs
 
 enum-known-checked : tie.Need-enum-known-checked
@@ -105,7 +103,7 @@ enum-known-checked c = search needs
 returns : tie.Need-returns
 returns c =
     let k = c .before .before .before in
-    let s = k .before .before .before .before .before .before .before .before .before .before in
+    let s = k .before .before .before .before .before .before .before .before .before in
     content-refused (call s) (ds s) (ns s) (ts s) (lent s) (k .check .result) (k .check .ensures .0) (c .before .checked .given .0 .0) (c .before .checked .given .1)
 
 enum-known-checked-2 : tie.Need-enum-known-checked-2

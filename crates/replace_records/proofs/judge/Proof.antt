@@ -1,6 +1,5 @@
 -- `judge` finds the plan's refusal: at each return, the law of `PlanLaws` for the place where it stops.
 use borrow.Author.Needs.{needs}
-use Rattle.chars.specs.Leads.{leadTable}
 use Rattle.writer.specs.Sizes.{roomOf}
 use Rattle.replace_records.proofs.PlanLaws.{by-content, by-records, by-sizes}
 use Rattle.replace_records.proofs.judge.Statement.{statement}
@@ -12,7 +11,6 @@ use Rattle.replace.proofs.capped_add.Reads as capped-add-reads
 use Rattle.writer.proofs.settle.Reads as settle-reads
 
 check-requires : tie.Need-check-requires
-unfolding leadTable
 check-requires c κs = search needs
 
 enum-known-checked : tie.Need-enum-known-checked
@@ -20,7 +18,7 @@ enum-known-checked c = search needs
 
 returns : tie.Need-returns
 returns c =
-    let a = c .before .before .before .before .before .before .before .before .args in
+    let a = c .before .before .before .before .before .before .before .args in
     let k = c .before .before .before .check in
     let g = c .before .checked .given in
     by-content (a .content .now) (a .entries .now) (a .text .now) (a .s) (roomOf (a .bytes) (a .numbers) (a .texts) 0) (k .result) (k .ensures .0) (g .0 .0) (g .1)
@@ -30,7 +28,7 @@ enum-known-checked-2 c = search needs
 
 returns-2 : tie.Need-returns-2
 returns-2 c =
-    let a = c .before .before .before .before .before .before .before .before .before .args in
+    let a = c .before .before .before .before .before .before .before .before .args in
     let k = c .before .before .before .before .check in
     let g = c .before .before .checked2 .given in
     by-records (a .content .now) (a .entries .now) (a .text .now) (a .s) (roomOf (a .bytes) (a .numbers) (a .texts) 0) (k .result) (k .ensures .0) (g .0 .0) (g .1) (c .if1 .taken)
@@ -39,7 +37,7 @@ cast-capped-add : tie.Need-cast-capped-add
 cast-capped-add c = search needs
 
 sub-capped-add : tie.Need-sub-capped-add
-sub-capped-add c = c .before .before .before .before .before .before .before .before .before .before .pre (c .before .if1 .left)
+sub-capped-add c = c .before .before .before .before .before .before .before .before .before .pre (c .before .if1 .left)
 
 capped-add-requires : tie.Need-capped-add-requires
 capped-add-requires c κs = search needs
@@ -49,7 +47,7 @@ settle-requires c κs = search needs
 
 returns-3 : tie.Need-returns-3
 returns-3 c =
-    let a = c .before .before .before .before .before .before .before .before .before .before .before .before .args in
+    let a = c .before .before .before .before .before .before .before .before .before .before .before .args in
     let k = c .before .before .before .before .before .before .before .check in
     let g = c .before .before .before .before .before .checked2 .given in
     let d = c .before .capped-add in

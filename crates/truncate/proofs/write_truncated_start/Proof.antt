@@ -44,7 +44,7 @@ given s =
 
 -- once both recordings are checked
 abbrev start : tie.After-checked2 → tie.Start
-start c = c .before .before .before .before .before .before .before .before .before .before .before .before .before
+start c = c .before .before .before .before .before .before .before .before .before .before .before .before
 
 abbrev sizes : tie.After-checked2 → TextSizes
 sizes c = c .checked2 .given .0 .0
@@ -71,8 +71,7 @@ measured c =
 
 -- ── what is asked on the way
 check-both-requires : tie.Need-check-both-requires
-unfolding leadTable
-check-both-requires c κs = refl
+check-both-requires c κs = search needs
 
 enum-known-checked : tie.Need-enum-known-checked
 enum-known-checked c = search needs
@@ -80,7 +79,7 @@ enum-known-checked c = search needs
 returns : tie.Need-returns
 returns c =
     let k = c .before .before .before in
-    let s = k .before .before .before .before .before .before .before .before .before .before .before in
+    let s = k .before .before .before .before .before .before .before .before .before .before in
     both-refused (given s) (k .check-both .result) (k .check-both .ensures) (c .before .checked .given .0 .0) (c .before .checked .given .1)
 
 enum-known-checked-2 : tie.Need-enum-known-checked-2
