@@ -2,10 +2,10 @@
 // A slice passes as a pointer and its number of elements.
 // A call on recordings takes its content, then what else it reads, its numbers, and last the lent buffers; none may overlap another.
 // `res` gets five numbers: the refusal or 0, the lengths of data, entry numbers and text that were left, and the call's number.
+use answer_numbers::store;
 use chars::cut_end;
 use chars::cut_start;
 use chars::display_width;
-use chars::is_well_formed;
 use chars::leading_zero_width;
 use elide::complete_newline;
 use elide::elide_end;
@@ -19,12 +19,11 @@ use recorder::push_label;
 use recorder::raw;
 use recorder::replay;
 use recorder::write;
-use recording::Answer;
-use recording::number_of;
 use replace::write_replaced_flat;
 use runs::run_calls;
 use truncate::write_truncated_end;
 use truncate::write_truncated_start;
+use well_formed::is_well_formed;
 use wrap::write_wrapped;
 use wrap_lines::wrap_bytes;
 ghost use mathlib.Core.Path.{_≡_};
@@ -32,7 +31,6 @@ ghost use lib.ListN.{length};
 ghost use Rattle.chars.specs.Chars.{textWidth, wellFormed};
 ghost use Rattle.chars.specs.Cut.{truncateEndPos, truncateEndWidth, truncateStartPos, truncateStartWidth, zeroWidthLen};
 ghost use Rattle.recording.specs.Recording.{recording};
-ghost use Rattle.recording.specs.Outcome.{answerOf};
 ghost use Rattle.recorder.specs.Recorder.{replayed, written, pushed, popped, rawAdded};
 ghost use Rattle.layout.specs.Layout.{truncateStart, truncateEnd, padStart, padEnd, padCentered, indent, wrap, replace};
 ghost use Rattle.layout.specs.Lent.{lentOf, lentLined};
@@ -40,7 +38,7 @@ ghost use Rattle.wrap_lines.specs.WrapBytes.{lentLines, wrapBytesOutcome};
 ghost use Rattle.replace.specs.Records.{recordsOf};
 ghost use Rattle.call_lists.specs.Runs.{given, buffers};
 ghost use Rattle.elide.specs.Elide.{lent, elideEndOutcome, elideStartOutcome, completeNewlineOutcome};
-ghost use Rattle.capi.specs.Five.{five, PromisedNumbers, LeavesNumbers, RunsNumbers};
+ghost use Rattle.capi.specs.Promises.{PromisedNumbers, LeavesNumbers, RunsNumbers};
 
 // The width of a text.
 #[no_mangle]
@@ -95,25 +93,6 @@ pub extern "C" fn ruszvedok_zero_width_len(s: &[u8]) -> usize
     ensures { λ r. ⌜ r ≡ zeroWidthLen (now (s .entry)) ⌝ }
 {
     leading_zero_width(s)
-}
-
-// Stores an answer as its five numbers.
-fn store(a: Answer, res: &mut [u64; 5])
-    ensures { λ _. ⌜ now (res .exit) ≡ five (answerOf a) ⌝ }
-{
-    match a {
-        Answer::Refused(f) => {
-            *res = [number_of(f), 0, 0, 0, 0];
-        }
-        Answer::Done {
-            data: d,
-            entries: e,
-            text: t,
-            number: n,
-        } => {
-            *res = [0, d as u64, e as u64, t as u64, n];
-        }
-    }
 }
 
 // Copies a recording into three lent buffers; text that no entry uses is left out.

@@ -1,9 +1,7 @@
 pub mod CharsLaws
 pub mod CutLaws
-pub mod Subpart
 pub mod Table
 pub mod Leads
 pub mod ReaderLaws
 pub mod WidthLaws
 pub mod FoldLaws
-pub mod BlockLaws

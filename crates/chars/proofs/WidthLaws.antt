@@ -1,5 +1,6 @@
 -- The width of a code point, one range after the other: where it is in none of the first k ranges, the ranges after them decide.
-use Prim.Native.Nat.{ℕ, suc}
+-- The code reads the ranges from its table l, three numbers a range.
+use Prim.Native.Nat.{ℕ, suc, _+_, _≤_}
 use mathlib.Core.Bool.{Bool, true, false, cond}
 use mathlib.Core.Path.{_≡_, refl, sym, ap, _∙_}
 use mathlib.Core.List.{List}
@@ -7,7 +8,7 @@ use lib.Dec.{leb, T, leb→le}
 use lib.ListN.{length, drop, getD}
 use lib.Seq.{drop-cons}
 use Rattle.chars.specs.Utf8.{within}
-use Rattle.chars.specs.Width.{Range, ranges, widthIn, charWidth}
+use Rattle.chars.specs.Width.{Range, ranges, widthIn, charWidth, rangeNumbers}
 
 -- the range k; past the last one, any
 abbrev pub rangeAt : ℕ → Range
@@ -26,14 +27,30 @@ pub past-all : (code : ℕ) → Past (length ranges) code → 1 ≡ charWidth co
 unfolding Past ranges
 past-all code p = sym p
 
-module _ (k code : ℕ) (there : T (leb (suc k) (length ranges))) (past : Past k code) (test : Bool) (e : test ≡ within (rangeAt k .first) (rangeAt k .last) code) where
+-- what the code's table has for range k, from i on
+pub record RowAt (k i : ℕ) : Type 0 where
+  pub there : T (leb (suc k) (length ranges))
+  pub first : getD rangeNumbers i 0 ≡ rangeAt k .first
+  pub last : getD rangeNumbers (i + 1) 0 ≡ rangeAt k .last
+  pub columns : getD rangeNumbers (i + 2) 0 ≡ rangeAt k .columns
+  pub narrow : T (leb (rangeAt k .columns) 2)
+
+module _ (l : List ℕ) (same : l ≡ rangeNumbers) (k i code : ℕ) (row : RowAt k i) (past : Past k code) (test : Bool) (e : test ≡ within (getD l i 0) (getD l (i + 1) 0) code) where
+  tested : test ≡ within (rangeAt k .first) (rangeAt k .last) code
+  tested =
+      e ∙ ap (λ (m : List ℕ). within (getD m i 0) (getD m (i + 1) 0) code) same
+      ∙ ap (λ (n : ℕ). within n (getD rangeNumbers (i + 1) 0) code) (row .first) ∙ ap (λ (n : ℕ). within (rangeAt k .first) n code) (row .last)
+
   next : charWidth code ≡ cond test (rangeAt k .columns) (widthIn (drop (suc k) ranges) code)
   unfolding Past
-  next = rw e (past ∙ ap (λ (l : List Range). widthIn l code) (drop-cons ranges k (record { first = 0; last = 0; columns = 1 }) (leb→le (suc k) (length ranges) there)))
+  next = rw tested (past ∙ ap (λ (rs : List Range). widthIn rs code) (drop-cons ranges k (record { first = 0; last = 0; columns = 1 }) (leb→le (suc k) (length ranges) (row .there))))
 
   pub miss : test ≡ false → Past (suc k) code
   unfolding Past
   miss f = rw f at next
 
-  pub hit : test ≡ true → rangeAt k .columns ≡ charWidth code
-  hit t = sym (rw t at next)
+  width : getD l (i + 2) 0 ≡ rangeAt k .columns
+  width = ap (λ (m : List ℕ). getD m (i + 2) 0) same ∙ row .columns
+
+  pub hit : test ≡ true → (getD l (i + 2) 0 ≡ charWidth code) × (getD l (i + 2) 0 ≤ 2)
+  hit t = (width ∙ sym (rw t at next), rw width (leb→le (rangeAt k .columns) 2 (row .narrow)))

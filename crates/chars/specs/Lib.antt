@@ -4,4 +4,3 @@ pub mod Chars
 pub mod Cut
 pub mod Leads
 pub mod Read
-pub mod Blocks

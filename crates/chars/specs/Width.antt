@@ -27,3 +27,12 @@ widthIn (r ∷ rs) c = cond (within (r .first) (r .last) c) (r .columns) (widthI
 
 unfoldable pub charWidth : ℕ → ℕ
 charWidth c = widthIn ranges c
+
+-- the numbers of these ranges in a row: first, last, columns
+abbrev pub numbersOf : List Range → List ℕ
+numbersOf [] = []
+numbersOf (r ∷ rs) = r .first ∷ r .last ∷ r .columns ∷ numbersOf rs
+
+unfoldable pub rangeNumbers : List ℕ
+unfolding ranges
+rangeNumbers = numbersOf ranges

@@ -1,20 +1,19 @@
 // Characters of any bytes and their widths.
 // The bytes of a text are read as chapter 3 of the Unicode Standard has it: a well-formed sequence is one character, and so is each maximal ill-formed subpart (U+FFFD).
-// What a function answers is said by one definition of `specs/`: `charIn`, `charWidth`, `textWidth`, `wellFormed`, `truncateEndPos`, `truncateStartPos`, `zeroWidthLen`.
-// Calls that ask nothing of their caller: `display_width`, `is_well_formed`, `cut_end`, `cut_start`, `leading_zero_width`, `trim_start_zero_width_chars`.
+// What a function answers is said by one definition of `specs/`: `charIn`, `charWidth`, `textWidth`, `truncateEndPos`, `truncateStartPos`, `zeroWidthLen`.
+// Calls that ask nothing of their caller: `display_width`, `cut_end`, `cut_start`, `leading_zero_width`, `trim_start_zero_width_chars`.
 // A const array is built anew at each mention of it. So such a call makes the lead table once, `let t = LEADS;`, and lends it down: that is the parameter t.
 // Functions with a parameter t are public for the crates above, whose calls make the table once for all the texts that they read; t must be that table.
 ghost use mathlib.Core.Path.{_≡_};
-ghost use mathlib.Core.Bool.{true, false, cond};
+ghost use mathlib.Core.Bool.{cond};
 ghost use mathlib.Core.List.{_∷_, [], tail};
 ghost use Prim.Native.Nat.{_+_, _-_, _*_, _/_, _%_, _≤_, _<_};
 ghost use lib.ListN.{length, drop, getD};
 ghost use Rattle.chars.specs.Utf8.{rowOf, within};
 ghost use Rattle.chars.specs.Leads.{leadTable, columns};
-ghost use Rattle.chars.specs.Width.{charWidth};
-ghost use Rattle.chars.specs.Chars.{charAt, charIn, chars, wide, textWidth, allOk, wellFormed};
+ghost use Rattle.chars.specs.Width.{charWidth, rangeNumbers};
+ghost use Rattle.chars.specs.Chars.{charAt, charIn, wide, textWidth};
 ghost use Rattle.chars.specs.Read.{readOf, illFormed};
-ghost use Rattle.chars.specs.Blocks.{Ended, Fits, EndsAt, Fitting, Plain};
 ghost use Rattle.chars.specs.Cut.{truncateEndPos, truncateEndWidth, truncateStartPos, truncateStartWidth, zeroWidthLen};
 
 // What a byte says that leads a sequence: the sequence's length (0: it leads none) and the second byte's bounds.
@@ -145,75 +144,92 @@ fn inside(first: u32, last: u32, code: u32) -> bool
     code <= last
 }
 
+// Whether a code point is in the range whose numbers start at k.
+fn in_range(t: &[u32; 57], k: usize, code: u32) -> bool
+    requires { ⌜ k + 1 < 57 ⌝ }
+    ensures { λ r. ⌜ r ≡ within (getD (now (t .entry)) k 0) (getD (now (t .entry)) (k + 1) 0) code ⌝ }
+{
+    inside(t[k], t[k + 1], code)
+}
+
+// The width that the table t of ranges gives a code point. Its numbers are read through a reference: a local array would be written out at each step of the proof.
+fn width_in(t: &[u32; 57], code: u32) -> u32
+    requires { ⌜ now t ≡ rangeNumbers ⌝ }
+    ensures { λ r. ⌜ r ≡ charWidth code ⌝ }
+    ensures { λ r. ⌜ r ≤ 2 ⌝ }
+{
+    if in_range(t, 0, code) {
+        return t[2];
+    }
+    if in_range(t, 3, code) {
+        return t[5];
+    }
+    if in_range(t, 6, code) {
+        return t[8];
+    }
+    if in_range(t, 9, code) {
+        return t[11];
+    }
+    if in_range(t, 12, code) {
+        return t[14];
+    }
+    if in_range(t, 15, code) {
+        return t[17];
+    }
+    if in_range(t, 18, code) {
+        return t[20];
+    }
+    if in_range(t, 21, code) {
+        return t[23];
+    }
+    if in_range(t, 24, code) {
+        return t[26];
+    }
+    if in_range(t, 27, code) {
+        return t[29];
+    }
+    if in_range(t, 30, code) {
+        return t[32];
+    }
+    if in_range(t, 33, code) {
+        return t[35];
+    }
+    if in_range(t, 36, code) {
+        return t[38];
+    }
+    if in_range(t, 39, code) {
+        return t[41];
+    }
+    if in_range(t, 42, code) {
+        return t[44];
+    }
+    if in_range(t, 45, code) {
+        return t[47];
+    }
+    if in_range(t, 48, code) {
+        return t[50];
+    }
+    if in_range(t, 51, code) {
+        return t[53];
+    }
+    if in_range(t, 54, code) {
+        return t[56];
+    }
+    1
+}
+
 // The width of a code point. With literal indices the compiler turns the table into comparisons with constants; an index that varies would have it build the table in each call.
 pub fn char_width(code: u32) -> u32
     ensures { λ r. ⌜ r ≡ charWidth code ⌝ }
     ensures { λ r. ⌜ r ≤ 2 ⌝ }
 {
     let t = RANGES;
-    if inside(t[0], t[1], code) {
-        return t[2];
-    }
-    if inside(t[3], t[4], code) {
-        return t[5];
-    }
-    if inside(t[6], t[7], code) {
-        return t[8];
-    }
-    if inside(t[9], t[10], code) {
-        return t[11];
-    }
-    if inside(t[12], t[13], code) {
-        return t[14];
-    }
-    if inside(t[15], t[16], code) {
-        return t[17];
-    }
-    if inside(t[18], t[19], code) {
-        return t[20];
-    }
-    if inside(t[21], t[22], code) {
-        return t[23];
-    }
-    if inside(t[24], t[25], code) {
-        return t[26];
-    }
-    if inside(t[27], t[28], code) {
-        return t[29];
-    }
-    if inside(t[30], t[31], code) {
-        return t[32];
-    }
-    if inside(t[33], t[34], code) {
-        return t[35];
-    }
-    if inside(t[36], t[37], code) {
-        return t[38];
-    }
-    if inside(t[39], t[40], code) {
-        return t[41];
-    }
-    if inside(t[42], t[43], code) {
-        return t[44];
-    }
-    if inside(t[45], t[46], code) {
-        return t[47];
-    }
-    if inside(t[48], t[49], code) {
-        return t[50];
-    }
-    if inside(t[51], t[52], code) {
-        return t[53];
-    }
-    if inside(t[54], t[55], code) {
-        return t[56];
-    }
-    1
+    width_in(&t, code)
 }
 
 // The character at `at`, by the tables, as one number: eight times its bytes, four times whether it is well-formed, and its width.
 // One number, since a struct would come back through memory.
-fn seen_any(t: &[u16; 256], s: &[u8], at: usize) -> usize
+pub fn seen_any(t: &[u16; 256], s: &[u8], at: usize) -> usize
     requires { ⌜ now t ≡ leadTable ⌝ }
     requires { ⌜ at < length (now s) ⌝ }
     ensures { λ r. ⌜ (r / 8 ≡ length (charIn at (now (s .entry)) .text)) × (r / 4 % 2 ≡ cond (charIn at (now (s .entry)) .ok) 1 0) × (r % 4 ≡ wide (charIn at (now (s .entry)))) ⌝ }
@@ -273,222 +289,6 @@ pub fn text_width(t: &[u16; 256], s: &[u8]) -> u64
         at += c.len;
     }
     sum
-}
-
-// The bounds of the byte that follows y: they are narrower after four of the lead bytes.
-fn second_low(y: u8) -> u8
-    ensures { λ r. ⌜ (0x80 ≤ r) × (y ≡ 0xE0 → 0xA0 ≤ r) × (y ≡ 0xF0 → 0x90 ≤ r) ⌝ }
-{
-    if y == 0xE0 {
-        return 0xA0;
-    }
-    if y == 0xF0 {
-        return 0x90;
-    }
-    0x80
-}
-
-fn second_high(y: u8) -> u8
-    ensures { λ r. ⌜ (r ≤ 0xBF) × (y ≡ 0xED → r ≤ 0x9F) × (y ≡ 0xF4 → r ≤ 0x8F) ⌝ }
-{
-    if y == 0xED {
-        return 0x9F;
-    }
-    if y == 0xF4 {
-        return 0x8F;
-    }
-    0xBF
-}
-
-// 1 if z is outside the bounds, else 0.
-fn outside(low: u8, high: u8, z: u8) -> u8
-    ensures { λ r. ⌜ (r ≡ 0 → (low ≤ z) × (z ≤ high)) ⌝ }
-    ensures { λ r. ⌜ r ≤ 1 ⌝ }
-{
-    if z < low {
-        return 1;
-    }
-    if high < z {
-        return 1;
-    }
-    0
-}
-
-// 1 if z leads no sequence, else 0.
-fn no_lead(z: u8) -> u8
-    ensures { λ r. ⌜ (r ≡ 0 → 0x80 ≤ z → (0xC2 ≤ z) × (z ≤ 0xF4)) ⌝ }
-    ensures { λ r. ⌜ r ≤ 1 ⌝ }
-{
-    if z < 0x80 {
-        return 0;
-    }
-    outside(0xC2, 0xF4, z)
-}
-
-// Whether a lead byte among w, x and y asks for a byte after y.
-fn sequence_open(w: u8, x: u8, y: u8) -> bool
-    ensures { λ r. ⌜ (r ≡ true → Ended w x y → ⊥) × (r ≡ false → Ended w x y) ⌝ }
-{
-    if 0xC0 <= y {
-        return true;
-    }
-    if 0xE0 <= x {
-        return true;
-    }
-    0xF0 <= w
-}
-
-fn either(t: bool, a: u8, b: u8) -> u8
-    ensures { λ r. ⌜ r ≡ cond t a b ⌝ }
-{
-    if t {
-        return a;
-    }
-    b
-}
-
-// 0 if z can follow w, x and y in a well-formed text, else 1. Both answers are worked out before one is taken: without a branch the compiler does 16 places at once.
-fn misplaced(w: u8, x: u8, y: u8, z: u8) -> u8
-    ensures { λ r. ⌜ (r ≡ 0 → Fits w x y z) ⌝ }
-    ensures { λ r. ⌜ r ≤ 1 ⌝ }
-{
-    let continued = outside(second_low(y), second_high(y), z);
-    let led = no_lead(z);
-    either(sequence_open(w, x, y), continued, led)
-}
-
-// The last place from `from` to `from` + 3 at which a character can start, as far as the bytes between tell.
-fn last_boundary(s: &[u8], from: usize) -> usize
-    requires { ⌜ from + 3 ≤ length (now s) ⌝ }
-    ensures { λ r. ⌜ (r ≡ from + 3 → EndsAt (from + 3) (now (s .entry))) × (r < from + 3 → 0xC0 ≤ getD (now (s .entry)) r 0) ⌝ }
-    ensures { λ r. ⌜ (from ≤ r) × (r ≤ from + 3) ⌝ }
-{
-    if 0xC0 <= s[from + 2] {
-        return from + 2;
-    }
-    if 0xE0 <= s[from + 1] {
-        return from + 1;
-    }
-    if 0xF0 <= s[from] {
-        return from;
-    }
-    from + 3
-}
-
-// Whether the bytes at `from` + 3 to `from` + 34 can follow those before them.
-fn fitting_block(s: &[u8], from: usize) -> bool
-    requires { ⌜ from + 35 ≤ length (now s) ⌝ }
-    ensures { λ r. ⌜ (r ≡ true → Fitting (from + 3) (from + 35) (now (s .entry))) ⌝ }
-{
-    let mut bad: u8 = 0;
-    let mut i = 0;
-    while i < 32 {
-        let j = from + i;
-        bad += misplaced(s[j], s[j + 1], s[j + 2], s[j + 3]);
-        i += 1;
-    }
-    bad == 0
-}
-
-fn larger(a: u8, b: u8) -> u8
-    ensures { λ r. ⌜ (a ≤ r) × (b ≤ r) ⌝ }
-{
-    if a < b {
-        return b;
-    }
-    a
-}
-
-// Whether the 32 bytes from `at` on are ASCII.
-fn plain_block(s: &[u8], at: usize) -> bool
-    requires { ⌜ at + 32 ≤ length (now s) ⌝ }
-    ensures { λ r. ⌜ (r ≡ true → Plain at (at + 32) (now (s .entry))) ⌝ }
-{
-    let mut high: u8 = 0;
-    let mut i = 0;
-    while i < 32 {
-        high = larger(high, s[at + i]);
-        i += 1;
-    }
-    high < 128
-}
-
-// Whether the 32 bytes from `at` on can follow those before them. ASCII is tested first: it takes a tenth of the time.
-fn block_fits(s: &[u8], at: usize) -> bool
-    requires { ⌜ (3 ≤ at) × (at + 32 ≤ length (now s)) ⌝ }
-    ensures { λ r. ⌜ (r ≡ true → Fitting at (at + 32) (now (s .entry))) ⌝ }
-{
-    if plain_block(s, at) {
-        return last_boundary(s, at - 3) == at;
-    }
-    fitting_block(s, at - 3)
-}
-
-// Whether the first three bytes can start a text.
-fn first_fit(s: &[u8]) -> bool
-    requires { ⌜ 3 ≤ length (now s) ⌝ }
-    ensures { λ r. ⌜ (r ≡ true → Fitting 0 3 (now (s .entry))) ⌝ }
-{
-    let a = misplaced(0, 0, 0, s[0]);
-    let b = misplaced(0, 0, s[0], s[1]);
-    let c = misplaced(0, s[0], s[1], s[2]);
-    a + b + c == 0
-}
-
-// How far a text is well-formed as its blocks of 32 bytes tell: where a character starts, all before it are well-formed.
-// The last block ends where the text ends and may overlap the one before. A short text is left to the reader of characters.
-fn blocks_end(s: &[u8]) -> usize
-    ensures { λ r. ⌜ allOk (chars (drop r (now (s .entry)))) ≡ wellFormed (now (s .entry)) ⌝ }
-    ensures { λ r. ⌜ r ≤ length (now (s .entry)) ⌝ }
-{
-    let n = s.len();
-    if n < 35 {
-        return 0;
-    }
-    if !first_fit(s) {
-        return 0;
-    }
-    let mut at = 3;
-    while at + 32 <= n {
-        if !block_fits(s, at) {
-            return last_boundary(s, at - 3);
-        }
-        at += 32;
-    }
-    if !block_fits(s, n - 32) {
-        return last_boundary(s, at - 3);
-    }
-    last_boundary(s, n - 3)
-}
-
-// Whether each character from `from` on is well-formed.
-fn well_formed_from(t: &[u16; 256], s: &[u8], from: usize) -> bool
-    requires { ⌜ now t ≡ leadTable ⌝ }
-    requires { ⌜ from ≤ length (now s) ⌝ }
-    ensures { λ r. ⌜ r ≡ allOk (chars (drop from (now (s .entry)))) ⌝ }
-{
-    let mut at = from;
-    while at < s.len() {
-        if s[at] < 128 {
-            at += 1;
-            continue;
-        }
-        let p = seen_any(t, s, at);
-        if p / 4 % 2 == 0 {
-            return false;
-        }
-        at += p / 8;
-    }
-    true
-}
-
-// Whether each character of a text is well-formed, by blocks first. It stays a call.
-pub fn long_well_formed(t: &[u16; 256], s: &[u8]) -> bool
-    requires { ⌜ now t ≡ leadTable ⌝ }
-    ensures { λ r. ⌜ r ≡ wellFormed (now (s .entry)) ⌝ }
-{
-    let at = blocks_end(s);
-    well_formed_from(t, s, at)
 }
 
 // A place in a text, and the width of the part that is kept.
@@ -570,31 +370,6 @@ pub fn display_width(s: &[u8]) -> u64
 {
     let t = LEADS;
     text_width(&t, s)
-}
-
-// Whether a text is well-formed UTF-8, by the table. It stays a call: it is called at two places.
-fn well_formed_by_table(s: &[u8]) -> bool
-    ensures { λ r. ⌜ r ≡ wellFormed (now (s .entry)) ⌝ }
-{
-    let t = LEADS;
-    long_well_formed(&t, s)
-}
-
-// Whether a text is well-formed UTF-8. A short one in ASCII, as labels are, pays for no table and no call: this is small enough to be inlined.
-pub fn is_well_formed(s: &[u8]) -> bool
-    ensures { λ r. ⌜ r ≡ wellFormed (now (s .entry)) ⌝ }
-{
-    if 35 <= s.len() {
-        return well_formed_by_table(s);
-    }
-    let mut at = 0;
-    while at < s.len() {
-        if 127 < s[at] {
-            return well_formed_by_table(s);
-        }
-        at += 1;
-    }
-    true
 }
 
 // Where the longest beginning ends that is at most max wide, and its width.

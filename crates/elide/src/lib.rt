@@ -199,10 +199,10 @@ fn fault(t: &[u16; 256], text: &[u8], ellipsis: &[u8]) -> u8
     if LIMIT < ellipsis.len() {
         return 1;
     }
-    if !chars::long_well_formed(t, text) {
+    if !well_formed::long_well_formed(t, text) {
         return 7;
     }
-    if !chars::long_well_formed(t, ellipsis) {
+    if !well_formed::long_well_formed(t, ellipsis) {
         return 7;
     }
     0

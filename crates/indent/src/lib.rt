@@ -3,7 +3,7 @@
 // `bytes`, `numbers` and `texts` are the lent buffers; `content`, `entries` and `text` the recording that is indented.
 use recording::Answer;
 use recording::CheckedBoth;
-use recording::check_both;
+use recording_check::check_both;
 use writer::Cursor;
 use writer::Settled;
 use writer::keep;

@@ -1,12 +1,12 @@
 // Module 1 of document 01, the recorder: append data, push a label, pop it, append a raw sequence, replay. None of the calls requires anything.
 // Each keeps the promise (`Promised`) of its outcome in `specs/Recorder.antt`; refused calls write nothing.
 use buffer::put;
-use chars::is_well_formed;
 use recording::Answer;
 use recording::Checked;
 use recording::Entry;
 use recording::Refusal;
-use recording::check;
+use recording_check::check;
+use well_formed::is_well_formed;
 use writer::Cursor;
 use writer::Settled;
 use writer::put_recording;

@@ -6,7 +6,7 @@ use layout::Replacement;
 use recording::Answer;
 use recording::Checked;
 use recording::Refusal;
-use recording::check;
+use recording_check::check;
 use writer::Cursor;
 use writer::Settled;
 use writer::keep;

@@ -5,7 +5,7 @@ use layout::Replacement;
 use recording::Answer;
 use recording::Checked;
 use recording::Refusal;
-use recording::check;
+use recording_check::check;
 use replace::Scan;
 use replace::capped_add;
 use replace::check_numbers;

@@ -19,27 +19,6 @@ use Rattle.writer.specs.Write.{Out, add, Fits, left}
 use Rattle.writer.proofs.Steps.{fits-first, fits-then, then, front-start, back-start, front-all, back-all, data-size}
 use Rattle.layout.specs.Layout.{cutEnd, cutStart}
 
--- ── the leading zero-width characters are a part of the text
-lead-bytes : (cs : List Character) → length (bytesOf (leadingZeroWidth cs)) ≤ length (bytesOf cs)
-lead-bytes [] = omega arith
-lead-bytes (c ∷ cs) = go (eqb (wide c) 0) (lead-bytes cs)
-  where
-    go : (t : Bool) → length (bytesOf (leadingZeroWidth cs)) ≤ length (bytesOf cs) → length (bytesOf (cond t (c ∷ leadingZeroWidth cs) [])) ≤ length (c .text ++ bytesOf cs)
-    go true h = omega (arith, h, length-append (c .text) (bytesOf (leadingZeroWidth cs)), length-append (c .text) (bytesOf cs))
-    go false h = omega arith
-
-pub zero-width-within : (s : List ℕ) → zeroWidthLen s ≤ length s
-unfolding zeroWidthLen
-zero-width-within s = omega (arith, lead-bytes (chars s), ap length (bytes-chars s))
-
--- a text from `start` on, without them: what is left says where it begins
-pub trimmed : (s rest : List ℕ) (start : ℕ) → start ≤ length s → rest ≡ drop (zeroWidthLen (take (length s - start) (drop start s))) (take (length s - start) (drop start s))
-    → (length rest ≤ length s) × (length s - length rest ≡ start + zeroWidthLen (drop start s)) × (length s - length rest ≤ length s)
-trimmed s rest start h e =
-    let p : rest ≡ drop (zeroWidthLen (drop start s)) (drop start s) = rw (part-to-end s start) at e in
-    let l : length rest ≡ length (drop start s) - zeroWidthLen (drop start s) = ap length p ∙ length-drop (zeroWidthLen (drop start s)) (drop start s) in
-    (omega (arith, l, length-drop start s), omega (arith, l, h, length-drop start s, zero-width-within (drop start s)), omega (arith, l, h))
-
 -- ── two steps
 module _ (n : ℕ) (ds ns ts : List ℕ) where
   rest-size : length (dataOf (back n (items (recording ds ns ts)))) ≡ length ds - n

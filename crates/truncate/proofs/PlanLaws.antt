@@ -17,8 +17,9 @@ use Rattle.writer.proofs.Laws.{text-size}
 use Rattle.recording.specs.declared.TextSizes.{TextSizes}
 use Rattle.outcomes.proofs.SecondLaws.{Fine, Given, content, second, BothFine, Measured}
 use Rattle.layout.specs.Layout.{Kind, writeTruncatedStart, writeTruncatedEnd, withSecond, cutEnd, cutStart, trimmedStartPos, truncateEnd, truncateStart, resultItems, number}
-use Rattle.truncate.specs.declared.Plan.{Plan}
-use Rattle.truncate.specs.Plan.{planEnd, planStart, endItems, startItems, plusIf}
+use Rattle.truncate_plan.specs.declared.Plan.{Plan}
+use Rattle.truncate_plan.specs.Plan.{planEnd, planStart}
+use Rattle.truncate.specs.Planned.{endItems, startItems, plusIf}
 use Rattle.truncate.proofs.CutLaws.{up-to-data, from-data}
 
 -- ── the items of a plan, by its test
@@ -86,31 +87,6 @@ module _ (max : ℕ) (ds es : List ℕ) (p : Plan) where
   start-uncut q z =
       let u = q ∙ uncut (ltb max (textWidth ds)) _ _ refl (sym (ap (λ (x : Plan). x .cut) q) ∙ z) in
       ap (λ (x : Plan). x .ellipsis) u
-
--- ── what is measured is the plan
-module _ (max : ℕ) (ds es : List ℕ) (w : ℕ) (ew : w ≡ textWidth ds) where
-  pub end-plan-whole : w ≤ max → record { cut = false; content = length ds; ellipsis = 0; width = w } ≡ planEnd max ds es
-  unfolding planEnd
-  end-plan-whole h = let z : ltb max (textWidth ds) ≡ false = le-ltb max (textWidth ds) (omega (arith, h, ew)) in rw (z, ew)
-
-  pub start-plan-whole : (n : ℕ) → w ≤ max → n ≡ 0 + zeroWidthLen ds → record { cut = false; content = n; ellipsis = length es; width = w } ≡ planStart max ds es
-  unfolding planStart
-  start-plan-whole n h en =
-      let z : ltb max (textWidth ds) ≡ false = le-ltb max (textWidth ds) (omega (arith, h, ew)) in
-      let m : n ≡ zeroWidthLen ds = omega (arith, en) in
-      rw (z, ew, m)
-
-  module _ (v room : ℕ) (ev : v ≡ textWidth es) (er : room ≡ max - v) (h : max < w) (a aw b bw : ℕ) where
-    pub end-plan-cut : a ≡ truncateEndPos room ds → aw ≡ truncateEndWidth room ds → b ≡ truncateEndPos max es → bw ≡ truncateEndWidth max es
-        → record { cut = true; content = a; ellipsis = b; width = aw + bw } ≡ planEnd max ds es
-    unfolding planEnd
-    end-plan-cut ea eaw eb ebw = let z : ltb max (textWidth ds) ≡ true = lt-ltb max (textWidth ds) (omega (arith, h, ew)) in rw (z, ea, eaw, eb, ebw, er, ev)
-
-    -- a and b are the places before trimming
-    pub start-plan-cut : (n m : ℕ) → a ≡ truncateStartPos room ds → aw ≡ truncateStartWidth room ds → b ≡ truncateStartPos max es → bw ≡ truncateStartWidth max es
-        → n ≡ a + zeroWidthLen (drop a ds) → m ≡ b + zeroWidthLen (drop b es) → record { cut = true; content = n; ellipsis = m; width = bw + aw } ≡ planStart max ds es
-    unfolding planStart trimmedStartPos
-    start-plan-cut n m ea eaw eb ebw en em = let z : ltb max (textWidth ds) ≡ true = lt-ltb max (textWidth ds) (omega (arith, h, ew)) in rw (z, en, em, ea, eaw, eb, ebw, er, ev)
 
 -- ── sizes
 count-if : (t : Bool) (x z : List Item) (a b : ℕ) → 4 * entryCount x ≡ a + b → 4 * entryCount z ≡ a → plusIf t a b ≡ 4 * entryCount (cond t x z)

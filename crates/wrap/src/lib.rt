@@ -6,7 +6,7 @@ use chars::LEADS;
 use line::next_line;
 use recording::Answer;
 use recording::Checked;
-use recording::check;
+use recording_check::check;
 use wrap_lines::LINE_NUMBERS;
 use wrap_lines::count_lines;
 use wrap_lines::numbers_of;

@@ -6,7 +6,8 @@ use borrow.Author.Needs.{needs}
 use Rattle.recording.specs.declared.Answer.{Answer}
 use Rattle.recording.specs.Outcome.{Returned, answerOf}
 use Rattle.call_lists.specs.Runs.{Given, Buffers, LaidOut, RunsCalls}
-use Rattle.capi.specs.Five.{five, RunsNumbers}
+use Rattle.answer_numbers.specs.Five.{five}
+use Rattle.capi.specs.Promises.{RunsNumbers}
 use Rattle.capi.proofs.ruszvedok_run_calls.Statement.{statement}
 use Rattle.capi.proofs.ruszvedok_run_calls.Tie as tie
 
@@ -42,6 +43,7 @@ same-length-8 c = search needs
 
 -- the promise with five numbers, from the promise with the answer that they are
 as-numbers : (g : Given) (b b′ : Buffers) (a : Answer) (res : List ℕ) → res ≡ five (answerOf a) → RunsCalls g b b′ a → RunsNumbers g b b′ res
+unfolding RunsNumbers
 as-numbers g b b′ a res e p =
     (e ∙ ap five (p .0), (p .1 .0, λ f. subst (λ (n : Returned). LaidOut g b b′ n) (p .0) (p .1 .1 f)))
 

@@ -8,7 +8,7 @@ use Rattle.elide.proofs.fault.Statement.{statement}
 use Rattle.elide.proofs.fault.Tie as tie
 use Rattle.elide.proofs.fault.Reads as reads
 use Rattle.elide.proofs.fault.Lts as lts
-use Rattle.chars.proofs.long_well_formed.Reads as long-well-formed-reads
+use Rattle.well_formed.proofs.long_well_formed.Reads as long-well-formed-reads
 
 returns : tie.Need-returns
 unfolding plainFault

@@ -19,7 +19,7 @@ use Rattle.indent.proofs.write_indented.Reads as reads
 use Rattle.indent.proofs.write_indented.Lts as lts
 use Rattle.indent.proofs.filled_lines.Reads as filled-lines-reads
 use Rattle.indent.proofs.put_indented.Reads as put-indented-reads
-use Rattle.recording.proofs.check_both.Reads as check-both-reads
+use Rattle.recording_check.proofs.check_both.Reads as check-both-reads
 use Rattle.writer.proofs.settle.Reads as settle-reads
 
 -- the call returns no number

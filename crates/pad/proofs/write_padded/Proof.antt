@@ -23,7 +23,7 @@ use Rattle.pad.proofs.fill_count.Reads as fill-count-reads
 use Rattle.pad.proofs.left_count.Reads as left-count-reads
 use Rattle.pad.proofs.once_if.Reads as once-if-reads
 use Rattle.pad.proofs.put_padded.Reads as put-padded-reads
-use Rattle.recording.proofs.check_both.Reads as check-both-reads
+use Rattle.recording_check.proofs.check_both.Reads as check-both-reads
 use Rattle.writer.proofs.settle.Reads as settle-reads
 
 -- no padding call returns a number

@@ -12,7 +12,7 @@ use Rattle.recorder.proofs.check_used.Statement.{statement}
 use Rattle.recorder.proofs.check_used.Tie as tie
 use Rattle.recorder.proofs.check_used.Reads as reads
 use Rattle.recorder.proofs.check_used.Lts as lts
-use Rattle.recording.proofs.check.Reads as check-reads
+use Rattle.recording_check.proofs.check.Reads as check-reads
 
 returns : tie.Need-returns
 unfolding faultOf numberOf

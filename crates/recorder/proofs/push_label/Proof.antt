@@ -16,7 +16,7 @@ use Rattle.recorder.proofs.push_label.Statement.{statement}
 use Rattle.recorder.proofs.push_label.Tie as tie
 use Rattle.recorder.proofs.push_label.Reads as reads
 use Rattle.recorder.proofs.push_label.Lts as lts
-use Rattle.chars.proofs.is_well_formed.Reads as is-well-formed-reads
+use Rattle.well_formed.proofs.is_well_formed.Reads as is-well-formed-reads
 use Rattle.recorder.proofs.check_used.Reads as check-used-reads
 use Rattle.recorder.proofs.put_mark.Reads as put-mark-reads
 use Rattle.writer.proofs.settle.Reads as settle-reads

@@ -6,7 +6,7 @@ use Rattle.recorder.proofs.replay.Statement.{statement}
 use Rattle.recorder.proofs.replay.Tie as tie
 use Rattle.recorder.proofs.replay.Reads as reads
 use Rattle.recorder.proofs.replay.Lts as lts
-use Rattle.recording.proofs.check.Reads as check-reads
+use Rattle.recording_check.proofs.check.Reads as check-reads
 use Rattle.writer.proofs.put_recording.Reads as put-recording-reads
 use Rattle.writer.proofs.settle.Reads as settle-reads
 

@@ -22,7 +22,7 @@ use Rattle.replace.proofs.write_replaced_flat.Statement.{statement}
 use Rattle.replace.proofs.write_replaced_flat.Tie as tie
 use Rattle.replace.proofs.write_replaced_flat.Reads as reads
 use Rattle.replace.proofs.write_replaced_flat.Lts as lts
-use Rattle.recording.proofs.check.Reads as check-reads
+use Rattle.recording_check.proofs.check.Reads as check-reads
 use Rattle.replace.proofs.capped_add.Reads as capped-add-reads
 use Rattle.replace.proofs.check_records.Reads as check-records-reads
 use Rattle.replace.proofs.write_records.Reads as write-records-reads

@@ -6,7 +6,7 @@ use Rattle.replace_records.proofs.judge.Statement.{statement}
 use Rattle.replace_records.proofs.judge.Tie as tie
 use Rattle.replace_records.proofs.judge.Reads as reads
 use Rattle.replace_records.proofs.judge.Lts as lts
-use Rattle.recording.proofs.check.Reads as check-reads
+use Rattle.recording_check.proofs.check.Reads as check-reads
 use Rattle.replace.proofs.capped_add.Reads as capped-add-reads
 use Rattle.writer.proofs.settle.Reads as settle-reads
 

@@ -1,6 +1,6 @@
 -- The sum, or its first part, by the test.
 use borrow.Author.Needs.{needs}
-use Rattle.truncate.specs.Plan.{plusIf}
+use Rattle.truncate.specs.Planned.{plusIf}
 use Rattle.truncate.proofs.plus_if.Statement.{statement}
 use Rattle.truncate.proofs.plus_if.Tie as tie
 use Rattle.truncate.proofs.plus_if.Reads as reads

@@ -9,15 +9,15 @@ use Rattle.recording.specs.declared.TextSizes.{TextSizes}
 use Rattle.recording.specs.Recording.{Item}
 use Rattle.layout.specs.Layout.{writeTruncatedEnd}
 use Rattle.outcomes.proofs.SecondLaws.{Given, content, second, BothFine, Measured, both-refused, both-fine, sizes-refused, has-room, written}
-use Rattle.truncate.specs.declared.Plan.{Plan}
-use Rattle.truncate.specs.Plan.{endItems}
+use Rattle.truncate_plan.specs.declared.Plan.{Plan}
+use Rattle.truncate.specs.Planned.{endItems}
 use Rattle.truncate.proofs.PlanLaws.{end-number, end-measured}
 use Rattle.truncate.proofs.write_truncated_end.Statement.{statement}
 use Rattle.truncate.proofs.write_truncated_end.Tie as tie
 use Rattle.truncate.proofs.write_truncated_end.Reads as reads
 use Rattle.truncate.proofs.write_truncated_end.Lts as lts
-use Rattle.recording.proofs.check_both.Reads as check-both-reads
-use Rattle.truncate.proofs.measure_end.Reads as measure-end-reads
+use Rattle.recording_check.proofs.check_both.Reads as check-both-reads
+use Rattle.truncate_plan.proofs.measure_end.Reads as measure-end-reads
 use Rattle.truncate.proofs.plus_if.Reads as plus-if-reads
 use Rattle.truncate.proofs.put_end.Reads as put-end-reads
 use Rattle.writer.proofs.settle.Reads as settle-reads

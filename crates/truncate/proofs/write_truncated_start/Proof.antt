@@ -10,15 +10,15 @@ use Rattle.recording.specs.declared.TextSizes.{TextSizes}
 use Rattle.recording.specs.Recording.{Item}
 use Rattle.layout.specs.Layout.{writeTruncatedStart}
 use Rattle.outcomes.proofs.SecondLaws.{Given, content, second, BothFine, Measured, both-refused, both-fine, sizes-refused, has-room, written}
-use Rattle.truncate.specs.declared.Plan.{Plan}
-use Rattle.truncate.specs.Plan.{startItems}
+use Rattle.truncate_plan.specs.declared.Plan.{Plan}
+use Rattle.truncate.specs.Planned.{startItems}
 use Rattle.truncate.proofs.PlanLaws.{start-number, start-measured}
 use Rattle.truncate.proofs.write_truncated_start.Statement.{statement}
 use Rattle.truncate.proofs.write_truncated_start.Tie as tie
 use Rattle.truncate.proofs.write_truncated_start.Reads as reads
 use Rattle.truncate.proofs.write_truncated_start.Lts as lts
-use Rattle.recording.proofs.check_both.Reads as check-both-reads
-use Rattle.truncate.proofs.measure_start.Reads as measure-start-reads
+use Rattle.recording_check.proofs.check_both.Reads as check-both-reads
+use Rattle.truncate_plan.proofs.measure_start.Reads as measure-start-reads
 use Rattle.truncate.proofs.plus_if.Reads as plus-if-reads
 use Rattle.truncate.proofs.put_start.Reads as put-start-reads
 use Rattle.writer.proofs.settle.Reads as settle-reads

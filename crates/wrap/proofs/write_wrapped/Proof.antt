@@ -16,7 +16,7 @@ use Rattle.wrap.proofs.write_wrapped.Statement.{statement}
 use Rattle.wrap.proofs.write_wrapped.Tie as tie
 use Rattle.wrap.proofs.write_wrapped.Reads as reads
 use Rattle.wrap.proofs.write_wrapped.Lts as lts
-use Rattle.recording.proofs.check.Reads as check-reads
+use Rattle.recording_check.proofs.check.Reads as check-reads
 use Rattle.wrap.proofs.put_wrapped.Reads as put-wrapped-reads
 use Rattle.wrap.proofs.settle_wrapped.Reads as settle-wrapped-reads
 

@@ -1,0 +1,22 @@
+-- The items that a truncating call writes by its plan (`truncate_plan`). `proofs/PlanLaws.antt`: these are `resultItems`, and the plan's width is `number`.
+use Prim.Native.Nat.{ℕ, _+_}
+use mathlib.Core.Bool.{Bool, true, false, cond}
+use mathlib.Core.List.{List, _++_}
+use Rattle.recording.specs.Recording.{Recording, Item, items}
+use Rattle.recording.specs.Edit.{edit}
+use Rattle.layout.specs.Layout.{cutEnd, cutStart}
+use Rattle.truncate_plan.specs.declared.Plan.{Plan}
+
+-- not cut, the ellipsis is not written, its entries included
+unfoldable pub endItems : Plan → Recording → Recording → List Item
+endItems p r e =
+    cond (p .cut) (edit (cutEnd (p .content) (r .dataBytes)) (items r) ++ edit (cutEnd (p .ellipsis) (e .dataBytes)) (items e)) (items r)
+
+unfoldable pub startItems : Plan → Recording → Recording → List Item
+startItems p r e =
+    cond (p .cut) (edit (cutStart (p .ellipsis)) (items e) ++ edit (cutStart (p .content)) (items r)) (edit (cutStart (p .content)) (items r))
+
+-- a, and b more if so
+unfoldable pub plusIf : Bool → ℕ → ℕ → ℕ
+plusIf true a b = a + b
+plusIf false a b = a
