@@ -1,15 +1,9 @@
 -- A content written in two steps from its start, bytes and entries in one and the entries alone in the other; and the sizes of what that leaves: no entry is dropped.
 use mathlib.Core.Path.{_≡_, ap, _∙_}
-use mathlib.Core.Bool.{Bool, true, false, cond}
-use mathlib.Core.List.{List, [], _∷_, _++_, append-nil}
+use mathlib.Core.List.{List, _++_, append-nil}
 use Prim.Native.Nat.{ℕ, _+_, _-_, _≤_}
 use native.Mathlib.Omega.{arith}
-use lib.Dec.{eqb}
 use lib.ListN.{length, take, drop, length-take, length-drop, length-append}
-use borrow.Rule.Slice.PartAt.{part-to-end}
-use Rattle.chars.specs.Chars.{Character, chars, bytesOf, wide}
-use Rattle.chars.specs.Cut.{leadingZeroWidth, zeroWidthLen}
-use Rattle.chars.proofs.CharsLaws.{bytes-chars}
 use Rattle.recording.specs.Recording.{recording, Item, items, dataOf}
 use Rattle.recording.specs.Edit.{front, back, entriesOnly, edit}
 use Rattle.recording.proofs.EditLaws.{data-back, edit-data}

@@ -2,13 +2,11 @@
 use mathlib.Core.Path.{_≡_, refl, sym, ap, _∙_}
 use mathlib.Core.Bool.{Bool, true, false, cond, false≢true}
 use mathlib.Core.List.{List, _++_}
-use Prim.Native.Nat.{ℕ, _+_, _-_, _*_, _≤_, _<_}
+use Prim.Native.Nat.{ℕ, _+_, _-_, _*_, _≤_}
 use native.Mathlib.Omega.{arith}
 use lib.Dec.{ltb}
-use lib.ListN.{length, drop, length-append}
-use borrow.Author.Tests.{lt-ltb, le-ltb}
+use lib.ListN.{length, length-append}
 use Rattle.chars.specs.Chars.{textWidth}
-use Rattle.chars.specs.Cut.{truncateEndPos, truncateEndWidth, truncateStartPos, truncateStartWidth, zeroWidthLen}
 use Rattle.recording.specs.Recording.{Recording, recording, Item, items, dataOf, textOf}
 use Rattle.recording.specs.Edit.{edit}
 use Rattle.recording.proofs.EditLaws.{data-append}
@@ -16,7 +14,7 @@ use Rattle.recording.proofs.SizeLaws.{entryCount, count-append, edit-count, edi
 use Rattle.writer.proofs.Laws.{text-size}
 use Rattle.recording.specs.declared.TextSizes.{TextSizes}
 use Rattle.outcomes.proofs.SecondLaws.{Fine, Given, content, second, BothFine, Measured}
-use Rattle.layout.specs.Layout.{Kind, writeTruncatedStart, writeTruncatedEnd, withSecond, cutEnd, cutStart, trimmedStartPos, truncateEnd, truncateStart, resultItems, number}
+use Rattle.layout.specs.Layout.{Kind, writeTruncatedStart, writeTruncatedEnd, withSecond, cutEnd, cutStart, truncateEnd, truncateStart, resultItems, number}
 use Rattle.truncate_plan.specs.declared.Plan.{Plan}
 use Rattle.truncate_plan.specs.Plan.{planEnd, planStart}
 use Rattle.truncate.specs.Planned.{endItems, startItems, plusIf}

@@ -1,6 +1,6 @@
 -- Well-formed texts (D86) and maximal subparts (D93b) in the words of chapter 3 of the Unicode Standard, over its table 3-7.
 -- `proofs/Subpart.antt` shows that `tailLen`, `complete` and `wellFormed` of `chars` are these.
-use Prim.Native.Nat.{ℕ, suc, _≤_}
+use Prim.Native.Nat.{ℕ, _≤_}
 use mathlib.Core.Bool.{Bool, true, false, _&&_, _||_}
 use mathlib.Core.List.{List, [], _∷_, _++_}
 use mathlib.Core.Logic.{_⊎_}
