@@ -10,7 +10,7 @@ use bench::room::Room;
 use bench::timing::Pair;
 use oracle::original::{FormatRecorder, Formatter};
 use oracle::{Entry, Kind, Lists, Recording, original};
-use ruszvedok::lent::{self, Place, Replacement, Used};
+use ruszvedok::lent::{self, LINE_NUMBERS, Place, Replacement, Used};
 
 pub struct Case {
     pub name: &'static str,
@@ -264,13 +264,13 @@ fn columns(row: &Row) -> usize {
 }
 
 fn wrap_bytes(input: &Input) -> Result<Pair, String> {
-    let most = 2 * input.size + 4;
+    let most = LINE_NUMBERS * (input.size + 2);
     let rattle = |row: &Row, lines: &mut [u32]| lent::wrap_bytes(&row.lists.data, columns(row) as u32, false, lines);
     let check = move |row: &Row| {
         let expected = oracle::wrap_bytes(&row.lists.data, columns(row), false);
         let mut lines = vec![0; most];
         let got = Answer::from(rattle(row, &mut lines));
-        let listed: Vec<_> = lines.chunks(2).take(got.number as usize).map(|l| (l[0] as usize, l[1] as usize)).collect();
+        let listed: Vec<_> = lent::Lines::new(&lines, got.number as usize).map(|l| (l.first, l.end, l.width)).collect();
         if (got.refusal, listed) == (0, expected) { Ok(()) } else { Err("other lines".into()) }
     };
     let lines = RefCell::new(vec![0; most]);
@@ -283,7 +283,7 @@ fn wrap_bytes(input: &Input) -> Result<Pair, String> {
 }
 
 thread_local! {
-    static LINES: RefCell<Vec<u32>> = RefCell::new(vec![0; 2 << 20]);
+    static LINES: RefCell<Vec<u32>> = RefCell::new(vec![0; LINE_NUMBERS << 20]);
 }
 
 fn write_wrapped(input: &Input) -> Result<Pair, String> {

@@ -161,9 +161,10 @@ pub fn fault(lists: &Lists) -> u64 {
     0
 }
 
-/// First byte and end of each line, as a line list has them.
-pub fn numbers_of(lines: Vec<(usize, usize)>) -> Vec<u32> {
-    lines.into_iter().flat_map(|(start, end)| [start as u32, end as u32]).collect()
+/// How many lines the original makes of a text, and what a line list has of them: first byte, end and width of each.
+pub fn listed(data: &[u8], width: usize, break_words: bool) -> (u64, Vec<u32>) {
+    let lines = oracle::wrap_bytes(data, width, break_words);
+    (lines.len() as u64, lines.into_iter().flat_map(|(start, end, width)| [start as u32, end as u32, width as u32]).collect())
 }
 
 /// The refusal of what is added (6 for a label, 3 for a raw sequence) and the lists with it at their ends; `kind`: 0 data, 1 a label, 2 a pop,

@@ -41,10 +41,10 @@ static void refused(const char *what, uint64_t refusal)
         expect(what, data[k] == 0xEE);
 }
 
-/* Lines as two numbers each. */
+/* Lines as three numbers each: first byte, end and width. */
 static void listed(const char *what, const uint32_t *wanted, size_t count)
 {
-    expect(what, res[RUSZVEDOK_RES_REFUSAL] == 0 && res[RUSZVEDOK_RES_NUMBER] * 2 == count);
+    expect(what, res[RUSZVEDOK_RES_REFUSAL] == 0 && res[RUSZVEDOK_RES_NUMBER] * RUSZVEDOK_LINE_NUMBERS == count);
     expect(what, memcmp(lines, wanted, count * sizeof lines[0]) == 0);
 }
 
@@ -67,15 +67,16 @@ static void texts(void)
 
 static void wrapping(void)
 {
-    LINES("C1", "oak 12 ft b", 5, false, 0, 3, 4, 9, 10, 11);
-    LINES("C2", "", 5, false, 0, 0);
-    LINES("C3", "ab\n", 5, false, 0, 2, 3, 3);
-    LINES("C4", "   ab", 2, false, 0, 0, 3, 5);
-    LINES("C5", "abcde", 2, true, 0, 2, 2, 4, 4, 5);
-    LINES("C5 unbroken", "abcde", 2, false, 0, 5);
-    LINES("C6", "ab c", 0, true, 0, 2, 3, 4);
-    LINES("C7", "\xE6\x9C\xA8" "a", 1, true, 0, 3, 3, 4);
-    ruszvedok_wrap_bytes(BYTES("ab c"), 0, true, lines, 3, res);
+    LINES("C1", "oak 12 ft b", 5, false, 0, 3, 3, 4, 9, 5, 10, 11, 1);
+    LINES("C2", "", 5, false, 0, 0, 0);
+    LINES("C3", "ab\n", 5, false, 0, 2, 2, 3, 3, 0);
+    LINES("C4", "   ab", 2, false, 0, 0, 0, 3, 5, 2);
+    LINES("C5", "abcde", 2, true, 0, 2, 2, 2, 4, 2, 4, 5, 1);
+    LINES("C5 unbroken", "abcde", 2, false, 0, 5, 5);
+    LINES("C6", "ab c", 0, true, 0, 2, 2, 3, 4, 1);
+    LINES("C7", "\xE6\x9C\xA8" "a", 1, true, 0, 3, 2, 3, 4, 1);
+    LINES("spaces inside and behind", "a  b  ", 80, false, 0, 4, 4);
+    ruszvedok_wrap_bytes(BYTES("ab c"), 0, true, lines, 2 * RUSZVEDOK_LINE_NUMBERS - 1, res);
     refused("line list", RUSZVEDOK_LINE_LIST_TOO_SHORT);
 }
 
@@ -115,7 +116,7 @@ static void labels(void)
 {
     uint8_t row[8], row_text[4] = {0};
     uint32_t row_entries[12];
-    const uint32_t wanted[] = {0, 0, 0, 1, 2, 1, 0, 0, 5, 2, 1, 2};
+    const uint32_t wanted[] = {0, 0, 0, 1, 2, 1, 0, 0, 5, 2, 1, 2}, wanted_lines[] = {0, 2, 2, 3, 5, 2};
     memset(row, 0, sizeof row);
     memset(row_entries, 0, sizeof row_entries);
     ruszvedok_push_label(row, 8, 0, row_entries, 12, 0, row_text, 4, 0, BYTES("x"), res);
@@ -126,7 +127,7 @@ static void labels(void)
     expect("recorded", res[0] == 0 && res[1] == 5 && res[2] == 12 && res[3] == 3 && res[4] == 0);
     ruszvedok_write_wrapped(row, 5, row_entries, 12, row_text, 3, 2, false, BUFFERS, lines, COUNT(lines), res);
     expect("C16 entries", res[2] == 12 && memcmp(entries, wanted, sizeof wanted) == 0 && res[3] == 3 && memcmp(text, "x\x1B[", 3) == 0);
-    expect("C16 lines", lines[0] == 0 && lines[1] == 2 && lines[2] == 3 && lines[3] == 5);
+    expect("C16 lines", memcmp(lines, wanted_lines, sizeof wanted_lines) == 0);
     left("C16", "ab\ncd", 2);
     ruszvedok_replay(row, 5, row_entries, 12, row_text, 3, BUFFERS, res);
     left("replayed", "ab cd", 0);
@@ -162,7 +163,8 @@ static void structs(void)
     holds("C1, structs", ruszvedok_write_wrapped_to(&out, ruszvedok_plain("oak 12 ft b"), 5, false, lines, COUNT(lines)), &out,
         "oak\n12 ft\nb", 3);
     expect("C1, its last line", lines[2 * RUSZVEDOK_LINE_NUMBERS + RUSZVEDOK_LINE_FIRST] == 10
-            && lines[2 * RUSZVEDOK_LINE_NUMBERS + RUSZVEDOK_LINE_END] == 11);
+            && lines[2 * RUSZVEDOK_LINE_NUMBERS + RUSZVEDOK_LINE_END] == 11
+            && lines[2 * RUSZVEDOK_LINE_NUMBERS + RUSZVEDOK_LINE_WIDTH] == 1);
     holds("replayed, structs", ruszvedok_replay_to(&out, row), &out, "spruce", 0);
     expect("refused, structs", ruszvedok_write_padded_end_to(&out, row, dot, 17).refusal == RUSZVEDOK_DATA_BUFFER_TOO_SHORT);
     expect("what it held", out.data_len == 6 && memcmp(out.data, "spruce", 6) == 0);

@@ -1,5 +1,5 @@
 /* A board row, recorded with its grades as labels, then truncated, padded and wrapped, by calls of their own and as a list of
- * calls; each result is printed with its labels.
+ * calls; each result is printed with its labels, and the wrapped lines once more, right-aligned.
  * Plain C11, and C++ as well. */
 #include "ruszvedok.h"
 
@@ -33,6 +33,19 @@ static void print(const char *title, unsigned width, ruszvedok_view row)
     printf("\n");
 }
 
+/* Prints the lines of a line list at the right of some columns: each has its place in the row and its width, so nothing is measured
+ * again. */
+static void print_right(unsigned columns, const uint32_t *lines, unsigned count, ruszvedok_view row)
+{
+    const uint32_t *line = lines, *end = lines + count * RUSZVEDOK_LINE_NUMBERS;
+    printf("right-aligned in %u:\n", columns);
+    for (; line < end; line += RUSZVEDOK_LINE_NUMBERS) {
+        uint32_t width = line[RUSZVEDOK_LINE_WIDTH], first = line[RUSZVEDOK_LINE_FIRST];
+        printf("%*s%.*s\n", width < columns ? (int)(columns - width) : 0, "", (int)(line[RUSZVEDOK_LINE_END] - first),
+            (const char *)row.data + first);
+    }
+}
+
 int main(void)
 {
     RUSZVEDOK_RECORDING(row, 128, 8, 64);
@@ -64,6 +77,7 @@ int main(void)
     print("centered in", 44, ruszvedok_view_of(&out));
     answer = ruszvedok_write_wrapped_to(&out, content, 12, false, lines, sizeof lines / sizeof lines[0]);
     print("wrapped at 12, lines", number(answer), ruszvedok_view_of(&out));
+    print_right(12, lines, number(answer), content);
 
     /* A list of calls, each on what the one before left: it goes back and forth between two sets of buffers, from `out` to `out`. */
     if (!ruszvedok_add_call(&list, RUSZVEDOK_CALL_TRUNCATE_END, 18, ellipsis)

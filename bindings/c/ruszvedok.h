@@ -229,9 +229,10 @@ typedef struct ruszvedok_calls {
 #define RUSZVEDOK_MAX_TEXT 65536
 
 /* A line of a line list: how many numbers it has, and the place of each among them. */
-#define RUSZVEDOK_LINE_NUMBERS 2
+#define RUSZVEDOK_LINE_NUMBERS 3
 #define RUSZVEDOK_LINE_FIRST 0
 #define RUSZVEDOK_LINE_END 1
+#define RUSZVEDOK_LINE_WIDTH 2
 
 /* Kinds of calls in a list: the first number of each. */
 enum ruszvedok_call_kind {
@@ -409,8 +410,8 @@ void ruszvedok_write_indented(
     uint8_t *out_data, size_t out_data_len, uint32_t *out_entries, size_t out_entries_len, uint8_t *out_text, size_t out_text_len,
     uint64_t res[5]);
 
-/* The lines of a text broken at the width, two numbers each: first byte and end. The number is how many. With break_words also
- * inside of words that are wider. A text of n bytes has at most n + 1 lines. The lengths in `res` are 0. */
+/* The lines of a text broken at the width, three numbers each: first byte, end and width. The number is how many. With
+ * break_words also inside of words that are wider. A text of n bytes has at most n + 1 lines. The lengths in `res` are 0. */
 void ruszvedok_wrap_bytes(
     const uint8_t *data, size_t data_len,
     uint32_t width, bool break_words,

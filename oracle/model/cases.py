@@ -1,19 +1,20 @@
-"""The model's own tests: document 01's cases C1 to C16, and its reading of UTF-8 against Python's decoder."""
+"""The model's own tests: document 01's cases C1 to C16, with document 02's widths of lines; its reading of UTF-8 against Python's decoder; and laws, on random inputs."""
 import random
 
 import lists
 
 from runs import NAMES
-from ruszvedok_model import balanced, call, chars, coloured, recording, text_width, wraplist
+from ruszvedok_model import balanced, call, chars, coloured, listed_lines, recording, text_width, width_of, wraplist
 
 WRAPS = [
-    ("C2", b"", 5, False, [0, 0]),
-    ("C3", b"ab\n", 5, False, [0, 2, 3, 3]),
-    ("C4", b"   ab", 2, False, [0, 0, 3, 5]),
-    ("C5", b"abcde", 2, True, [0, 2, 2, 4, 4, 5]),
-    ("C5, break 0", b"abcde", 2, False, [0, 5]),
-    ("C6", b"ab c", 0, True, [0, 2, 3, 4]),
-    ("C7", b"\xE6\x9C\xA8a", 1, True, [0, 3, 3, 4]),
+    ("C1", b"oak 12 ft b", 5, False, [0, 3, 3, 4, 9, 5, 10, 11, 1]),
+    ("C2", b"", 5, False, [0, 0, 0]),
+    ("C3", b"ab\n", 5, False, [0, 2, 2, 3, 3, 0]),
+    ("C4", b"   ab", 2, False, [0, 0, 0, 3, 5, 2]),
+    ("C5", b"abcde", 2, True, [0, 2, 2, 2, 4, 2, 4, 5, 1]),
+    ("C5, break 0", b"abcde", 2, False, [0, 5, 5]),
+    ("C6", b"ab c", 0, True, [0, 2, 2, 3, 4, 1]),
+    ("C7", b"\xE6\x9C\xA8a", 1, True, [0, 3, 2, 3, 4, 1]),
 ]
 SPRUCE, DOTS = recording(b"spruce"), recording(b"..")
 DATA = [
@@ -38,10 +39,12 @@ LABELLED = recording(b"ab cd", (0, 0, 0, 1, 2, 1, 0, 0), b"x")
 def document_cases():
     """The names of the cases that do not come out as the document says."""
     wrong = []
-    if wraplist(b"width break bytes\n5 0 6f616b2031322066742062\n") != b"row line start end\n0 0 0 3\n0 1 4 9\n0 2 10 11\n":
-        wrong.append("C1")
+    if wraplist(b"width break bytes\n5 0 6f616b2031322066742062\n5\n") != b"row line start end width\n0 0 0 3 3\n0 1 4 9 5\n0 2 10 11 1\n1 ! 0 0\n":
+        wrong.append("the listing")
     for name, data, width, breaks, lines in WRAPS:
-        if call("wrap_bytes", data, width, breaks, room=(0, 0, 0, len(lines))) != ((0, 0, 0, 0, len(lines) // 2), (b"", (), b"", tuple(lines))):
+        full = ((0, 0, 0, 0, len(lines) // 3), (b"", (), b"", tuple(lines)))
+        short = ((24, 0, 0, 0, 0), (b"", (), b"", (0xA5A5A5A5,) * (len(lines) - 1)))
+        if [call("wrap_bytes", data, width, breaks, room=(0, 0, 0, room)) for room in (len(lines), len(lines) - 1)] != [full, short]:
             wrong.append(name)
     if text_width(b"\xE6\x9C\x41") != 2:
         wrong.append("C8")
@@ -50,8 +53,8 @@ def document_cases():
         if (numbers[0], numbers[1], numbers[4], buffers[0]) != (0, len(data), number, data):
             wrong.append(name)
     wrong += [name for name, inputs, refusal in REFUSALS if call(*inputs) != ((refusal, 0, 0, 0, 0), (b"", (), b"", ()))]
-    numbers, (data, entries, text, _) = call("write_wrapped", LABELLED, 2, False, room=(5, 8, 1, 4))
-    if entries != (0, 0, 0, 1, 2, 1, 0, 0) or coloured(recording(data, entries, text))[2] != (0x0A, ()):
+    numbers, (data, entries, text, lines) = call("write_wrapped", LABELLED, 2, False, room=(5, 8, 1, 6))
+    if (entries, lines) != ((0, 0, 0, 1, 2, 1, 0, 0), (0, 2, 2, 3, 5, 2)) or coloured(recording(data, entries, text))[2] != (0x0A, ()):
         wrong.append("C16")
     return wrong
 
@@ -67,6 +70,22 @@ def samples():
 def unlike_python():
     """The texts that Python's decoder, which replaces each maximal subpart by one U+FFFD, reads otherwise."""
     return [s for s in samples() if [c.code for c in chars(s)] != [ord(c) for c in s.decode("utf-8", "replace")]]
+
+
+def alone(line, broken):
+    """A word alone; where words are broken, one character alone with the zero-width characters after it."""
+    return 0x20 not in line and (not broken or all(width_of(c) == 0 for c in chars(line)[1:]))
+
+
+def lines_too_wide(count=20_000):
+    """The random texts with a line whose listed width passes the width asked for, though it is not alone."""
+    pick, wrong = random.Random(3), []
+    pieces = [b"a", b"bc", b" ", b"  ", b"\n", b"\t", b"\xCC\x81", b"\xE6\x9C\xA8", b"\xE6\x9C", b"\xFF"]
+    for _ in range(count):
+        data, width, breaks = b"".join(pick.choice(pieces) for _ in range(pick.randrange(12))), pick.randrange(7), pick.random() < 0.5
+        if any(wide > width and not alone(data[start:end], breaks and width > 0) for start, end, wide in listed_lines(data, width, breaks)):
+            wrong.append((data, width, breaks))
+    return wrong
 
 
 def random_recording(pick, inside=True):
@@ -100,6 +119,6 @@ def lists_that_do_not_commute(count=4000):
     pick, wrong = random.Random(2), []
     for k in range(count):
         first, calls = random_recording(pick), [random_call(pick) for _ in range(pick.randrange(5))]
-        if not balanced(first) or not lists.commutes(first, calls, room=(pick.choice([8, 24, 64]), 96, 64, 16)):
+        if not balanced(first) or not lists.commutes(first, calls, room=(pick.choice([8, 24, 64]), 96, 64, 24)):
             wrong.append(k)
     return wrong

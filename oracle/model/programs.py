@@ -27,7 +27,7 @@ def rows_test():
     told = [
         b"wraplist: cannot read the sheet\n",
         b"wraplist: cannot write the rows\n",
-        b"wraplist reads a sheet of wrapping tasks from standard input and prints where their lines start and end.\n",
+        b"wraplist reads a sheet of wrapping tasks from standard input and prints where their lines start and end, and how wide they are.\n",
         b"A sheet: the line 'width break bytes', then on each line a width, 1 to break long words or else 0, and hexadecimal bytes or -.\n",
     ]
     lengths = [b"%d\n" % len(wraplist(sheet)) for sheet in longest + many_bytes]

@@ -1,6 +1,6 @@
-"""Document 01 in Python: what each call answers and leaves, worked out in the document's order and words.
+"""Document 01 in Python, with what document 02 changed in it: what each call answers and leaves, worked out in the documents' order and words.
 
-It is written from the document alone and shares nothing with the code that is proved. README.md says how it is used; in short:
+It is written from the documents alone and shares nothing with the code that is proved. README.md says how it is used; in short:
 
     numbers, buffers = call("write_truncated_end", recording(b"spruce"), recording(b".."), 4, room=(8, 0, 0))
 
@@ -399,6 +399,11 @@ def wrapped_lines(data, width, break_words):
     return lines
 
 
+def listed_lines(data, width, break_words):
+    """The numbers of each line in the line list (document 02, Q-1): first byte, end, and the display width of the bytes between them."""
+    return [(start, end, text_width(data[start:end])) for start, end in wrapped_lines(data, width, break_words)]
+
+
 def write_wrapped(content, width, break_words, out):
     """Joins the lines by 0A; an added 0A carries the labels of the content byte at the finished line's end offset. Empty data writes no byte."""
     lines, copy = wrapped_lines(content.data, width, break_words), Copy(content, out)
@@ -499,19 +504,19 @@ def value_bytes(field):
 
 
 def value_line(line):
-    """The lines that a value line asks for, or None if it is bad."""
+    """The lines that a value line asks for, three numbers each, or None if it is bad."""
     fields = line.split(b" ")
     if len(fields) != 3 or fields[1] not in (b"0", b"1"):
         return None
     width, data = decimal(fields[0]), value_bytes(fields[2])
     if width is None or data is None:
         return None
-    return wrapped_lines(data, width, fields[1] == b"1")
+    return listed_lines(data, width, fields[1] == b"1")
 
 
 def wraplist(sheet):
-    """The output for a sheet."""
-    out = ["row line start end"]
+    """The output for a sheet; document 02, Q-1, added the last column, which bad lines do not have."""
+    out = ["row line start end width"]
     heading, newline, values = sheet.partition(b"\n")
     if len(sheet) > SHEET_LIMIT or heading != HEADING or newline == b"":
         return "\n".join(out + ["0 ! 0 0", ""]).encode()
@@ -521,7 +526,7 @@ def wraplist(sheet):
         if lines is None:
             out.append(f"{row} ! 0 0")
         else:
-            out += [f"{row} {k} {start} {end}" for k, (start, end) in enumerate(lines)]
+            out += [f"{row} {k} {start} {end} {width}" for k, (start, end, width) in enumerate(lines)]
     return "\n".join(out + [""]).encode()
 
 
@@ -578,7 +583,7 @@ def overwrite(buffer, new):
 
 
 def settle(out, number, lines, buffers):
-    """9, then 21 to 24, then the answer and what the buffers hold."""
+    """9, then 21 to 24, then the answer and what the buffers hold. The line list takes three numbers a line."""
     data, numbers, text, line_list = buffers
     check_lengths(out.length, 4 * len(out.entries), out.text_length())
     line_numbers = [n for line in lines for n in line]
@@ -604,12 +609,12 @@ def layout_call(write):
 def wrap_call(content, width, break_words, buffers):
     check_recording(content)
     out = Result()
-    return settle(out, write_wrapped(content, width, break_words, out), wrapped_lines(content.data, width, break_words), buffers)
+    return settle(out, write_wrapped(content, width, break_words, out), listed_lines(content.data, width, break_words), buffers)
 
 
 def wrap_bytes_call(data, width, break_words, buffers):
     refuse_if(len(data) > DATA_LIMIT, 1)
-    lines = wrapped_lines(data, width, break_words)
+    lines = listed_lines(data, width, break_words)
     return settle(Result(), len(lines), lines, buffers)
 
 

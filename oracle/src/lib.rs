@@ -129,14 +129,15 @@ pub fn write_indented(content: &Recording, prefix: &Recording) -> Recording {
     recorded(|out| original::write_indented(out, &content.to_recorder(), |out| prefix.replay(out))).0
 }
 
-/// First byte and end of each line.
-pub fn wrap_bytes(text: &[u8], width: usize, break_words: bool) -> Vec<(usize, usize)> {
+/// First byte, end and width of each line. The original gives the lines as parts of the text; a line's width is worked out of its bytes
+/// alone, with the stand-in widths.
+pub fn wrap_bytes(text: &[u8], width: usize, break_words: bool) -> Vec<(usize, usize, usize)> {
     let lines = original::wrap_bytes(text, width, break_words);
     lines
         .into_iter()
         .map(|line| {
             let start = line.as_ptr() as usize - text.as_ptr() as usize;
-            (start, start + line.len())
+            (start, start + line.len(), text_width(line))
         })
         .collect()
 }

@@ -11,14 +11,14 @@ fn data(recording: Recording) -> String {
 
 #[test]
 fn wrapping() {
-    assert_eq!(wrap_bytes(b"oak 12 ft b", 5, false), [(0, 3), (4, 9), (10, 11)]); // C1
-    assert_eq!(wrap_bytes(b"", 5, false), [(0, 0)]); // C2
-    assert_eq!(wrap_bytes(b"ab\n", 5, false), [(0, 2), (3, 3)]); // C3
-    assert_eq!(wrap_bytes(b"   ab", 2, false), [(0, 0), (3, 5)]); // C4
-    assert_eq!(wrap_bytes(b"abcde", 2, true), [(0, 2), (2, 4), (4, 5)]); // C5
-    assert_eq!(wrap_bytes(b"abcde", 2, false), [(0, 5)]);
-    assert_eq!(wrap_bytes(b"ab c", 0, true), [(0, 2), (3, 4)]); // C6
-    assert_eq!(wrap_bytes(b"\xE6\x9C\xA8a", 1, true), [(0, 3), (3, 4)]); // C7
+    assert_eq!(wrap_bytes(b"oak 12 ft b", 5, false), [(0, 3, 3), (4, 9, 5), (10, 11, 1)]); // C1
+    assert_eq!(wrap_bytes(b"", 5, false), [(0, 0, 0)]); // C2
+    assert_eq!(wrap_bytes(b"ab\n", 5, false), [(0, 2, 2), (3, 3, 0)]); // C3
+    assert_eq!(wrap_bytes(b"   ab", 2, false), [(0, 0, 0), (3, 5, 2)]); // C4
+    assert_eq!(wrap_bytes(b"abcde", 2, true), [(0, 2, 2), (2, 4, 2), (4, 5, 1)]); // C5
+    assert_eq!(wrap_bytes(b"abcde", 2, false), [(0, 5, 5)]);
+    assert_eq!(wrap_bytes(b"ab c", 0, true), [(0, 2, 2), (3, 4, 1)]); // C6
+    assert_eq!(wrap_bytes(b"\xE6\x9C\xA8a", 1, true), [(0, 3, 2), (3, 4, 1)]); // C7
 }
 
 #[test]
@@ -99,5 +99,5 @@ fn text() {
 fn escapes() {
     // The real display width skips the escape; the sum counts its characters but the first.
     assert_eq!(original::real::wrap_bytes(b"\x1b[1mab \x1b[0mc", 4, false), [&b"\x1b[1mab \x1b[0mc"[..]]);
-    assert_eq!(wrap_bytes(b"\x1b[1mab \x1b[0mc", 4, false), [(0, 6), (7, 12)]);
+    assert_eq!(wrap_bytes(b"\x1b[1mab \x1b[0mc", 4, false), [(0, 6, 5), (7, 12, 4)]);
 }

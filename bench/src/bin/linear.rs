@@ -2,7 +2,7 @@
 //! that is exactly long enough, which must be found out by counting first. Linear time: the two sizes cost about the same a byte.
 use std::time::{Duration, Instant};
 
-use ruszvedok::lent::wrap_bytes;
+use ruszvedok::lent::{LINE_NUMBERS, wrap_bytes};
 
 const SIZES: [usize; 2] = [1 << 16, 1 << 20];
 const ROUNDS: usize = 15;
@@ -39,10 +39,10 @@ fn main() {
         for exact in [false, true] {
             for size in SIZES {
                 let text = unit.repeat(size / unit.len());
-                let mut lines = vec![0; 2 * (text.len() + 1)];
+                let mut lines = vec![0; LINE_NUMBERS * (text.len() + 1)];
                 if exact {
                     let count = wrap_bytes(&text, width, break_words, &mut lines).unwrap().number as usize;
-                    lines.truncate(2 * count);
+                    lines.truncate(LINE_NUMBERS * count);
                 }
                 row += &format!(" {:.2} |", nanoseconds(&text, width, break_words, &mut lines));
             }

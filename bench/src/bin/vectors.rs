@@ -5,7 +5,7 @@ use std::collections::{HashMap, HashSet};
 use std::fmt::Write as _;
 
 use bench::inputs::{Numbers, damaged};
-use bench::recordings::{Expected, content, fault, maybe_damaged, numbers_of, recording, scattered, with_added};
+use bench::recordings::{Expected, content, fault, listed, maybe_damaged, recording, scattered, with_added};
 use oracle::{Lists, Recording, Replacement};
 
 /// Makes one vector of a call.
@@ -50,7 +50,7 @@ const REFUSED: usize = 40;
 /// The longest lists of one line, and of the whole: the program's buffer is as long.
 const MOST_BYTES: usize = 256;
 const MOST_NUMBERS: usize = 128;
-const MOST_LIST: usize = 1 << 21;
+const MOST_LIST: usize = 1 << 20;
 
 /// What holds each place of a lent buffer that is not written.
 const BYTE: u8 = 0xA5;
@@ -126,7 +126,7 @@ impl Vector {
             add("out_text", lent(&out.text, self.kept[2], BYTE, bytes));
         }
         if lists {
-            add("lines", lent(&self.lines, self.kept[3], NUMBER, |s| groups(s, 2)));
+            add("lines", lent(&self.lines, self.kept[3], NUMBER, |s| groups(s, 3)));
         }
         made
     }
@@ -328,8 +328,7 @@ fn wrap_width(data: &[u8], numbers: &mut Numbers) -> usize {
 fn wrap_bytes(numbers: &mut Numbers) -> Vector {
     let data = text(numbers);
     let (width, flag) = (wrap_width(&data, numbers), numbers.within(0, 1) == 0);
-    let lines = numbers_of(oracle::wrap_bytes(&data, width, flag));
-    let number = lines.len() as u64 / 2;
+    let (number, lines) = listed(&data, width, flag);
     let expected = Expected { faults: vec![], result: Lists::default(), lines, number };
     let content = Lists { data, ..Lists::default() };
     lend(Lent::Lines, Vector { content, number: width as u64, flag, ..Vector::default() }, expected, numbers)
@@ -338,9 +337,8 @@ fn wrap_bytes(numbers: &mut Numbers) -> Vector {
 fn write_wrapped(numbers: &mut Numbers) -> Vector {
     let (lists, fault, content) = input(numbers, 4);
     let (width, flag) = (wrap_width(&lists.data, numbers), numbers.within(0, 1) == 0);
-    let lines = numbers_of(oracle::wrap_bytes(&content.data, width, flag));
+    let (number, lines) = listed(&content.data, width, flag);
     let result = oracle::write_wrapped(&content, width, flag).to_lists();
-    let number = lines.len() as u64 / 2;
     let expected = Expected { faults: vec![fault], result, lines, number };
     lend(Lent::RecordingAndLines, Vector { content: lists, number: width as u64, flag, ..Vector::default() }, expected, numbers)
 }

@@ -1,5 +1,5 @@
 //! A board row, recorded with its grades as labels, then truncated, padded and wrapped, by calls of their own and as a list of calls; each
-//! result is printed with its labels. The same as `bindings/c/example.c`, which prints the same.
+//! result is printed with its labels, and the wrapped lines once more, right-aligned. The same as `bindings/c/example.c`, which prints the same.
 use ruszvedok::lent::{self, Buffers};
 use ruszvedok::{run_layouts, text_width, write_padded_centered, write_truncated_end, write_truncated_start, write_wrapped};
 use ruszvedok::{FormatOp, FormatRecorder, Layout, Refusal};
@@ -36,8 +36,14 @@ fn main() -> Result<(), Refusal> {
     print("truncated at its start, width", width, &out)?;
     write_padded_centered(&mut out, &row, &dot, 44)?;
     print("centered in", 44, &out)?;
-    let lines = write_wrapped(&mut out, &row, 12, false)?.len();
-    print("wrapped at 12, lines", lines, &out)?;
+    let lines: Vec<_> = write_wrapped(&mut out, &row, 12, false)?.collect();
+    print("wrapped at 12, lines", lines.len(), &out)?;
+
+    // Each line comes with its place in the row and its width, so nothing is measured again.
+    println!("right-aligned in 12:");
+    for line in lines {
+        println!("{}{}", " ".repeat(12_usize.saturating_sub(line.width)), String::from_utf8_lossy(&row.data()[line.range()]));
+    }
 
     // A list of calls, each on what the one before left.
     let layouts = [

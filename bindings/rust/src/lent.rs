@@ -75,7 +75,7 @@ fn answered([refusal, data, entries, text, number]: [u64; 5]) -> Result<Done, Re
     }
 }
 
-/// A line as a line list has it: a stretch of the text that was wrapped.
+/// A line as a line list has it: a stretch of the text that was wrapped, and how wide it is.
 #[derive(Clone, Copy, Debug, PartialEq, Eq, Hash)]
 #[non_exhaustive]
 pub struct Line {
@@ -83,6 +83,8 @@ pub struct Line {
     pub first: usize,
     /// Its end.
     pub end: usize,
+    /// Its width: that of its bytes, spaces behind it left out.
+    pub width: usize,
 }
 
 impl Line {
@@ -113,7 +115,7 @@ impl Iterator for Lines<'_> {
     type Item = Line;
 
     fn next(&mut self) -> Option<Line> {
-        self.0.next().map(|line| Line { first: line[0] as usize, end: line[1] as usize })
+        self.0.next().map(|line| Line { first: line[0] as usize, end: line[1] as usize, width: line[2] as usize })
     }
 
     fn size_hint(&self) -> (usize, Option<usize>) {
@@ -318,7 +320,17 @@ pub fn write_indented(content: View, prefix: View, out: Buffers) -> Result<Done,
     layout!(ruszvedok_write_indented, [content, prefix], [], out)
 }
 
-/// The lines of a text, first byte and end of each; the number is how many.
+/// The lines of a text, first byte, end and width of each; the number is how many. [`Lines`] reads the list.
+///
+/// ```
+/// use ruszvedok::lent::{wrap_bytes, Lines, LINE_NUMBERS};
+///
+/// let mut list = [0; 4 * LINE_NUMBERS];
+/// let left = wrap_bytes(b"oak 12 ft b", 5, false, &mut list)?;
+/// let widths: Vec<_> = Lines::new(&list, left.number as usize).map(|line| line.width).collect();
+/// assert_eq!((&list[..9], widths), (&[0, 3, 3, 4, 9, 5, 10, 11, 1][..], vec![3, 5, 1]));
+/// # Ok::<(), ruszvedok::Refusal>(())
+/// ```
 ///
 /// # Errors
 ///

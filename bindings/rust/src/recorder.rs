@@ -438,7 +438,8 @@ impl FormatRecorder {
                 Refusal::EntryBufferTooShort => grow(&mut self.entries, MAX_ENTRY_NUMBERS),
                 Refusal::TextBufferTooShort => grow(&mut self.text, MAX_TEXT),
                 Refusal::LineListTooShort => {
-                    lengthen(&mut self.lines, least.data / 8, MAX_LINE_NUMBERS) || grow(&mut self.lines, MAX_LINE_NUMBERS)
+                    // A guess: a line for 16 bytes.
+                    lengthen(&mut self.lines, least.data / 16 * LINE_NUMBERS, MAX_LINE_NUMBERS) || grow(&mut self.lines, MAX_LINE_NUMBERS)
                 }
                 _ => false,
             };

@@ -9,8 +9,8 @@ pub const MAX_ENTRIES: usize = 4_096;
 pub const MAX_ENTRY_NUMBERS: usize = 16_384;
 /// The most text bytes of a recording: labels and raw sequences.
 pub const MAX_TEXT: usize = 65_536;
-/// How many numbers a line has in a line list: first and end.
-pub const LINE_NUMBERS: usize = 2;
+/// How many numbers a line has in a line list: first, end and width.
+pub const LINE_NUMBERS: usize = 3;
 
 /// The kind of a call in a list.
 #[derive(Clone, Copy, Debug, PartialEq, Eq, Hash)]

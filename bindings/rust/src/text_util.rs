@@ -11,7 +11,7 @@ use std::borrow::Cow;
 use crate::lent::{self, Done, Lines, Replacement};
 use crate::recorder::{grow, FormatRecorder, MAX_LINE_NUMBERS};
 use crate::refusal::Refusal;
-use crate::MAX_DATA;
+use crate::{LINE_NUMBERS, MAX_DATA};
 
 /// A width as the library takes it. No text within the limits is wider than `u32::MAX`, so a larger number does the same.
 pub(crate) fn columns(width: usize) -> u32 {
@@ -171,15 +171,15 @@ pub fn write_indented(
 }
 
 /// Writes the content wrapped at the width, and inside of words that are wider if `break_words`. Returns its lines, as stretches of
-/// the content's data.
+/// the content's data with their widths.
 ///
 /// ```
 /// use ruszvedok::{write_wrapped, FormatRecorder, Refusal};
 ///
 /// let row = FormatRecorder::with_data("oak 12 ft b")?;
 /// let mut out = FormatRecorder::new();
-/// let lines: Vec<_> = write_wrapped(&mut out, &row, 5, false)?.map(|line| line.range()).collect();
-/// assert_eq!(lines, [0..3, 4..9, 10..11]);
+/// let lines: Vec<_> = write_wrapped(&mut out, &row, 5, false)?.map(|line| (line.range(), line.width)).collect();
+/// assert_eq!(lines, [(0..3, 3), (4..9, 5), (10..11, 1)]);
 /// assert_eq!(out.data(), b"oak\n12 ft\nb");
 /// # Ok::<(), Refusal>(())
 /// ```
@@ -229,22 +229,23 @@ pub fn write_replaced(
     out.lend(least, |out, _| lent::write_replaced(content, replacements, text, out)).map(drop)
 }
 
-/// Wraps lines at the given width: the lines without their newlines, each a part of `text`.
+/// Wraps lines at the given width: the lines without their newlines, each a part of `text`, with its width. (The original gives no
+/// widths.)
 ///
 /// ```
 /// # use ruszvedok::{wrap_bytes, Refusal};
-/// assert_eq!(wrap_bytes(b"oak 12 ft b", 5, false)?, [&b"oak"[..], b"12 ft", b"b"]);
+/// assert_eq!(wrap_bytes(b"oak 12 ft b", 5, false)?, [(&b"oak"[..], 3), (b"12 ft", 5), (b"b", 1)]);
 /// # Ok::<(), Refusal>(())
 /// ```
 ///
 /// # Errors
 ///
 /// [`Refusal::DataTooLong`] if the text is over [`MAX_DATA`].
-pub fn wrap_bytes(text: &[u8], width: usize, break_words: bool) -> Result<Vec<&[u8]>, Refusal> {
-    let mut list = vec![0; text.len() / 8 + 16];
+pub fn wrap_bytes(text: &[u8], width: usize, break_words: bool) -> Result<Vec<(&[u8], usize)>, Refusal> {
+    let mut list = vec![0; (text.len() / 16 + 8) * LINE_NUMBERS];
     loop {
         match lent::wrap_bytes(text, columns(width), break_words, &mut list) {
-            Ok(done) => return Ok(Lines::new(&list, done.number as usize).map(|line| &text[line.range()]).collect()),
+            Ok(done) => return Ok(Lines::new(&list, done.number as usize).map(|line| (&text[line.range()], line.width)).collect()),
             Err(Refusal::LineListTooShort) if grow(&mut list, MAX_LINE_NUMBERS) => {}
             Err(refusal) => return Err(refusal),
         }

@@ -8,10 +8,10 @@ fn plain(data: &str) -> FormatRecorder {
     FormatRecorder::with_data(data).unwrap()
 }
 
-/// First byte and end of each line.
-fn lines(text: &[u8], width: usize, break_words: bool) -> Vec<(usize, usize)> {
+/// First byte, end and width of each line.
+fn lines(text: &[u8], width: usize, break_words: bool) -> Vec<(usize, usize, usize)> {
     let start = |line: &[u8]| line.as_ptr() as usize - text.as_ptr() as usize;
-    wrap_bytes(text, width, break_words).unwrap().into_iter().map(|line| (start(line), start(line) + line.len())).collect()
+    wrap_bytes(text, width, break_words).unwrap().into_iter().map(|(line, width)| (start(line), start(line) + line.len(), width)).collect()
 }
 
 type Left = Result<(String, usize), Refusal>;
@@ -27,14 +27,17 @@ fn left(call: impl FnOnce(&mut FormatRecorder) -> Result<usize, Refusal>) -> Lef
 
 #[test]
 fn c1_to_c7_wrapping() {
-    assert_eq!(lines(b"oak 12 ft b", 5, false), [(0, 3), (4, 9), (10, 11)]); // C1
-    assert_eq!(lines(b"", 5, false), [(0, 0)]); // C2
-    assert_eq!(lines(b"ab\n", 5, false), [(0, 2), (3, 3)]); // C3
-    assert_eq!(lines(b"   ab", 2, false), [(0, 0), (3, 5)]); // C4
-    assert_eq!(lines(b"abcde", 2, true), [(0, 2), (2, 4), (4, 5)]); // C5
-    assert_eq!(lines(b"abcde", 2, false), [(0, 5)]);
-    assert_eq!(lines(b"ab c", 0, true), [(0, 2), (3, 4)]); // C6
-    assert_eq!(lines(b"\xE6\x9C\xA8a", 1, true), [(0, 3), (3, 4)]); // C7
+    assert_eq!(lines(b"oak 12 ft b", 5, false), [(0, 3, 3), (4, 9, 5), (10, 11, 1)]); // C1
+    assert_eq!(lines(b"", 5, false), [(0, 0, 0)]); // C2
+    assert_eq!(lines(b"ab\n", 5, false), [(0, 2, 2), (3, 3, 0)]); // C3
+    assert_eq!(lines(b"   ab", 2, false), [(0, 0, 0), (3, 5, 2)]); // C4
+    assert_eq!(lines(b"abcde", 2, true), [(0, 2, 2), (2, 4, 2), (4, 5, 1)]); // C5
+    assert_eq!(lines(b"abcde", 2, false), [(0, 5, 5)]);
+    assert_eq!(lines(b"ab c", 0, true), [(0, 2, 2), (3, 4, 1)]); // C6
+    assert_eq!(lines(b"\xE6\x9C\xA8a", 1, true), [(0, 3, 2), (3, 4, 1)]); // C7
+    // A width counts columns: spaces inside a line, not those behind it; no zero-width character; an ill-formed sequence as one.
+    assert_eq!(lines("木\u{301}  a   \nb".as_bytes(), 80, false), [(0, 8, 5), (12, 13, 1)]);
+    assert_eq!(lines(b"a\xE6\x9C b", 2, false), [(0, 3, 2), (4, 5, 1)]);
     assert_eq!(left(|out| Ok(write_wrapped(out, &plain("oak 12 ft b"), 5, false)?.len())), Ok(("oak\n12 ft\nb".into(), 3)));
     assert_eq!(left(|out| Ok(write_wrapped(out, &plain("abcde"), 2, true)?.len())), Ok(("ab\ncd\ne".into(), 3)));
 }
@@ -100,8 +103,8 @@ fn c16_labels() {
     row.pop_label().unwrap();
     row.write_data(b" cd").unwrap();
     let mut out = FormatRecorder::new();
-    let lines: Vec<_> = write_wrapped(&mut out, &row, 2, false).unwrap().map(|line| (line.first, line.end)).collect();
-    assert_eq!(lines, [(0, 2), (3, 5)]);
+    let lines: Vec<_> = write_wrapped(&mut out, &row, 2, false).unwrap().map(|line| (line.first, line.end, line.width)).collect();
+    assert_eq!(lines, [(0, 2, 2), (3, 5, 2)]);
     assert_eq!(out.data(), b"ab\ncd");
     assert!(out.ops().eq([(0, FormatOp::PushLabel("x")), (2, FormatOp::PopLabel)]));
 }

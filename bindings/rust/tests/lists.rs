@@ -185,7 +185,7 @@ fn lent_as_one_by_one() {
         let content = *random.of(&CONTENTS);
         let mut length = |content: usize| content + *random.of(&[0, 8, 100]);
         let length = Used { data: length(content.data.len()), entries: length(content.entries.len()), text: length(content.text.len()) };
-        let mut lent = Lent::new(length, *random.of(&[0, 6, 100]), calls.len() + random.below(2));
+        let mut lent = Lent::new(length, *random.of(&[0, 9, 100]), calls.len() + random.below(2));
         let used = lent.first.put(content);
         let mut wanted = lent.clone();
         let left = one_by_one(&mut wanted, &calls, pools, used);

@@ -48,13 +48,13 @@ fn of_a_recording() {
 fn of_the_buffers() {
     let row = View { data: b"ab cd", entries: &[0, 0, 0, 1, 5, 1, 0, 0], text: b"x" };
     let of = |sizes, lines: usize| refused(sizes, |out| lent::write_wrapped(row, 2, false, out, &mut vec![0; lines]));
-    assert_eq!(of((4, 8, 1), 4), 21);
-    assert_eq!(of((5, 7, 1), 4), 22);
-    assert_eq!(of((5, 8, 0), 4), 23);
-    assert_eq!(of((5, 8, 1), 3), 24);
-    assert_eq!(of((5, 8, 1), 4), 0);
-    let mut lines = [7; 3];
-    assert_eq!((number(lent::wrap_bytes(b"ab cd", 2, false, &mut lines)), lines), (24, [7; 3]));
+    assert_eq!(of((4, 8, 1), 6), 21);
+    assert_eq!(of((5, 7, 1), 6), 22);
+    assert_eq!(of((5, 8, 0), 6), 23);
+    assert_eq!(of((5, 8, 1), 5), 24);
+    assert_eq!(of((5, 8, 1), 6), 0);
+    let mut lines = [7; 5];
+    assert_eq!((number(lent::wrap_bytes(b"ab cd", 2, false, &mut lines)), lines), (24, [7; 5]));
     let mut out = [7; 3];
     assert_eq!((number(lent::elide_end(b"spruce", b"..", 4, &mut out)), out), (21, [7; 3]));
     assert_eq!((number(lent::elide_start(b"spruce", b"..", 4, &mut out)), out), (21, [7; 3]));

@@ -317,7 +317,7 @@ pub extern "C" fn ruszvedok_write_indented(
     store(a, res);
 }
 
-// The lines of a text broken at the width, two numbers each: first byte and end. The number is how many.
+// The lines of a text broken at the width, three numbers each: first byte, end and width. The number is how many.
 #[no_mangle]
 pub extern "C" fn ruszvedok_wrap_bytes(
     data: &[u8],

@@ -3,9 +3,8 @@ use mathlib.Core.Bool.{true, false}
 use mathlib.Core.List.{List, [], _∷_}
 use Rattle.recording.specs.Recording.{recording}
 use Rattle.recording.specs.Outcome.{Outcome, done}
-use Rattle.layout.specs.Wrap.{lineOf}
 use Rattle.layout.specs.Layout.{truncateStart, truncateEnd, padEnd, padCentered, indent, wrap, replace}
-use Rattle.layout.specs.Pins.{linesOf, widthOf, call, lines, numbers, outcomeOf, row, roomy, replacement}
+use Rattle.layout.specs.Pins.{linesOf, widthOf, call, lines, numbers, outcomeOf, row, line, roomy, replacement}
 use Rattle.layout.specs.Pins as layoutPins
 use Rattle.elide.specs.Pins.{c15}
 use Rattle.elide.specs.Pins as plainPins
@@ -41,21 +40,21 @@ plainCases (r ∷ rs) = plainCase r ∷ plainCases rs
 unfoldable pub table : List Case
 table =
     -- C1
-    layoutCase (row (linesOf 5 false (0x6F ∷ 0x61 ∷ 0x6B ∷ 0x20 ∷ 0x31 ∷ 0x32 ∷ 0x20 ∷ 0x66 ∷ 0x74 ∷ 0x20 ∷ 0x62 ∷ [])) (lines (lineOf 0 3 ∷ lineOf 4 9 ∷ lineOf 10 11 ∷ []))) ∷
+    layoutCase (row (linesOf 5 false (0x6F ∷ 0x61 ∷ 0x6B ∷ 0x20 ∷ 0x31 ∷ 0x32 ∷ 0x20 ∷ 0x66 ∷ 0x74 ∷ 0x20 ∷ 0x62 ∷ [])) (lines (line 0 3 3 ∷ line 4 9 5 ∷ line 10 11 1 ∷ []))) ∷
     -- C2
-    layoutCase (row (linesOf 5 false []) (lines (lineOf 0 0 ∷ []))) ∷
+    layoutCase (row (linesOf 5 false []) (lines (line 0 0 0 ∷ []))) ∷
     -- C3
-    layoutCase (row (linesOf 5 false (0x61 ∷ 0x62 ∷ 0x0A ∷ [])) (lines (lineOf 0 2 ∷ lineOf 3 3 ∷ []))) ∷
+    layoutCase (row (linesOf 5 false (0x61 ∷ 0x62 ∷ 0x0A ∷ [])) (lines (line 0 2 2 ∷ line 3 3 0 ∷ []))) ∷
     -- C4
-    layoutCase (row (linesOf 2 false (0x20 ∷ 0x20 ∷ 0x20 ∷ 0x61 ∷ 0x62 ∷ [])) (lines (lineOf 0 0 ∷ lineOf 3 5 ∷ []))) ∷
+    layoutCase (row (linesOf 2 false (0x20 ∷ 0x20 ∷ 0x20 ∷ 0x61 ∷ 0x62 ∷ [])) (lines (line 0 0 0 ∷ line 3 5 2 ∷ []))) ∷
     -- C5, break 1
-    layoutCase (row (linesOf 2 true (0x61 ∷ 0x62 ∷ 0x63 ∷ 0x64 ∷ 0x65 ∷ [])) (lines (lineOf 0 2 ∷ lineOf 2 4 ∷ lineOf 4 5 ∷ []))) ∷
+    layoutCase (row (linesOf 2 true (0x61 ∷ 0x62 ∷ 0x63 ∷ 0x64 ∷ 0x65 ∷ [])) (lines (line 0 2 2 ∷ line 2 4 2 ∷ line 4 5 1 ∷ []))) ∷
     -- C5, break 0
-    layoutCase (row (linesOf 2 false (0x61 ∷ 0x62 ∷ 0x63 ∷ 0x64 ∷ 0x65 ∷ [])) (lines (lineOf 0 5 ∷ []))) ∷
+    layoutCase (row (linesOf 2 false (0x61 ∷ 0x62 ∷ 0x63 ∷ 0x64 ∷ 0x65 ∷ [])) (lines (line 0 5 5 ∷ []))) ∷
     -- C6
-    layoutCase (row (linesOf 0 true (0x61 ∷ 0x62 ∷ 0x20 ∷ 0x63 ∷ [])) (lines (lineOf 0 2 ∷ lineOf 3 4 ∷ []))) ∷
+    layoutCase (row (linesOf 0 true (0x61 ∷ 0x62 ∷ 0x20 ∷ 0x63 ∷ [])) (lines (line 0 2 2 ∷ line 3 4 1 ∷ []))) ∷
     -- C7
-    layoutCase (row (linesOf 1 true (0xE6 ∷ 0x9C ∷ 0xA8 ∷ 0x61 ∷ [])) (lines (lineOf 0 3 ∷ lineOf 3 4 ∷ []))) ∷
+    layoutCase (row (linesOf 1 true (0xE6 ∷ 0x9C ∷ 0xA8 ∷ 0x61 ∷ [])) (lines (line 0 3 2 ∷ line 3 4 1 ∷ []))) ∷
     -- C8
     layoutCase (row (widthOf (0xE6 ∷ 0x9C ∷ 0x41 ∷ [])) (numbers (2 ∷ []))) ∷
     -- C9
@@ -80,7 +79,7 @@ table =
     plainCase c15 ∷
     -- C16: the 0A at 2 has no label, the pop is at 2
     layoutCase (row (call (wrap 2 false) roomy (recording (0x61 ∷ 0x62 ∷ 0x20 ∷ 0x63 ∷ 0x64 ∷ []) (0 ∷ 0 ∷ 0 ∷ 1 ∷ 2 ∷ 1 ∷ 0 ∷ 0 ∷ []) (0x4C ∷ [])))
-    (outcomeOf (done (record { recording = recording (0x61 ∷ 0x62 ∷ 0x0A ∷ 0x63 ∷ 0x64 ∷ []) (0 ∷ 0 ∷ 0 ∷ 1 ∷ 2 ∷ 1 ∷ 0 ∷ 0 ∷ []) (0x4C ∷ []); lines = (0 ∷ 2 ∷ 3 ∷ 5 ∷ []); number = 2 })))) ∷
+    (outcomeOf (done (record { recording = recording (0x61 ∷ 0x62 ∷ 0x0A ∷ 0x63 ∷ 0x64 ∷ []) (0 ∷ 0 ∷ 0 ∷ 1 ∷ 2 ∷ 1 ∷ 0 ∷ 0 ∷ []) (0x4C ∷ []); lines = (0 ∷ 2 ∷ 2 ∷ 3 ∷ 5 ∷ 2 ∷ []); number = 2 })))) ∷
     -- outside demand 3: fill `ab` with an entry at 1, twice, gives `aabb`
     layoutCase (row (call (padEnd 2 (recording (0x61 ∷ 0x62 ∷ []) (1 ∷ 2 ∷ 0 ∷ 1 ∷ []) (0x1B ∷ []))) roomy (recording [] [] []))
     (outcomeOf (done (record { recording = recording (0x61 ∷ 0x61 ∷ 0x62 ∷ 0x62 ∷ []) (2 ∷ 2 ∷ 0 ∷ 1 ∷ []) (0x1B ∷ []); lines = []; number = 0 })))) ∷

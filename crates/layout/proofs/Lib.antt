@@ -9,6 +9,7 @@ pub mod WordLaws
 pub mod ByteWordLaws
 pub mod BreakLaws
 pub mod TwiceLaws
+pub mod WidthLaws
 pub mod Demand3
 pub mod WordingLaws
 pub mod PinsHold

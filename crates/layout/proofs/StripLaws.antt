@@ -352,7 +352,7 @@ module _ (c : Call) (r r′ : Recording) (s : Shadow r r′) (g : SecondOk (c .j
             own = unfold faultsOf in own-strip (c .job) r r′ (s .dataBytes) (G .own);
             limit = unfold resultOf in limit-strip (encode (resultItems (c .job) r)) (encode (resultItems (strippedJob (c .job)) r′)) shadow-result (G .limit);
             room = unfold resultOf in room-strip (c .room) (resultOf (c .job) r) (resultOf (strippedJob (c .job)) r′) shadow-result
-                (ap lineNumbers (lines-strip (c .job) r r′ (s .dataBytes))) (G .room);
+                (λ i. lineNumbers (s .dataBytes i) (lines-strip (c .job) r r′ (s .dataBytes) i)) (G .room);
           }
 
   pub shadow-after : Shadow (after c r) (after (stripped c) r′)

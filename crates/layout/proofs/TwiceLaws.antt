@@ -25,12 +25,12 @@ use Rattle.layout.proofs.StepLaws.{length-values}
 use Rattle.layout.proofs.WordLaws.{spaces, joinWords, full, full-append, full-fitted, length-full, some-lines}
 
 -- ── a line as it is shown: the last word without its whitespace
-abbrev closed : List Word → List Word
+abbrev pub closed : List Word → List Word
 closed [] = []
 closed (v ∷ []) = record { body = v .body; space = 0 } ∷ []
 closed (v ∷ u ∷ us) = v ∷ closed (u ∷ us)
 
-abbrev text : List Word → Bytes
+abbrev pub text : List Word → Bytes
 text g = full (closed g)
 
 whole-closed : (g : List Word) → wholeLen (closed g) ≡ shownLen g
@@ -135,7 +135,7 @@ stable-closed w b (v ∷ []) o c j l = go (bytesOf (v .body)) (v .space) refl re
 stable-closed w b (v ∷ u ∷ us) o c j l = ((v ∷ u ∷ us), stable-words w b v (u ∷ us) o c j (inr (c .0 .0)), l)
 
 -- the lines of one line
-abbrev texts : List (List Word) → List Bytes
+abbrev pub texts : List (List Word) → List Bytes
 texts [] = []
 texts (g ∷ gs) = text g ∷ texts gs
 
@@ -147,7 +147,7 @@ stable-groups w b (g ∷ gs) o c j = (
   stable-groups w b gs (o .1) (c .1) (j .1),
 )
 
-abbrev textsOf : ℕ → Bool → List Bytes → List Bytes
+abbrev pub textsOf : ℕ → Bool → List Bytes → List Bytes
 textsOf w b [] = []
 textsOf w b (l ∷ ls) = texts (wrappedLine w b l) ++ textsOf w b ls
 
@@ -209,7 +209,7 @@ join-nil : (ls : List Bytes) → 0 < length ls → joinLines ([] ∷ ls) ≡ 0x0
 join-nil [] h = absurd (omega arith)
 join-nil (l ∷ ls) h = refl
 
-join-lines : (d : Bytes) → joinLines (splitLines d) ≡ d
+pub join-lines : (d : Bytes) → joinLines (splitLines d) ≡ d
 join-lines [] = refl
 join-lines (b ∷ d) = go (eqb b 0x0A) refl (join-lines d)
   where
@@ -232,7 +232,7 @@ values-drop zero x = refl
 values-drop (suc n) [] = refl
 values-drop (suc n) (c ∷ x) = values-drop n x
 
-abbrev cuts : Bytes → List Line → List Bytes
+abbrev pub cuts : Bytes → List Line → List Bytes
 cuts d [] = []
 cuts d (l ∷ ls) = take (l .end - l .first) (drop (l .first) d) ∷ cuts d ls
 
@@ -262,7 +262,7 @@ cuts-spans d at (g ∷ gs) z h =
     let n : drop (at + wholeLen g) d ≡ full (concat gs) ++ z = sym (drop-drop (wholeLen g) at d) ∙ rw e (drop-at (full g) (full (concat gs) ++ z) (wholeLen g) (length-full g)) in
     rw (cut-group d at g (full (concat gs) ++ z) e, cuts-spans d (at + wholeLen g) gs z n)
 
-cuts-all : (w : ℕ) (b : Bool) (d : Bytes) (at : ℕ) (ls : List Bytes) → drop at d ≡ joinLines ls → cuts d (linesFrom w b at ls) ≡ textsOf w b ls
+pub cuts-all : (w : ℕ) (b : Bool) (d : Bytes) (at : ℕ) (ls : List Bytes) → drop at d ≡ joinLines ls → cuts d (linesFrom w b at ls) ≡ textsOf w b ls
 cuts-all w b d at [] h = refl
 cuts-all w b d at (l ∷ []) h =
     cuts-append d (groupLines at (wrappedLine w b l)) [] ∙ rw (cuts-spans d at (wrappedLine w b l) [] (h ∙ sym (append-nil l) ∙ ap (λ (x : Bytes). x ++ []) (sym (full-fitted w b l))))

@@ -158,7 +158,7 @@ number (alone (writeWrapped w b)) r = length (wrapLines w b (r .dataBytes))
 number (alone (writeReplaced xs t)) r = 0
 
 unfoldable pub resultOf : Job → Recording → Result
-resultOf j r = record { recording = encode (resultItems j r); lines = lineNumbers (linesLeft j r); number = number j r }
+resultOf j r = record { recording = encode (resultItems j r); lines = lineNumbers (r .dataBytes) (linesLeft j r); number = number j r }
 
 -- ── refusals that come from the input
 -- 1 to 6 of the second recording

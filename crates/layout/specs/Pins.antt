@@ -10,7 +10,7 @@ use Rattle.recording.specs.Coloured.{Coloured, coloured}
 use Rattle.recording.specs.Pins.{under}
 use Rattle.recording.specs.Outcome.{Room, Outcome, refused, done}
 use Rattle.layout.specs.declared.Replacement.{Replacement}
-use Rattle.layout.specs.Wrap.{Line, lineOf, wrapLines}
+use Rattle.layout.specs.Wrap.{Line, lineNumbers, wrapLines}
 use Rattle.layout.specs.Layout.{Job, truncateStart, truncateEnd, padStart, padEnd, padCentered, indent, wrap, replace, outcome, Call, refusal, after, run}
 use Rattle.layout.specs.Plain.{told, steps}
 use Rattle.layout.specs.Theorem.{again}
@@ -25,7 +25,7 @@ pub data Question : Type 0 where
   refusalsOf colouredRun colouredSteps strippedRun : List Call → Recording → Question
 
 pub data Reply : Type 0 where
-  lines : List Line → Reply
+  lines : List (List ℕ) → Reply
   numbers : List ℕ → Reply
   outcomeOf : Outcome → Reply
   colours : List Coloured → Reply
@@ -38,8 +38,13 @@ abbrev eachRefusal : List Call → Recording → List ℕ
 eachRefusal [] r = []
 eachRefusal (c ∷ cs) r = refusal c r ∷ eachRefusal cs (after c r)
 
+-- the numbers of each line by themselves
+abbrev eachLine : Bytes → List Line → List (List ℕ)
+eachLine d [] = []
+eachLine d (l ∷ ls) = lineNumbers d (l ∷ []) ∷ eachLine d ls
+
 abbrev pub reply : Question → Reply
-reply (linesOf w b d) = lines (wrapLines w b d)
+reply (linesOf w b d) = lines (eachLine d (wrapLines w b d))
 reply (widthOf d) = numbers (textWidth d ∷ [])
 reply (charWidths cs) = numbers (eachWidth cs)
 reply (call j o r) = outcomeOf (outcome (record { job = j; room = o }) r)
@@ -66,6 +71,10 @@ due (r ∷ rs) = r .expected ∷ due rs
 -- ── short names
 abbrev pub room : ℕ → ℕ → ℕ → ℕ → Room
 room d e t l = record { dataBytes = d; entryNumbers = e; text = t; lines = l }
+
+-- a line of the line list: first byte, end, width
+abbrev pub line : ℕ → ℕ → ℕ → List ℕ
+line a e w = a ∷ e ∷ w ∷ []
 
 abbrev pub roomy : Room
 roomy = room 100 100 100 100
@@ -171,27 +180,37 @@ pins =
     -- width, U+FFFD itself
     row (widthOf (0xEF ∷ 0xBF ∷ 0xBD ∷ [])) (numbers (1 ∷ [])) ∷
     -- wrap: whitespace does not count in the fit test of its own word
-    row (linesOf 5 false (0x31 ∷ 0x32 ∷ 0x20 ∷ 0x66 ∷ 0x74 ∷ 0x20 ∷ 0x62 ∷ [])) (lines (lineOf 0 5 ∷ lineOf 6 7 ∷ [])) ∷
+    row (linesOf 5 false (0x31 ∷ 0x32 ∷ 0x20 ∷ 0x66 ∷ 0x74 ∷ 0x20 ∷ 0x62 ∷ [])) (lines (line 0 5 5 ∷ line 6 7 1 ∷ [])) ∷
     -- wrap: a tab is no separator
-    row (linesOf 2 false (0x61 ∷ 0x09 ∷ 0x62 ∷ 0x20 ∷ 0x63 ∷ [])) (lines (lineOf 0 3 ∷ lineOf 4 5 ∷ [])) ∷
+    row (linesOf 2 false (0x61 ∷ 0x09 ∷ 0x62 ∷ 0x20 ∷ 0x63 ∷ [])) (lines (line 0 3 2 ∷ line 4 5 1 ∷ [])) ∷
     -- wrap: a carriage return is no separator
-    row (linesOf 9 false (0x61 ∷ 0x0D ∷ 0x0A ∷ 0x62 ∷ [])) (lines (lineOf 0 2 ∷ lineOf 3 4 ∷ [])) ∷
+    row (linesOf 9 false (0x61 ∷ 0x0D ∷ 0x0A ∷ 0x62 ∷ [])) (lines (line 0 2 1 ∷ line 3 4 1 ∷ [])) ∷
     -- wrap: breaking, place 0: one character and the zero-width ones after it
-    row (linesOf 1 true (0xE6 ∷ 0x9C ∷ 0xA8 ∷ 0xCC ∷ 0x81 ∷ 0x61 ∷ [])) (lines (lineOf 0 5 ∷ lineOf 5 6 ∷ [])) ∷
+    row (linesOf 1 true (0xE6 ∷ 0x9C ∷ 0xA8 ∷ 0xCC ∷ 0x81 ∷ 0x61 ∷ [])) (lines (line 0 5 2 ∷ line 5 6 1 ∷ [])) ∷
     -- wrap: breaking: a zero-width character before a wide one is a head by itself
-    row (linesOf 1 true (0xCC ∷ 0x81 ∷ 0xE6 ∷ 0x9C ∷ 0xA8 ∷ [])) (lines (lineOf 0 2 ∷ lineOf 2 5 ∷ [])) ∷
+    row (linesOf 1 true (0xCC ∷ 0x81 ∷ 0xE6 ∷ 0x9C ∷ 0xA8 ∷ [])) (lines (line 0 2 0 ∷ line 2 5 2 ∷ [])) ∷
     -- wrap: breaking: a head is never empty
-    row (linesOf 1 true (0xE6 ∷ 0x9C ∷ 0xA8 ∷ [])) (lines (lineOf 0 3 ∷ [])) ∷
+    row (linesOf 1 true (0xE6 ∷ 0x9C ∷ 0xA8 ∷ [])) (lines (line 0 3 2 ∷ [])) ∷
     -- wrap: breaking: the last head keeps the whitespace
-    row (linesOf 2 true (0x61 ∷ 0x62 ∷ 0x63 ∷ 0x20 ∷ 0x64 ∷ [])) (lines (lineOf 0 2 ∷ lineOf 2 3 ∷ lineOf 4 5 ∷ [])) ∷
+    row (linesOf 2 true (0x61 ∷ 0x62 ∷ 0x63 ∷ 0x20 ∷ 0x64 ∷ [])) (lines (line 0 2 2 ∷ line 2 3 1 ∷ line 4 5 1 ∷ [])) ∷
     -- wrap: width 0 does not break
-    row (linesOf 0 true (0x61 ∷ 0x62 ∷ 0x63 ∷ [])) (lines (lineOf 0 3 ∷ [])) ∷
+    row (linesOf 0 true (0x61 ∷ 0x62 ∷ 0x63 ∷ [])) (lines (line 0 3 3 ∷ [])) ∷
     -- wrap: spaces only: one empty line
-    row (linesOf 3 false (0x20 ∷ 0x20 ∷ 0x20 ∷ 0x20 ∷ [])) (lines (lineOf 0 0 ∷ [])) ∷
+    row (linesOf 3 false (0x20 ∷ 0x20 ∷ 0x20 ∷ 0x20 ∷ [])) (lines (line 0 0 0 ∷ [])) ∷
     -- wrap: trailing spaces are not shown
-    row (linesOf 3 false (0x61 ∷ 0x62 ∷ 0x20 ∷ 0x20 ∷ [])) (lines (lineOf 0 2 ∷ [])) ∷
+    row (linesOf 3 false (0x61 ∷ 0x62 ∷ 0x20 ∷ 0x20 ∷ [])) (lines (line 0 2 2 ∷ [])) ∷
     -- wrap: 0A at both ends
-    row (linesOf 3 false (0x0A ∷ 0x61 ∷ 0x62 ∷ 0x0A ∷ [])) (lines (lineOf 0 0 ∷ lineOf 1 3 ∷ lineOf 4 4 ∷ [])) ∷
+    row (linesOf 3 false (0x0A ∷ 0x61 ∷ 0x62 ∷ 0x0A ∷ [])) (lines (line 0 0 0 ∷ line 1 3 2 ∷ line 4 4 0 ∷ [])) ∷
+    -- wrap: a cut-off sequence at the end of a line is one column
+    row (linesOf 4 false (0x61 ∷ 0xE6 ∷ 0x9C ∷ 0x20 ∷ 0x62 ∷ 0x62 ∷ 0x62 ∷ [])) (lines (line 0 3 2 ∷ line 4 7 3 ∷ [])) ∷
+    -- wrap: a zero-width character at the end of a line takes no column
+    row (linesOf 2 false (0x61 ∷ 0xCC ∷ 0x81 ∷ 0x20 ∷ 0x62 ∷ 0x63 ∷ [])) (lines (line 0 3 1 ∷ line 4 6 2 ∷ [])) ∷
+    -- wrap: whitespace between words counts in the width of a line, that after the last word does not
+    row (linesOf 6 false (0x61 ∷ 0x20 ∷ 0x20 ∷ 0x20 ∷ 0x62 ∷ 0x20 ∷ 0x20 ∷ [])) (lines (line 0 5 5 ∷ [])) ∷
+    -- wrap: breaking: ill-formed bytes, each with its own width
+    row (linesOf 1 true (0xE6 ∷ 0x9C ∷ 0x61 ∷ 0x80 ∷ [])) (lines (line 0 2 1 ∷ line 2 3 1 ∷ line 3 4 1 ∷ [])) ∷
+    -- wrap: a lone word may be wider than the width
+    row (linesOf 3 false (0xE6 ∷ 0x9C ∷ 0xA8 ∷ 0xE6 ∷ 0x9C ∷ 0xA8 ∷ 0x20 ∷ 0x61 ∷ [])) (lines (line 0 6 4 ∷ line 7 8 1 ∷ [])) ∷
     -- start cutter: leading zero-width characters are removed also when nothing was cut
     row (call (truncateStart 4 (recording [] [] [])) roomy (recording (0xCC ∷ 0x81 ∷ 0x61 ∷ []) [] []))
     (outcomeOf (done (record { recording = recording (0x61 ∷ []) [] []; lines = []; number = 1 }))) ∷
@@ -242,17 +261,17 @@ pins =
     }))) ∷
     -- wrap: an entry in dropped white space comes after the 0A
     row (call (wrap 2 false) roomy (recording (0x61 ∷ 0x62 ∷ 0x20 ∷ 0x20 ∷ 0x63 ∷ 0x64 ∷ []) (3 ∷ 2 ∷ 0 ∷ 1 ∷ []) (0x1B ∷ [])))
-    (outcomeOf (done (record { recording = recording (0x61 ∷ 0x62 ∷ 0x0A ∷ 0x63 ∷ 0x64 ∷ []) (3 ∷ 2 ∷ 0 ∷ 1 ∷ []) (0x1B ∷ []); lines = (0 ∷ 2 ∷ 4 ∷ 6 ∷ []); number = 2 }))) ∷
+    (outcomeOf (done (record { recording = recording (0x61 ∷ 0x62 ∷ 0x0A ∷ 0x63 ∷ 0x64 ∷ []) (3 ∷ 2 ∷ 0 ∷ 1 ∷ []) (0x1B ∷ []); lines = (0 ∷ 2 ∷ 2 ∷ 4 ∷ 6 ∷ 2 ∷ []); number = 2 }))) ∷
     -- wrap: empty data writes no byte and leaves its entries and one line
     row (call (wrap 2 false) roomy (recording [] (0 ∷ 2 ∷ 0 ∷ 1 ∷ []) (0x1B ∷ [])))
-    (outcomeOf (done (record { recording = recording [] (0 ∷ 2 ∷ 0 ∷ 1 ∷ []) (0x1B ∷ []); lines = (0 ∷ 0 ∷ []); number = 1 }))) ∷
+    (outcomeOf (done (record { recording = recording [] (0 ∷ 2 ∷ 0 ∷ 1 ∷ []) (0x1B ∷ []); lines = (0 ∷ 0 ∷ 0 ∷ []); number = 1 }))) ∷
     -- replace: entries at start before the new bytes, later ones after; records at one place in list order
     row (call (replace (replacement 1 1 0 1 ∷ replacement 1 2 1 2 ∷ []) (0x58 ∷ 0x59 ∷ [])) roomy
     (recording (0x61 ∷ 0x62 ∷ 0x63 ∷ []) (1 ∷ 0 ∷ 0 ∷ 1 ∷ 2 ∷ 1 ∷ 0 ∷ 0 ∷ []) (0x4C ∷ [])))
     (outcomeOf (done (record { recording = recording (0x61 ∷ 0x58 ∷ 0x59 ∷ 0x63 ∷ []) (1 ∷ 0 ∷ 0 ∷ 1 ∷ 3 ∷ 1 ∷ 0 ∷ 0 ∷ []) (0x4C ∷ []); lines = []; number = 0 }))) ∷
     -- texts are copied in entry order from 0, unused text goes
     row (call (wrap 9 false) roomy (recording [] (0 ∷ 0 ∷ 2 ∷ 1 ∷ 0 ∷ 0 ∷ 1 ∷ 1 ∷ []) (0x78 ∷ 0x79 ∷ 0x7A ∷ [])))
-    (outcomeOf (done (record { recording = recording [] (0 ∷ 0 ∷ 0 ∷ 1 ∷ 0 ∷ 0 ∷ 1 ∷ 1 ∷ []) (0x7A ∷ 0x79 ∷ []); lines = (0 ∷ 0 ∷ []); number = 1 }))) ∷
+    (outcomeOf (done (record { recording = recording [] (0 ∷ 0 ∷ 0 ∷ 1 ∷ 0 ∷ 0 ∷ 1 ∷ 1 ∷ []) (0x7A ∷ 0x79 ∷ []); lines = (0 ∷ 0 ∷ 0 ∷ []); number = 1 }))) ∷
     -- 2: entry numbers not a multiple of 4
     row (call (wrap 9 false) roomy (recording [] (0 ∷ 1 ∷ 0 ∷ []) [])) (outcomeOf (refused 2)) ∷
     -- 2: entry numbers over 16,384
@@ -276,7 +295,8 @@ pins =
     -- 6: an ill-formed label
     row (call (wrap 9 false) roomy (recording [] (0 ∷ 0 ∷ 0 ∷ 1 ∷ []) (0xFF ∷ []))) (outcomeOf (refused 6)) ∷
     -- an empty label at the text's end is no fault
-    row (call (wrap 9 false) roomy (recording [] (0 ∷ 0 ∷ 1 ∷ 0 ∷ []) (0x78 ∷ []))) (outcomeOf (done (record { recording = recording [] (0 ∷ 0 ∷ 0 ∷ 0 ∷ []) []; lines = (0 ∷ 0 ∷ []); number = 1 }))) ∷
+    row (call (wrap 9 false) roomy (recording [] (0 ∷ 0 ∷ 1 ∷ 0 ∷ []) (0x78 ∷ [])))
+    (outcomeOf (done (record { recording = recording [] (0 ∷ 0 ∷ 0 ∷ 0 ∷ []) []; lines = (0 ∷ 0 ∷ 0 ∷ []); number = 1 }))) ∷
     -- 8: start > end
     row (call (replace (replacement 2 1 0 0 ∷ []) (0x58 ∷ [])) roomy (recording (0x61 ∷ 0x62 ∷ 0x63 ∷ []) [] [])) (outcomeOf (refused 8)) ∷
     -- 8: end beyond the data
@@ -292,16 +312,16 @@ pins =
     -- 9: result text over its limit: parts that overlap count each
     row (call (wrap 9 false) roomy (recording [] (0 ∷ 2 ∷ 0 ∷ 65536 ∷ 0 ∷ 2 ∷ 0 ∷ 1 ∷ []) (fill 65536 0x61))) (outcomeOf (refused 9)) ∷
     -- 21: data buffer
-    row (call (wrap 9 false) (room 0 4 1 2) (recording (0x61 ∷ []) (0 ∷ 0 ∷ 0 ∷ 1 ∷ []) (0x78 ∷ []))) (outcomeOf (refused 21)) ∷
+    row (call (wrap 9 false) (room 0 4 1 3) (recording (0x61 ∷ []) (0 ∷ 0 ∷ 0 ∷ 1 ∷ []) (0x78 ∷ []))) (outcomeOf (refused 21)) ∷
     -- 22: entry buffer
-    row (call (wrap 9 false) (room 1 3 1 2) (recording (0x61 ∷ []) (0 ∷ 0 ∷ 0 ∷ 1 ∷ []) (0x78 ∷ []))) (outcomeOf (refused 22)) ∷
+    row (call (wrap 9 false) (room 1 3 1 3) (recording (0x61 ∷ []) (0 ∷ 0 ∷ 0 ∷ 1 ∷ []) (0x78 ∷ []))) (outcomeOf (refused 22)) ∷
     -- 23: text buffer
-    row (call (wrap 9 false) (room 1 4 0 2) (recording (0x61 ∷ []) (0 ∷ 0 ∷ 0 ∷ 1 ∷ []) (0x78 ∷ []))) (outcomeOf (refused 23)) ∷
-    -- 24: line list, two numbers a line
-    row (call (wrap 9 false) (room 1 4 1 1) (recording (0x61 ∷ []) (0 ∷ 0 ∷ 0 ∷ 1 ∷ []) (0x78 ∷ []))) (outcomeOf (refused 24)) ∷
+    row (call (wrap 9 false) (room 1 4 0 3) (recording (0x61 ∷ []) (0 ∷ 0 ∷ 0 ∷ 1 ∷ []) (0x78 ∷ []))) (outcomeOf (refused 23)) ∷
+    -- 24: line list, three numbers a line
+    row (call (wrap 9 false) (room 1 4 1 2) (recording (0x61 ∷ []) (0 ∷ 0 ∷ 0 ∷ 1 ∷ []) (0x78 ∷ []))) (outcomeOf (refused 24)) ∷
     -- each buffer exactly full
-    row (call (wrap 9 false) (room 1 4 1 2) (recording (0x61 ∷ []) (0 ∷ 0 ∷ 0 ∷ 1 ∷ []) (0x78 ∷ [])))
-    (outcomeOf (done (record { recording = recording (0x61 ∷ []) (0 ∷ 0 ∷ 0 ∷ 1 ∷ []) (0x78 ∷ []); lines = (0 ∷ 1 ∷ []); number = 1 }))) ∷
+    row (call (wrap 9 false) (room 1 4 1 3) (recording (0x61 ∷ []) (0 ∷ 0 ∷ 0 ∷ 1 ∷ []) (0x78 ∷ [])))
+    (outcomeOf (done (record { recording = recording (0x61 ∷ []) (0 ∷ 0 ∷ 0 ∷ 1 ∷ []) (0x78 ∷ []); lines = (0 ∷ 1 ∷ 1 ∷ []); number = 1 }))) ∷
     -- 21: before 22, 23 and 24
     row (call (wrap 9 false) (room 0 0 0 0) (recording (0x61 ∷ []) (0 ∷ 0 ∷ 0 ∷ 1 ∷ []) (0x78 ∷ []))) (outcomeOf (refused 21)) ∷
     -- 3: 3 before 4, in one entry

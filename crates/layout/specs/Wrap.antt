@@ -5,8 +5,9 @@ use mathlib.Core.Path.{_≡_}
 use mathlib.Core.List.{List, [], _∷_, _++_}
 use lib.Dec.{leb, ltb, eqb}
 use lib.ListN.{length}
-use Rattle.chars.specs.Chars.{Character, chars, bytesOf, wide, widthOf}
+use Rattle.chars.specs.Chars.{Character, chars, bytesOf, wide, widthOf, textWidth}
 use Rattle.chars.specs.Cut.{keptWithin, leadingZeroWidth}
+use Rattle.buffer.specs.Place.{part}
 use Rattle.recording.specs.Recording.{isNil}
 
 -- ── grouping
@@ -118,10 +119,17 @@ pub record Line : Type 0 where
 abbrev pub lineOf : ℕ → ℕ → Line
 lineOf a e = record { first = a; end = e }
 
--- the numbers of a line in the line list: first byte and end
-abbrev pub lineNumbers : List Line → List ℕ
-lineNumbers [] = []
-lineNumbers (l ∷ ls) = l .first ∷ l .end ∷ lineNumbers ls
+-- the bytes of the data d that a line shows, and their display width
+abbrev pub lineBytes : List ℕ → Line → List ℕ
+lineBytes d l = part (l .first) (l .end) d
+
+abbrev pub lineWidth : List ℕ → Line → ℕ
+lineWidth d l = textWidth (lineBytes d l)
+
+-- the numbers of a line in the line list: first byte, end and display width
+abbrev pub lineNumbers : List ℕ → List Line → List ℕ
+lineNumbers d [] = []
+lineNumbers d (l ∷ ls) = l .first ∷ l .end ∷ lineWidth d l ∷ lineNumbers d ls
 
 abbrev pub wordLen : Word → ℕ
 wordLen v = length (bytesOf (v .body))

@@ -123,7 +123,7 @@ word-rest (x ∷ l) h = go (eqb x 0x20) refl (word-rest l (h .1))
     go false e k = rw (e, h .0) (ap (λ (r : List ℕ). x ∷ r) (k .0), ((e, h .0), k .1), k .2)
 
 -- the bytes 20 at the front, and what comes after them
-spaces-split : (z : List ℕ) → (spaces (spaceLen z) ++ drop (spaceLen z) z ≡ z) × (spaceLen (drop (spaceLen z) z) ≡ 0)
+pub spaces-split : (z : List ℕ) → (spaces (spaceLen z) ++ drop (spaceLen z) z ≡ z) × (spaceLen (drop (spaceLen z) z) ≡ 0)
 unfolding spaceLen
 spaces-split [] = (refl, refl)
 spaces-split (x ∷ z) = go (eqb x 0x20) refl (spaces-split z)

@@ -1,5 +1,5 @@
 -- One line: a character, a head, the bytes 20 after it, and the state of a line under way.
--- The idea: what is left gives the rest of the lines (`going`), and each step of the loop is one of its four laws.
+-- The idea: what is left gives the rest of the lines (`going`), and each step of the loop is one of its four laws. The run is the width of the bytes read so far, since heads and spaces end at seams.
 use Prim.Native.Nat.{ℕ, suc, _+_, _-_, _*_, _≤_, _<_}
 use native.Mathlib.Omega.{arith}
 use native.Mathlib.Numerals.{add-one}
@@ -12,16 +12,19 @@ use lib.ListN.{length, take, drop, getD, length-append, length-drop, drop-of-len
 use lib.Seq.{drop-cons, drop-drop, drop-append-seam}
 use borrow.Rule.Slice.PartAt.{part-to-end}
 use borrow.Author.Tests.{leb-false, leb-true, lt-leb, eqb-true, ne-eqb}
-use Rattle.chars.specs.Chars.{Character, charIn, chars, bytesOf, wide, widthOf}
+use Rattle.chars.specs.Chars.{Character, charIn, chars, bytesOf, wide, widthOf, textWidth}
 use Rattle.chars.specs.Cut.{keptWithin, leadingZeroWidth, truncateEndPos, truncateEndWidth, zeroWidthLen}
 use Rattle.chars.specs.declared.Seen.{Seen}
 use Rattle.chars.proofs.CharsLaws.{chars-end, char-next, char-some, char-inside, bytes-chars, Valid, valid-chars, valid-clean}
 use Rattle.chars.proofs.FoldLaws as folds
-use Rattle.layout.specs.Wrap.{lineOf}
+use Rattle.chars.proofs.SeamLaws.{Seam, width-none, seam-start, seam-next}
+use Rattle.layout.specs.Wrap.{lineOf, lineWidth}
+use Rattle.layout.proofs.WidthLaws.{zero-wide}
 use Rattle.line.specs.Rest.{restLines, lineText, endsWord, wordText, spaceLen, oneChar, headOf, unreached, limitOf, going, firstHead, headLen, headWidth}
 use Rattle.line.specs.declared.Next.{Next}
 use Rattle.line.specs.Line.{seenOf, oneHead, pickHead, headFrom, inLine, afterLine, following}
 use Rattle.line.proofs.HeadLaws.{text-le}
+use Rattle.line.proofs.HeadWidthLaws.{head-seam, gap-seam}
 use Rattle.line.proofs.RestLaws.{word-le, rest-start, going-last, going-line, going-step, going-new, head-width, head-in, step-some}
 use Rattle.line.proofs.WordCharLaws.{char-word, word-drop}
 
@@ -139,14 +142,6 @@ module _ (t : List ℕ) (i : ℕ) (g : Seen) (e : g ≡ seenOf (chars (drop i t)
   zero-end z = rw (seen-end z)
 
 -- ── one character, with the zero-width characters after it
-zero-wide : (cs : List Character) → widthOf (leadingZeroWidth cs) ≡ 0
-zero-wide [] = refl
-zero-wide (c ∷ cs) = go (eqb (wide c) 0) refl (zero-wide cs)
-  where
-    go : (t : Bool) → eqb (wide c) 0 ≡ t → widthOf (leadingZeroWidth cs) ≡ 0 → widthOf (cond t (c ∷ leadingZeroWidth cs) []) ≡ 0
-    go true e h = omega (arith, eqb-true (wide c) 0 e)
-    go false e h = refl
-
 -- the first character of u, and the characters after it
 first-rest : (u : List ℕ) (c : Character) (cs : List Character) → chars u ≡ c ∷ cs → (cs ≡ chars (drop (length (c .text)) u)) × (0 < length (c .text))
 first-rest u c cs e =
@@ -195,20 +190,21 @@ unfolding inLine
 line-some [] h = absurd (omega arith)
 line-some (x ∷ s) h = refl
 
-pub after-none : (end here : ℕ) (s : List ℕ) → length s ≡ 0 → _≡_ {A = Next} (record { end = end; next = 0; more = false }) (afterLine end here s)
+pub after-none : (end width here : ℕ) (s : List ℕ) → length s ≡ 0 → _≡_ {A = Next} (record { end = end; width = width; next = 0; more = false }) (afterLine end width here s)
 unfolding afterLine
-after-none end here [] h = refl
-after-none end here (x ∷ s) h = absurd (omega arith)
+after-none end width here [] h = refl
+after-none end width here (x ∷ s) h = absurd (omega arith)
 
-pub after-newline : (end here : ℕ) (s : List ℕ) → 0 < length s → getD s 0 0 ≡ 0x0A → _≡_ {A = Next} (record { end = end; next = here + 1; more = true }) (afterLine end here s)
+pub after-newline : (end width here : ℕ) (s : List ℕ) → 0 < length s → getD s 0 0 ≡ 0x0A
+    → _≡_ {A = Next} (record { end = end; width = width; next = here + 1; more = true }) (afterLine end width here s)
 unfolding afterLine
-after-newline end here [] h e = absurd (omega arith)
-after-newline end here (x ∷ s) h e = rw e
+after-newline end width here [] h e = absurd (omega arith)
+after-newline end width here (x ∷ s) h e = rw e
 
-pub after-word : (end here : ℕ) (s : List ℕ) → 0 < length s → getD s 0 0 ≢ 0x0A → _≡_ {A = Next} (record { end = end; next = here; more = true }) (afterLine end here s)
+pub after-word : (end width here : ℕ) (s : List ℕ) → 0 < length s → getD s 0 0 ≢ 0x0A → _≡_ {A = Next} (record { end = end; width = width; next = here; more = true }) (afterLine end width here s)
 unfolding afterLine
-after-word end here [] h e = absurd (omega arith)
-after-word end here (x ∷ s) h e = rw (ne-eqb x 0x0A e)
+after-word end width here [] h e = absurd (omega arith)
+after-word end width here (x ∷ s) h e = rw (ne-eqb x 0x0A e)
 
 -- ── the head that the search and the case of place 0 give
 head-by : (m : ℕ) (d : List ℕ) (cut width : ℕ) (cs : List Character) → chars (wordText d) ≡ cs → cut ≡ length (bytesOf (keptWithin m cs)) → width ≡ widthOf (keptWithin m cs)
@@ -279,19 +275,25 @@ module _ (word : List ℕ) (limit i left : ℕ) (S : Search word limit i left) (
   pub search-pass : g .len ≢ 0 → left < g .width → (i ≡ truncateEndPos limit (wordText word)) × (limit - left ≡ truncateEndWidth limit (wordText word))
   search-pass z h = let k = kept-pass (wordText word) i g e z left h in (omega (arith, k .0, S .place), omega (arith, k .1, S .width))
 
--- ── a line under way: `word` is left of the data d from `here` on; the line began at `at` and its last word ends at `stop`; `run` is used
-pub record State (d : List ℕ) (at w : ℕ) (b : Bool) (word : List ℕ) (here stop run : ℕ) (first : Bool) : Type 0 where
+-- ── a line under way: `word` is left of the data d from `here` on; the line began at `at`, its last word ends at `stop`, and it is `shown` wide up to there; `run` is used
+pub record State (d : List ℕ) (at w : ℕ) (b : Bool) (word : List ℕ) (here stop shown run : ℕ) (first : Bool) : Type 0 where
   pub is : word ≡ drop here d
   pub within : here ≤ length d
   pub past : at ≤ here
   pub low : at ≤ stop
   pub high : stop ≤ here
   pub small : run ≤ 2 * (here - at)
+  pub small-shown : shown ≤ 2 * (stop - at)
   pub some : first ≡ false → at < here
   pub lines : restLines w b at (drop at d) ≡ going w b first at stop here run word
+  -- a character ends here, and what is used is the width of what was read
+  pub seam : Seam (drop at d) (here - at)
+  pub wide-run : run ≡ textWidth (take (here - at) (drop at d))
+  pub wide-shown : shown ≡ lineWidth d (lineOf at stop)
 
-pub state-start : (d : List ℕ) (at w : ℕ) (b : Bool) → at ≤ length d → State d at w b (take (length d - at) (drop at d)) at at 0 true
+pub state-start : (d : List ℕ) (at w : ℕ) (b : Bool) → at ≤ length d → State d at w b (take (length d - at) (drop at d)) at at 0 0 true
 state-start d at w b h =
+    let z : at - at ≡ 0 = omega arith in
     record {
       is = part-to-end d at;
       within = h;
@@ -299,12 +301,16 @@ state-start d at w b h =
       low = omega arith;
       high = omega arith;
       small = omega arith;
+      small-shown = omega arith;
       some = λ e. absurd (false≢true (sym e));
       lines = rw
           (part-to-end d at) (rest-start w b at (drop at d));
+      seam = rw z (seam-start (drop at d));
+      wide-run = rw z (sym width-none);
+      wide-shown = rw z (sym width-none);
     }
 
-module _ (d : List ℕ) (at w : ℕ) (b : Bool) (word : List ℕ) (here stop run : ℕ) (first : Bool) (S : State d at w b word here stop run first) where
+module _ (d : List ℕ) (at w : ℕ) (b : Bool) (word : List ℕ) (here stop shown run : ℕ) (first : Bool) (S : State d at w b word here stop shown run first) where
   pub left-len : here + length word ≡ length d
   left-len = omega (arith, ap length (S .is), length-drop here d, S .within)
 
@@ -318,18 +324,40 @@ module _ (d : List ℕ) (at w : ℕ) (b : Bool) (word : List ℕ) (here stop run
   pub moves : (m n k : ℕ) → inLine word ≡ true → n ≡ headLen m word → k ≡ spaceLen (drop n word) → 1 ≤ n + k
   moves m n k i e f = rw (f, e) (step-some m word (in-line word i))
 
+  -- the width up to the head's end, and up to the next word
+  module _ (m n width k : ℕ) (en : n ≡ headLen m word) (ew : width ≡ headWidth m word) (ek : k ≡ spaceLen (drop n word)) (h : n + k ≤ length word) where
+    pub further : (Seam (drop at d) ((here + (n + k)) - at)) × (run + width ≡ lineWidth d (lineOf at (here + n))) × ((run + width) + k ≡ textWidth (take ((here + (n + k)) - at) (drop at d)))
+    further =
+        let s : List ℕ = drop at d in
+        let p : ℕ = here - at in
+        let long : length s ≡ p + length word = omega (arith, length-drop at d, left-len, S .past) in
+        let to-word : at + p ≡ here = omega (arith, S .past) in
+        let to-end : (here + n) - at ≡ p + n = omega (arith, S .past) in
+        let to-next : (here + (n + k)) - at ≡ (p + n) + k = omega (arith, S .past) in
+        let front : drop p s ≡ word = drop-drop p at d ∙ ap (λ (x : ℕ). drop x d) to-word ∙ sym (S .is) in
+        let behind : drop (p + n) s ≡ drop n word = sym (drop-drop n p s) ∙ ap (drop n) front in
+        let head : Seam word n × (textWidth (take n word) ≡ width) = rw (en, ew) (head-seam m word) in
+        let gap : Seam (drop n word) k × (textWidth (take k (drop n word)) ≡ k) = rw ek (gap-seam (drop n word)) in
+        let x = seam-next s p n (omega (arith, long, h)) (S .seam) (rw front (head .0)) in
+        let y = seam-next s (p + n) k (omega (arith, long, h)) (x .0) (rw behind (gap .0)) in
+        let e : run + width ≡ textWidth (take (p + n) s) = omega (arith, S .wide-run, x .1, ap (λ (r : List ℕ). textWidth (take n r)) front, head .1) in (
+          rw to-next (y .0),
+          rw to-end e,
+          rw to-next (omega (arith, e, y .1, ap (λ (r : List ℕ). textWidth (take k r)) behind, gap .1)),
+        )
+
   module _ (n width k : ℕ) (s : 2 * length d ≤ unreached) (i : inLine word ≡ true) (en : n ≡ headLen (limitOf w b) word) (ew : width ≡ headWidth (limitOf w b) word) where
     s′ : 2 * length word ≤ unreached
     s′ = omega (arith, left-len, s)
 
     -- the head goes on the line
     pub state-next : k ≡ spaceLen (drop n word) → n + k ≤ length word → (first || leb (run + width) w) ≡ true
-        → State d at w b (take (length word - (n + k)) (drop (n + k) word)) (here + (n + k)) (here + n) (run + (width + k)) false
+        → State d at w b (take (length word - (n + k)) (drop (n + k) word)) (here + (n + k)) (here + n) (run + width) ((run + width) + k) false
     state-next ek h f =
         let g = going-step w b at stop here run word n width k s′ (in-line word i) en ew ek first f in
         let p : here + n + k ≡ here + (n + k) = omega arith in
-        let q : run + width + k ≡ run + (width + k) = omega arith in
         let z = sizes (limitOf w b) n width en ew in
+        let x = further (limitOf w b) n width k en ew ek h in
         record {
           is = part-to-end word (n + k) ∙ ap (drop (n + k)) (S .is) ∙ drop-drop (n + k) here d;
           within = omega (arith, left-len);
@@ -337,49 +365,60 @@ module _ (d : List ℕ) (at w : ℕ) (b : Bool) (word : List ℕ) (here stop run
           low = omega (arith, S .past);
           high = omega arith;
           small = omega (arith, z, S .small, S .past);
+          small-shown = omega (arith, z, S .small, S .past);
           some = λ e. omega (arith, S .past, moves (limitOf w b) n k i en ek);
-          lines = S .lines ∙ rw (part-to-end word (n + k), ← p, ← q) g;
+          lines = S .lines ∙ rw (part-to-end word (n + k), ← p) g;
+          seam = x .0;
+          wide-run = x .2;
+          wide-shown = x .1;
         }
 
 -- what `next_line` promises of its answer
 abbrev pub Promise : List ℕ → ℕ → ℕ → Bool → Next → Type 0
 Promise d at w b r = (restLines w b at (drop at d) ≡ lineOf at (r .end) ∷ following w b d r)
-    × ((at ≤ r .end) × (r .end ≤ length d) × (r .next ≤ length d) × (r .more ≡ true → (at < r .next) × (r .end ≤ r .next)))
+    × (((at ≤ r .end) × (r .end ≤ length d) × (r .next ≤ length d) × (r .more ≡ true → (at < r .next) × (r .end ≤ r .next)))
+    × ((r .width ≡ lineWidth d (lineOf at (r .end))) × (r .width ≤ 2 * (r .end - at))))
 
 -- the line of the data ends here
-pub state-end : (d : List ℕ) (at w : ℕ) (b : Bool) (word : List ℕ) (here stop run : ℕ) (first : Bool) → State d at w b word here stop run first → inLine word ≡ false
-    → Promise d at w b (afterLine stop here word)
+pub state-end : (d : List ℕ) (at w : ℕ) (b : Bool) (word : List ℕ) (here stop shown run : ℕ) (first : Bool) → State d at w b word here stop shown run first → inLine word ≡ false
+    → Promise d at w b (afterLine stop shown here word)
 unfolding afterLine following inLine
-state-end d at w b [] here stop run first S i = (S .lines ∙ going-last w b first at stop here run, (S .low, omega (arith, S .high, S .within), omega arith, λ e. absurd (false≢true e)))
-state-end d at w b (x ∷ word) here stop run first S i = go (eqb x 0x0A) refl i
+state-end d at w b [] here stop shown run first S i =
+    (S .lines ∙ going-last w b first at stop here run, ((S .low, omega (arith, S .high, S .within), omega arith, λ e. absurd (false≢true e)), (S .wide-shown, S .small-shown)))
+state-end d at w b (x ∷ word) here stop shown run first S i = go (eqb x 0x0A) refl i
   where
-    go : (t : Bool) → eqb x 0x0A ≡ t → not t ≡ false → Promise d at w b (record { end = stop; next = cond t (here + 1) here; more = true })
+    go : (t : Bool) → eqb x 0x0A ≡ t → not t ≡ false → Promise d at w b (record { end = stop; width = shown; next = cond t (here + 1) here; more = true })
     go false e k = absurd (false≢true (sym k))
     go true e k =
         let r : drop (here + 1) d ≡ word = sym (drop-drop 1 here d) ∙ rw (← S .is) in
-        let l : here + 1 ≤ length d = omega (arith, ap length (S .is), length-drop here d) in
-        (S .lines ∙ rw r (going-line w b first at stop here run x word (eqb-true x 0x0A e)), (S .low, omega (arith, S .high, S .within), l, λ e. (omega (arith, S .past), omega (arith, S .high))))
+        let l : here + 1 ≤ length d = omega (arith, ap length (S .is), length-drop here d) in (
+          S .lines ∙ rw r (going-line w b first at stop here run x word (eqb-true x 0x0A e)),
+          ((S .low, omega (arith, S .high, S .within), l, λ e. (omega (arith, S .past), omega (arith, S .high))), (S .wide-shown, S .small-shown)),
+        )
 
-after-in : (end here : ℕ) (s : List ℕ) → inLine s ≡ true → afterLine end here s ≡ record { end = end; next = here; more = true }
+after-in : (end width here : ℕ) (s : List ℕ) → inLine s ≡ true → afterLine end width here s ≡ record { end = end; width = width; next = here; more = true }
 unfolding afterLine inLine
-after-in end here [] h = absurd (false≢true h)
-after-in end here (x ∷ s) h = go (eqb x 0x0A) h
+after-in end width here [] h = absurd (false≢true h)
+after-in end width here (x ∷ s) h = go (eqb x 0x0A) h
   where
-    go : (t : Bool) → not t ≡ true → _≡_ {A = Next} (record { end = end; next = cond t (here + 1) here; more = true }) (record { end = end; next = here; more = true })
+    go : (t : Bool) → not t ≡ true
+        → _≡_ {A = Next} (record { end = end; width = width; next = cond t (here + 1) here; more = true }) (record { end = end; width = width; next = here; more = true })
     go true k = absurd (false≢true k)
     go false k = refl
 
 -- the next head does not fit
-pub state-new : (d : List ℕ) (at w : ℕ) (b : Bool) (word : List ℕ) (here stop run : ℕ) (first : Bool) → State d at w b word here stop run first → (n width : ℕ)
+pub state-new : (d : List ℕ) (at w : ℕ) (b : Bool) (word : List ℕ) (here stop shown run : ℕ) (first : Bool) → State d at w b word here stop shown run first → (n width : ℕ)
     → 2 * length d ≤ unreached → inLine word ≡ true
-    → n ≡ headLen (limitOf w b) word → width ≡ headWidth (limitOf w b) word → (first || leb (run + width) w) ≡ false → Promise d at w b (afterLine stop here word)
+    → n ≡ headLen (limitOf w b) word → width ≡ headWidth (limitOf w b) word → (first || leb (run + width) w) ≡ false → Promise d at w b (afterLine stop shown here word)
 unfolding following
-state-new d at w b word here stop run true S n width s i en ew f = absurd (false≢true (sym f))
-state-new d at w b word here stop run false S n width s i en ew f =
-    let p : 2 * length word ≤ unreached = omega (arith, left-len d at w b word here stop run false S, s) in
+state-new d at w b word here stop shown run true S n width s i en ew f = absurd (false≢true (sym f))
+state-new d at w b word here stop shown run false S n width s i en ew f =
+    let p : 2 * length word ≤ unreached = omega (arith, left-len d at w b word here stop shown run false S, s) in
     let g = going-new w b at stop here run word n width (spaceLen (drop n word)) p (in-line word i) en ew refl f in
-    rw (after-in stop here word i)
-    (S .lines ∙ g ∙ ap (λ (x : List ℕ). lineOf at stop ∷ restLines w b here x) (S .is), (S .low, omega (arith, S .high, S .within), S .within, λ e. (S .some refl, S .high)))
+    rw (after-in stop shown here word i) (
+      S .lines ∙ g ∙ ap (λ (x : List ℕ). lineOf at stop ∷ restLines w b here x) (S .is),
+      ((S .low, omega (arith, S .high, S .within), S .within, λ e. (S .some refl, S .high)), (S .wide-shown, S .small-shown)),
+    )
 
 -- ── a head that is known not to fit before its end is found
 head-not : (cut width : ℕ) (d : List ℕ) → eqb cut 0 ≡ false → headFrom cut width d .width ≡ width
@@ -395,9 +434,9 @@ not-fit : (first : Bool) (run part width w : ℕ) → (first || leb (run + part)
 not-fit true run part width w e h = e
 not-fit false run part width w e h = lt-leb (run + width) w (omega (arith, leb-false (run + part) w e))
 
-pub state-early : (d : List ℕ) (at w : ℕ) (b : Bool) (word : List ℕ) (here stop run : ℕ) (first : Bool) → State d at w b word here stop run first → (m part : ℕ) → m ≡ limitOf w b
+pub state-early : (d : List ℕ) (at w : ℕ) (b : Bool) (word : List ℕ) (here stop shown run : ℕ) (first : Bool) → State d at w b word here stop shown run first → (m part : ℕ) → m ≡ limitOf w b
     → 2 * length d ≤ unreached
-    → inLine word ≡ true → 0 < truncateEndPos m (wordText word) → part ≤ truncateEndWidth m (wordText word) → (first || leb (run + part) w) ≡ false → Promise d at w b (afterLine stop here word)
-state-early d at w b word here stop run first S m part e s i p q f =
+    → inLine word ≡ true → 0 < truncateEndPos m (wordText word) → part ≤ truncateEndWidth m (wordText word) → (first || leb (run + part) w) ≡ false → Promise d at w b (afterLine stop shown here word)
+state-early d at w b word here stop shown run first S m part e s i p q f =
     let h : part ≤ headWidth (limitOf w b) word = rw e at (rw (fit-head m word p) at q) in
-    state-new d at w b word here stop run first S (headLen (limitOf w b) word) (headWidth (limitOf w b) word) s i refl refl (not-fit first run part (headWidth (limitOf w b) word) w f h)
+    state-new d at w b word here stop shown run first S (headLen (limitOf w b) word) (headWidth (limitOf w b) word) s i refl refl (not-fit first run part (headWidth (limitOf w b) word) w f h)

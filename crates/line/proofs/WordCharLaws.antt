@@ -1,5 +1,5 @@
 -- The characters of a word, read where more bytes come after the word: no character goes on past a 20 or a 0A.
--- The idea: a byte that continues a sequence is at least 80, by a computed test over table 3-7.
+-- The idea: a byte that continues a sequence is at least 80 (`high`).
 use Prim.Native.Nat.{ℕ, zero, suc, _-_, _≤_, _<_}
 use native.Mathlib.Omega.{arith}
 use mathlib.Core.Bool.{Bool, true, false, cond, _&&_, _||_, false≢true}
@@ -8,36 +8,14 @@ use mathlib.Core.List.{List, [], _∷_, tail}
 use lib.Dec.{leb, eqb, T, leb→le}
 use lib.ListN.{length, take, drop}
 use borrow.Author.Tests.{lt-leb, eqb-true}
-use Rattle.chars.specs.Utf8.{Row, within, table37, leads, rowIn, rowOf, matched, tailLen}
+use Rattle.chars.specs.Utf8.{Row, within, rowOf, matched, tailLen}
 use Rattle.chars.specs.Chars.{charAt}
+use Rattle.chars.proofs.Table.{and-left, and-right}
+use Rattle.chars.proofs.SeamLaws.{allHigh, high}
 use Rattle.line.specs.Rest.{endsWord, wordText}
 
--- ── the bytes after the first are at least 80
-abbrev allHigh : Row → Bool
-allHigh [] = true
-allHigh (c ∷ cs) = leb 0x80 (c .low) && allHigh cs
-
-abbrev tailsHigh : List Row → Bool
-tailsHigh [] = true
-tailsHigh (r ∷ rs) = allHigh (tail r) && tailsHigh rs
-
-and-both : (a b : Bool) → T (a && b) → T a × T b
-and-both true b t = (tt, t)
-
-high-in : (rs : List Row) (b : ℕ) → T (tailsHigh rs) → T (allHigh (tail (rowIn rs b)))
-high-in [] b h = tt
-high-in (r ∷ rs) b h = go (leads r b) (and-both (allHigh (tail r)) (tailsHigh rs) h .0) (high-in rs b (and-both (allHigh (tail r)) (tailsHigh rs) h .1))
-  where
-    go : (t : Bool) → T (allHigh (tail r)) → T (allHigh (tail (rowIn rs b))) → T (allHigh (tail (cond t r (rowIn rs b))))
-    go true p q = p
-    go false p q = q
-
-high : (b : ℕ) → T (allHigh (tail (rowOf b)))
-unfolding rowOf table37
-high b = high-in table37 b tt
-
 -- ── what follows a byte of a word
-end-low : (x : ℕ) → endsWord x ≡ true → x < 0x80
+pub end-low : (x : ℕ) → endsWord x ≡ true → x < 0x80
 end-low x e = go (eqb x 0x20) refl (eqb x 0x0A) refl e
   where
     go : (s : Bool) → eqb x 0x20 ≡ s → (t : Bool) → eqb x 0x0A ≡ t → (s || t) ≡ true → x < 0x80
@@ -50,8 +28,7 @@ unfolding wordText
 matched-word [] r h = (refl, refl)
 matched-word (c ∷ cs) [] h = (refl, refl)
 matched-word (c ∷ cs) (x ∷ r) h =
-    let k = and-both (leb 0x80 (c .low)) (allHigh cs) h in
-    go (endsWord x) refl (within (c .low) (c .high) x) refl (leb→le 0x80 (c .low) (k .0)) (matched-word cs r (k .1))
+    go (endsWord x) refl (within (c .low) (c .high) x) refl (leb→le 0x80 (c .low) (and-left (leb 0x80 (c .low)) (allHigh cs) h)) (matched-word cs r (and-right (leb 0x80 (c .low)) (allHigh cs) h))
   where
     go : (s : Bool) → endsWord x ≡ s → (t : Bool) → within (c .low) (c .high) x ≡ t → 0x80 ≤ c .low → (matched cs (wordText r) ≡ matched cs r)
         × (take (matched cs r) (wordText r) ≡ take (matched cs r) r)

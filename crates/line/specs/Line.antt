@@ -1,8 +1,8 @@
 -- What the functions of this crate give, as records.
-use Prim.Native.Nat.{ℕ, _+_}
-use mathlib.Core.Bool.{Bool, true, false, cond, not}
+use Prim.Native.Nat.{ℕ, suc, _+_, _-_}
+use mathlib.Core.Bool.{Bool, true, false, cond, _&&_, not}
 use mathlib.Core.List.{List, [], _∷_}
-use lib.Dec.{eqb}
+use lib.Dec.{leb, eqb}
 use lib.ListN.{length, drop}
 use Rattle.chars.specs.Chars.{Character, chars, bytesOf, wide, widthOf}
 use Rattle.chars.specs.declared.Seen.{Seen}
@@ -28,15 +28,36 @@ pickHead false a b = b
 unfoldable pub headFrom : ℕ → ℕ → List ℕ → Head
 headFrom cut width d = pickHead (eqb cut 0) (oneHead d) (record { len = cut; width = width })
 
+-- how wide the next head may be: the first of a line up to the width to break at, any other what is left of the line
+unfoldable pub roomOf : Bool → ℕ → ℕ → ℕ → ℕ
+roomOf first run w limit = cond first limit (w - run)
+
+-- visible ASCII: printable, and no space
+abbrev pub visible : ℕ → Bool
+visible x = leb 0x21 x && leb x 0x7E
+
+-- how many such bytes d begins with
+unfoldable pub visibleLen : List ℕ → ℕ
+visibleLen [] = 0
+visibleLen (x ∷ d) = cond (visible x) (suc (visibleLen d)) 0
+
+-- n, but no more than m
+unfoldable pub atMost : ℕ → ℕ → ℕ
+atMost m n = cond (leb n m) n m
+
 -- whether the line of the data goes on in d
 unfoldable pub inLine : List ℕ → Bool
 inLine [] = false
 inLine (x ∷ d) = not (eqb x 0x0A)
 
--- what comes after a line that ends at `end`, where d is left and starts at `here`: nothing, the next line of the data, or a line that starts with the word that did not fit
-unfoldable pub afterLine : ℕ → ℕ → List ℕ → Next
-afterLine end here [] = record { end = end; next = 0; more = false }
-afterLine end here (x ∷ d) = record { end = end; next = cond (eqb x 0x0A) (here + 1) here; more = true }
+-- whether a head may come on the line after one with `gap` bytes 20 behind it, where d is left
+unfoldable pub goesOn : ℕ → List ℕ → Bool
+goesOn gap d = cond (eqb gap 0) false (inLine d)
+
+-- what comes after a line that ends at `end` and is `width` wide, where d is left and starts at `here`: nothing, the next line of the data, or a line that starts with the word that did not fit
+unfoldable pub afterLine : ℕ → ℕ → ℕ → List ℕ → Next
+afterLine end width here [] = record { end = end; width = width; next = 0; more = false }
+afterLine end width here (x ∷ d) = record { end = end; width = width; next = cond (eqb x 0x0A) (here + 1) here; more = true }
 
 -- the lines of the data d that come after the one that was found
 unfoldable pub following : ℕ → Bool → List ℕ → Next → List Line

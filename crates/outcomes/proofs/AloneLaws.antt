@@ -69,7 +69,7 @@ module _ (s : Single) (ds ns ts : List ℕ) (b : Lent) where
     unfolding secondFault ownFault
     own-refused f e = outcomes.own-refused (alone s) content b passed refl f e
 
-    module _ (own : singleFault s ds ≡ 0) (d l : ℕ) (ed : d ≡ length (editData (singleOps s ds) ds)) (el : l ≡ length (lineNumbers (singleLines s ds)))
+    module _ (own : singleFault s ds ≡ 0) (d l : ℕ) (ed : d ≡ length (editData (singleOps s ds) ds)) (el : l ≡ length (lineNumbers ds (singleLines s ds)))
         (v : Settled) (g : settledFault v ≡ sizesFault d (length ns) n l (roomIn b)) where
       accepted : Accepted (alone s) content
       unfolding secondFault ownFault
@@ -101,6 +101,6 @@ module _ (s : Single) (ds ns ts : List ℕ) (b : Lent) where
       has-room q = outcomes.has-room (alone s) content b accepted result d (length ns) n l sized v g q
 
       pub written : v ≡ S.Room → (w : ℕ) (od oe ot ol : List ℕ) (k : Cursor) → number (alone s) content ≡ w → out od oe ot k ≡ add result (blank (b .dataBytes) (b .entryNumbers) (b .text))
-          → ol ≡ over (lineNumbers (singleLines s ds)) (b .lines) → Leaves (alone s) content b (lentLined od oe ot ol) (Done (k .d) (k .e) (k .t) w)
+          → ol ≡ over (lineNumbers ds (singleLines s ds)) (b .lines) → Leaves (alone s) content b (lentLined od oe ot ol) (Done (k .d) (k .e) (k .t) w)
       unfolding linesLeft
       written q w od oe ot ol k en wrote listed = outcomes.written (alone s) content b accepted result d (length ns) n l sized v g q w od oe ot ol k en wrote listed

@@ -37,7 +37,7 @@ pub record Sized (j : Job) (r : Recording) (is : List Item) (d e t l : ℕ) : Ty
   pub data-size : d ≡ length (dataOf is)
   pub entry-size : e ≡ 4 * entryCount is
   pub text-size : t ≡ length (textOf is)
-  pub line-size : l ≡ length (lineNumbers (linesLeft j r))
+  pub line-size : l ≡ length (lineNumbers (r .dataBytes) (linesLeft j r))
 
 module _ (j : Job) (r : Recording) (b : Lent) where
   abbrev told : Outcome
@@ -107,11 +107,11 @@ module _ (j : Job) (r : Recording) (b : Lent) where
       unfolding resultOf
       has-room =
           subst (λ (x : List Item). Fits x (blank (b .dataBytes) (b .entryNumbers) (b .text))) (z .leaves)
-          (fits-blank (resultItems j r) (lineNumbers (linesLeft j r)) (number j r) (b .dataBytes) (b .entryNumbers) (b .text) (roomIn b) refl refl refl fit)
+          (fits-blank (resultItems j r) (lineNumbers (r .dataBytes) (linesLeft j r)) (number j r) (b .dataBytes) (b .entryNumbers) (b .text) (roomIn b) refl refl refl fit)
 
       -- the items are written and the lines listed
       pub written : (m : ℕ) (od oe ot ol : List ℕ) (k : Cursor) → number j r ≡ m → out od oe ot k ≡ add is (blank (b .dataBytes) (b .entryNumbers) (b .text))
-          → ol ≡ over (lineNumbers (linesLeft j r)) (b .lines) → Leaves j r b (lentLined od oe ot ol) (Done (k .d) (k .e) (k .t) m)
+          → ol ≡ over (lineNumbers (r .dataBytes) (linesLeft j r)) (b .lines) → Leaves j r b (lentLined od oe ot ol) (Done (k .d) (k .e) (k .t) m)
       unfolding answerOf returned lentAfter resultOf encode
       written m od oe ot ol k en w el =
           let s = from-start is (b .dataBytes) (b .entryNumbers) (b .text) od oe ot k w in (

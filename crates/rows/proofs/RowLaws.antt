@@ -1,7 +1,7 @@
 -- The digits that `io` writes are `decimal`; a write after a write is one; and the rows of numbers, of lines and of sheet lines, one further each time.
 use Prim.Native.Nat.{ℕ, zero, suc, _+_, _-_, _*_, _/_, _%_, _^_, _≤_, _<_}
 use native.Mathlib.Omega.{arith}
-use native.Mathlib.Numerals.{add-one, add-two}
+use native.Mathlib.Numerals.{add-one, add-two, add-three}
 use mathlib.Core.Bool.{Bool, true, false, cond, _&&_}
 use mathlib.Core.Path.{_≡_, refl, sym, ap, subst, _∙_}
 use mathlib.Core.List.{List, [], _∷_, _++_, append-assoc}
@@ -16,13 +16,13 @@ use Rattle.recording.specs.Recording.{Bytes}
 use Rattle.recording.specs.Refusals.{dataLimit}
 use Rattle.recording.specs.Outcome.{Outcome, done, lentAfter, Returned, returned, answerOf}
 use Rattle.recording.specs.declared.Answer.{Answer}
-use Rattle.layout.specs.Wrap.{Line, lineNumbers, wrapLines}
+use Rattle.layout.specs.Wrap.{Line, lineWidth, lineNumbers, wrapLines}
 use Rattle.wrap_lines.specs.WrapBytes.{lentLines, wrapResult, wrapBytesOutcome}
-use Rattle.wrap_lines.proofs.WrapLaws.{outcome-done}
+use Rattle.wrap_lines.proofs.WrapLaws.{numbers-length, outcome-done}
 use Rattle.sheet.specs.Sheet.{after, upTo, sheetLine, sheetLines, allDigits, valueFrom, noLeadingZero, smallDigits, isDecimal, decimalOr, isBreak, breakOf, isData, allHex, dataOf}
 use Rattle.sheet.specs.Sheet.{widthField, breakField, dataField, goodLine}
 use Rattle.sheet.proofs.SheetLaws.{rest-next, line-next, up-to-take, after-drop}
-use Rattle.rows.specs.Rows.{decimalUpTo, decimal, rowText, badRow, lineRows, numberRows, rowsOf}
+use Rattle.rows.specs.Rows.{decimalUpTo, decimal, rowText, badRow, lineRows, numberRows, wrapRows, rowsOf}
 
 pub false-true : false ≡ true → ⊥
 false-true e = subst (λ (b : Bool). cond b ⊥ (Unit {0})) e tt
@@ -78,21 +78,23 @@ put-put at x y o h =
     ∙ ap (λ (l : Bytes). over l o) (append-assoc (take at o) x y) ∙ sym (over-at at (x ++ y) o h)
 
 -- ── rows of a line list
-pub rows-next : (r i : ℕ) (ns : List ℕ) (k : ℕ) → k + 1 < length ns
-    → numberRows r i (drop k ns) ≡ rowText r i (getD ns k 0) (getD ns (k + 1) 0) ++ numberRows r (suc i) (drop (k + 2) ns)
+pub rows-next : (r i : ℕ) (ns : List ℕ) (k : ℕ) → k + 2 < length ns
+    → numberRows r i (drop k ns) ≡ rowText r i (getD ns k 0) (getD ns (k + 1) 0) (getD ns (k + 2) 0) ++ numberRows r (suc i) (drop (k + 3) ns)
 rows-next r i ns k h =
-    let e : drop k ns ≡ getD ns k 0 ∷ getD ns (k + 1) 0 ∷ drop (k + 2) ns =
-    drop-cons ns k 0 (omega arith) ∙ ap (λ (l : List ℕ). getD ns k 0 ∷ l) (rw (add-one, add-two) (drop-cons ns (suc k) 0 (omega arith))) in
+    let e : drop k ns ≡ getD ns k 0 ∷ getD ns (k + 1) 0 ∷ getD ns (k + 2) 0 ∷ drop (k + 3) ns =
+    drop-cons ns k 0 (omega arith) ∙ ap (λ (l : List ℕ). getD ns k 0 ∷ l) (rw (add-one, add-two, add-three) (drop-cons ns (suc k) 0 (omega arith)
+    ∙ ap (λ (l : List ℕ). getD ns (suc k) 0 ∷ l) (drop-cons ns (suc (suc k)) 0 (omega arith)))) in
     ap (numberRows r i) e
 
-pub rows-none : (r i : ℕ) (ns : List ℕ) → length ns ≤ 1 → numberRows r i ns ≡ []
+pub rows-none : (r i : ℕ) (ns : List ℕ) → length ns ≤ 2 → numberRows r i ns ≡ []
 rows-none r i [] h = refl
 rows-none r i (a ∷ []) h = refl
-rows-none r i (a ∷ e ∷ ns) h = absurd (omega arith)
+rows-none r i (a ∷ e ∷ []) h = refl
+rows-none r i (a ∷ e ∷ w ∷ ns) h = absurd (omega arith)
 
-pub rows-lines : (r k : ℕ) (ls : List Line) → numberRows r k (lineNumbers ls) ≡ lineRows r k ls
-rows-lines r k [] = refl
-rows-lines r k (l ∷ ls) = ap (λ (x : Bytes). rowText r k (l .first) (l .end) ++ x) (rows-lines r (suc k) ls)
+pub rows-lines : (d : Bytes) (r k : ℕ) (ls : List Line) → numberRows r k (lineNumbers d ls) ≡ lineRows d r k ls
+rows-lines d r k [] = refl
+rows-lines d r k (l ∷ ls) = ap (λ (x : Bytes). rowText r k (l .first) (l .end) (lineWidth d l) ++ x) (rows-lines d r (suc k) ls)
 
 -- ── lines of a sheet
 ltb-shift : (p a b : ℕ) → ltb (p + a) (p + b) ≡ ltb a b
@@ -159,10 +161,6 @@ spelled n k t a b e f g h =
     let d = h ∙ decimal-digits n k a b e f in
     (d, omega (arith, g, ap length d, decimal-short n))
 
-pub numbers-two : (ls : List Line) → length (lineNumbers ls) ≡ length ls * 2
-numbers-two [] = refl
-numbers-two (l ∷ ls) = omega (arith, numbers-two ls)
-
 -- what a buffer holds at its front, once a result stands there
 pub held : (n : ℕ) (ns old new : List ℕ) → n ≡ length ns → new ≡ over ns old → take n new ≡ ns
 held n ns old new e f = ap (take n) f ∙ ap (λ (j : ℕ). take j (over ns old)) e ∙ take-over ns old
@@ -171,18 +169,18 @@ pub same-row : (at : ℕ) (out x y : Bytes) (r : ℕ) (o : Bytes) → x ≡ y �
 same-row at out x y r o e f g = (f ∙ ap (λ (l : Bytes). at + length l) e, g ∙ ap (λ (l : Bytes). overAt at l out) e)
 
 -- ── a value line's data, wrapped: the line list does, at most one line a byte and one more
-module _ (w : ℕ) (b : Bool) (d old : List ℕ) (few : length d ≤ dataLimit → length (wrapLines w b d) ≤ length d + 1) (short : length d ≤ 4000) (room : 8002 ≤ length old) where
+module _ (w : ℕ) (b : Bool) (d old : List ℕ) (few : length d ≤ dataLimit → length (wrapLines w b d) ≤ length d + 1) (short : length d ≤ 4000) (room : 12003 ≤ length old) where
   enough : wrapBytesOutcome w b d (length old) ≡ done (wrapResult w b d)
-  enough = outcome-done w b d (length old) (omega (arith, short)) (omega (arith, numbers-two (wrapLines w b d), few (omega (arith, short)), short, room))
+  enough = outcome-done w b d (length old) (omega (arith, short)) (omega (arith, numbers-length d (wrapLines w b d), few (omega (arith, short)), short, room))
 
   pub line-count : (a : Answer) → answerOf a ≡ returned (wrapBytesOutcome w b d (length old)) → answerOf a .number ≡ length (wrapLines w b d)
   unfolding returned
   line-count a e = ap (λ (x : Returned). x .number) (e ∙ ap returned enough)
 
-  pub line-list : (n : ℕ) (new : List ℕ) → n ≡ length (lineNumbers (wrapLines w b d)) → new ≡ lentAfter (wrapBytesOutcome w b d (length old)) (lentLines old) .lines
-      → take n new ≡ lineNumbers (wrapLines w b d)
+  pub line-list : (n : ℕ) (new : List ℕ) → n ≡ length (lineNumbers d (wrapLines w b d)) → new ≡ lentAfter (wrapBytesOutcome w b d (length old)) (lentLines old) .lines
+      → take n new ≡ lineNumbers d (wrapLines w b d)
   unfolding lentAfter
-  line-list n new e f = held n (lineNumbers (wrapLines w b d)) old new e (f ∙ ap (λ (x : Outcome). lentAfter x (lentLines old) .lines) enough)
+  line-list n new e f = held n (lineNumbers d (wrapLines w b d)) old new e (f ∙ ap (λ (x : Outcome). lentAfter x (lentLines old) .lines) enough)
 
 -- ── a value line, bad or good
 pub row-open : (r : ℕ) (t : Bytes) (e : Bool) → e ≡ false → badRow r ≡ rowsOf r (sheetLine t e)
@@ -194,7 +192,7 @@ unfolding rowsOf
 row-bad r t e h g = simp (h, g)
 
 pub row-good : (r : ℕ) (t : Bytes) (e : Bool) → e ≡ true → goodLine t ≡ true
-    → lineRows r 0 (wrapLines (valueFrom 0 (widthField t)) (breakOf (breakField t)) (dataOf (dataField t))) ≡ rowsOf r (sheetLine t e)
+    → wrapRows r (valueFrom 0 (widthField t)) (breakOf (breakField t)) (dataOf (dataField t)) ≡ rowsOf r (sheetLine t e)
 unfolding rowsOf
 row-good r t e h g = simp (h, g)
 
@@ -233,9 +231,9 @@ all-good t h k j = simp (h, k, j)
 
 -- the rows of a good line, from what its fields were read as
 pub good-fields : (r : ℕ) (t : Bytes) (e : Bool) (w : ℕ) (b : Bool) (d : Bytes) → e ≡ true → goodLine t ≡ true → w ≡ valueFrom 0 (upTo 0x20 t) → b ≡ breakOf (upTo 0x20 (after 0x20 t))
-    → d ≡ dataOf (after 0x20 (after 0x20 t)) → lineRows r 0 (wrapLines w b d) ≡ rowsOf r (sheetLine t e)
+    → d ≡ dataOf (after 0x20 (after 0x20 t)) → wrapRows r w b d ≡ rowsOf r (sheetLine t e)
 unfolding widthField breakField dataField
-good-fields r t e w b d h g p q u = (λ i. lineRows r 0 (wrapLines (p i) (q i) (u i))) ∙ row-good r t e h g
+good-fields r t e w b d h g p q u = (λ i. wrapRows r (p i) (q i) (u i)) ∙ row-good r t e h g
 
 -- a good line is longer than its third field by two at least
 pub third-shorter : (t : Bytes) → isData (after 0x20 (after 0x20 t)) ≡ true → (length (after 0x20 (after 0x20 t)) ≤ 8000) × (length (after 0x20 (after 0x20 t)) + 2 ≤ length t)

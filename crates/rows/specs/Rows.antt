@@ -5,7 +5,7 @@ use mathlib.Core.List.{List, [], _∷_, _++_}
 use lib.Dec.{leb, ltb, eqb}
 use lib.ListN.{length}
 use Rattle.recording.specs.Recording.{Bytes}
-use Rattle.layout.specs.Wrap.{Line, wrapLines}
+use Rattle.layout.specs.Wrap.{Line, lineWidth, wrapLines}
 use Rattle.sheet.specs.Sheet.{SheetLine, sheetLines, valueFrom, breakOf, dataOf, widthField, breakField, dataField, goodLine}
 
 -- ── a number in decimal, without leading zeros: at most k digits; ten do for 32 bits
@@ -20,30 +20,35 @@ decimal n = decimalUpTo 10 n
 abbrev pub field : ℕ → ℕ → Bytes
 field n c = decimal n ++ (c ∷ [])
 
--- ── the rows: four numbers by single spaces, ended by 0A
-unfoldable pub rowText : ℕ → ℕ → ℕ → ℕ → Bytes
-rowText r k a e = field r 0x20 ++ (field k 0x20 ++ (field a 0x20 ++ field e 0x0A))
+-- ── the rows: five numbers by single spaces, ended by 0A
+unfoldable pub rowText : ℕ → ℕ → ℕ → ℕ → ℕ → Bytes
+rowText r k a e w = field r 0x20 ++ (field k 0x20 ++ (field a 0x20 ++ (field e 0x20 ++ field w 0x0A)))
 
 -- `! 0 0` after the row's number
 unfoldable pub badRow : ℕ → Bytes
 badRow r = field r 0x20 ++ (0x21 ∷ 0x20 ∷ 0x30 ∷ 0x20 ∷ 0x30 ∷ 0x0A ∷ [])
 
--- line in the row from k on, first byte, end
-abbrev pub lineRows : ℕ → ℕ → List Line → Bytes
-lineRows r k [] = []
-lineRows r k (l ∷ ls) = rowText r k (l .first) (l .end) ++ lineRows r (suc k) ls
+-- line in the row from k on, first byte, end, width; d is the row's data
+abbrev pub lineRows : Bytes → ℕ → ℕ → List Line → Bytes
+lineRows d r k [] = []
+lineRows d r k (l ∷ ls) = rowText r k (l .first) (l .end) (lineWidth d l) ++ lineRows d r (suc k) ls
 
 -- the same from the numbers of a line list
 abbrev pub numberRows : ℕ → ℕ → List ℕ → Bytes
 numberRows r k [] = []
 numberRows r k (a ∷ []) = []
-numberRows r k (a ∷ e ∷ ns) = rowText r k a e ++ numberRows r (suc k) ns
+numberRows r k (a ∷ e ∷ []) = []
+numberRows r k (a ∷ e ∷ w ∷ ns) = rowText r k a e w ++ numberRows r (suc k) ns
+
+-- the rows of a value line's data
+abbrev pub wrapRows : ℕ → ℕ → Bool → Bytes → Bytes
+wrapRows r w b d = lineRows d r 0 (wrapLines w b d)
 
 -- what a value line gives; a last line without 0A is a bad one
 unfoldable pub rowsOf : ℕ → SheetLine → Bytes
 rowsOf r l =
     cond (l .ended && goodLine (l .text))
-    (lineRows r 0 (wrapLines (valueFrom 0 (widthField (l .text))) (breakOf (breakField (l .text))) (dataOf (dataField (l .text)))))
+    (wrapRows r (valueFrom 0 (widthField (l .text))) (breakOf (breakField (l .text))) (dataOf (dataField (l .text))))
     (badRow r)
 
 -- row from r on: every value line counts, bad ones too
@@ -56,9 +61,10 @@ rowsFrom r (l ∷ ls) = rowsOf r l ++ rowsFrom (suc r) ls
 unfoldable pub sheetHeading : Bytes
 sheetHeading = 0x77 ∷ 0x69 ∷ 0x64 ∷ 0x74 ∷ 0x68 ∷ 0x20 ∷ 0x62 ∷ 0x72 ∷ 0x65 ∷ 0x61 ∷ 0x6B ∷ 0x20 ∷ 0x62 ∷ 0x79 ∷ 0x74 ∷ 0x65 ∷ 0x73 ∷ []
 
--- `row line start end`, ended by 0A
+-- `row line start end width`, ended by 0A
 unfoldable pub rowsHeading : Bytes
-rowsHeading = 0x72 ∷ 0x6F ∷ 0x77 ∷ 0x20 ∷ 0x6C ∷ 0x69 ∷ 0x6E ∷ 0x65 ∷ 0x20 ∷ 0x73 ∷ 0x74 ∷ 0x61 ∷ 0x72 ∷ 0x74 ∷ 0x20 ∷ 0x65 ∷ 0x6E ∷ 0x64 ∷ 0x0A ∷ []
+rowsHeading =
+    0x72 ∷ 0x6F ∷ 0x77 ∷ 0x20 ∷ 0x6C ∷ 0x69 ∷ 0x6E ∷ 0x65 ∷ 0x20 ∷ 0x73 ∷ 0x74 ∷ 0x61 ∷ 0x72 ∷ 0x74 ∷ 0x20 ∷ 0x65 ∷ 0x6E ∷ 0x64 ∷ 0x20 ∷ 0x77 ∷ 0x69 ∷ 0x64 ∷ 0x74 ∷ 0x68 ∷ 0x0A ∷ []
 
 abbrev pub same : Bytes → Bytes → Bool
 same [] [] = true

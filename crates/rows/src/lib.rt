@@ -1,5 +1,5 @@
 // What `wraplist` prints for a sheet (document 01, module 7), in one lent buffer: `write_output` leaves `output` of `specs/Rows.antt`, whatever the sheet's bytes are.
-// Each byte of a sheet gives at most 22 bytes, so a buffer of 1,441,833 bytes always does. Its type says that length, so that nothing is asked of the caller.
+// Each byte of a sheet gives at most 28 bytes, so a buffer of 1,835,061 bytes always does. Its type says that length, so that nothing is asked of the caller.
 // `run` is the program: it reads a sheet, prints that, and tells what went wrong. No contract can say what is read or written; the buffer for the sheet and the number of bytes used of it are proved.
 use recording::Answer;
 use sheet::NONE;
@@ -14,14 +14,13 @@ use sheet::unhex;
 use wrap_lines::numbers_of;
 use wrap_lines::wrap_bytes;
 ghost use mathlib.Core.Path.{_≡_};
-ghost use Prim.Native.Nat.{_+_, _-_, _*_, _≤_, _<_};
+ghost use Prim.Native.Nat.{_+_, _-_, _*_, _/_, _≤_, _<_};
 ghost use lib.ListN.{length, take, drop};
 ghost use Rattle.buffer.specs.Place.{over, overAt};
 ghost use Rattle.io.specs.Counts.{Counts};
 ghost use Rattle.recording.specs.Outcome.{answerOf};
-ghost use Rattle.layout.specs.Wrap.{wrapLines};
 ghost use Rattle.sheet.specs.Sheet.{sheetLine, sheetLines};
-ghost use Rattle.rows.specs.Rows.{field, rowText, badRow, numberRows, lineRows, rowsOf, rowsFrom, readLimit, output};
+ghost use Rattle.rows.specs.Rows.{field, rowText, badRow, numberRows, wrapRows, rowsOf, rowsFrom, readLimit, output};
 
 // Puts the decimal digits of n, and c after them.
 fn put_field(out: &mut [u8], at: usize, n: u32, c: u8) -> usize
@@ -36,16 +35,17 @@ fn put_field(out: &mut [u8], at: usize, n: u32, c: u8) -> usize
     buffer::put(out, e, &last, 0, 1)
 }
 
-// Puts a row: four numbers.
-fn put_row(out: &mut [u8], at: usize, row: u32, k: u32, first: u32, end: u32) -> usize
-    requires { ⌜ at + 44 ≤ length (now out) ⌝ }
-    ensures { λ r. ⌜ (r ≡ at + length (rowText row k first end)) × (now (out .exit) ≡ overAt at (rowText row k first end) (now (out .entry))) ⌝ }
-    ensures { λ r. ⌜ r ≤ at + 44 ⌝ }
+// Puts a row: five numbers.
+fn put_row(out: &mut [u8], at: usize, row: u32, k: u32, first: u32, end: u32, width: u32) -> usize
+    requires { ⌜ at + 55 ≤ length (now out) ⌝ }
+    ensures { λ r. ⌜ (r ≡ at + length (rowText row k first end width)) × (now (out .exit) ≡ overAt at (rowText row k first end width) (now (out .entry))) ⌝ }
+    ensures { λ r. ⌜ r ≤ at + 55 ⌝ }
 {
     let b = put_field(out, at, row, 0x20);
     let c = put_field(out, b, k, 0x20);
     let d = put_field(out, c, first, 0x20);
-    put_field(out, d, end, 0x0A)
+    let e = put_field(out, d, end, 0x20);
+    put_field(out, e, width, 0x0A)
 }
 
 // Puts the row of a bad line.
@@ -58,19 +58,19 @@ fn put_bad(out: &mut [u8], at: usize, row: u32) -> usize
     buffer::put(out, e, b"! 0 0\n", 0, 6)
 }
 
-// Puts a row for each two numbers of a line list.
+// Puts a row for each three numbers of a line list.
 fn put_lines(out: &mut [u8], at: usize, row: u32, lines: &[u32]) -> usize
-    requires { ⌜ (length (now lines) ≤ 8002) × (at + 22 * length (now lines) ≤ length (now out)) ⌝ }
+    requires { ⌜ (length (now lines) ≤ 12003) × (at + 55 * (length (now lines) / 3) ≤ length (now out)) ⌝ }
     ensures { λ r. ⌜ (r ≡ at + length (numberRows row 0 (now (lines .entry)))) × (now (out .exit) ≡ overAt at (numberRows row 0 (now (lines .entry))) (now (out .entry))) ⌝ }
-    ensures { λ r. ⌜ r ≤ at + 22 * length (now (lines .entry)) ⌝ }
+    ensures { λ r. ⌜ r ≤ at + 55 * (length (now (lines .entry)) / 3) ⌝ }
 {
     let mut end = at;
     let mut k: usize = 0;
     let mut line: u32 = 0;
-    while k + 1 < lines.len() {
-        end = put_row(out, end, row, line, lines[k], lines[k + 1]);
+    while k + 2 < lines.len() {
+        end = put_row(out, end, row, line, lines[k], lines[k + 1], lines[k + 2]);
         line += 1;
-        k += 2;
+        k += 3;
     }
     end
 }
@@ -90,7 +90,7 @@ fn lines_in(a: Answer) -> usize
     }
 }
 
-// Puts the rows of a value line's data. The call is not refused: 8,002 numbers do for 4,000 bytes.
+// Puts the rows of a value line's data. The call is not refused: 12,003 numbers do for 4,000 bytes.
 fn good_rows(
     d: &[u8],
     width: u32,
@@ -100,10 +100,10 @@ fn good_rows(
     out: &mut [u8],
     at: usize,
 ) -> usize
-    requires { ⌜ (length (now d) ≤ 4000) × (8002 ≤ length (now lines)) × (at + 44 * (length (now d) + 1) ≤ length (now out)) ⌝ }
-    ensures { λ r. ⌜ (r ≡ at + length (lineRows row 0 (wrapLines width breaks (now (d .entry)))))
-        × (now (out .exit) ≡ overAt at (lineRows row 0 (wrapLines width breaks (now (d .entry)))) (now (out .entry))) ⌝ }
-    ensures { λ r. ⌜ r ≤ at + 44 * (length (now (d .entry)) + 1) ⌝ }
+    requires { ⌜ (length (now d) ≤ 4000) × (12003 ≤ length (now lines)) × (at + 55 * (length (now d) + 1) ≤ length (now out)) ⌝ }
+    ensures { λ r. ⌜ (r ≡ at + length (wrapRows row width breaks (now (d .entry))))
+        × (now (out .exit) ≡ overAt at (wrapRows row width breaks (now (d .entry))) (now (out .entry))) ⌝ }
+    ensures { λ r. ⌜ r ≤ at + 55 * (length (now (d .entry)) + 1) ⌝ }
 {
     let a = wrap_bytes(d, width, breaks, lines);
     let n = numbers_of(lines_in(a));
@@ -120,9 +120,9 @@ fn one_row(
     out: &mut [u8],
     at: usize,
 ) -> usize
-    requires { ⌜ (4000 ≤ length (now «data»)) × (8002 ≤ length (now lines)) × (at + 22 * (length (now text) + 1) ≤ length (now out)) ⌝ }
+    requires { ⌜ (4000 ≤ length (now «data»)) × (12003 ≤ length (now lines)) × (at + 28 * (length (now text) + 1) ≤ length (now out)) ⌝ }
     ensures { λ r. ⌜ (r ≡ at + length (rowsOf row (sheetLine (now (text .entry)) ended))) × (now (out .exit) ≡ overAt at (rowsOf row (sheetLine (now (text .entry)) ended)) (now (out .entry))) ⌝ }
-    ensures { λ r. ⌜ r ≤ at + 22 * (length (now (text .entry)) + 1) ⌝ }
+    ensures { λ r. ⌜ r ≤ at + 28 * (length (now (text .entry)) + 1) ⌝ }
 {
     if !ended {
         return put_bad(out, at, row);
@@ -163,7 +163,7 @@ fn put_rows(
     start: usize,
 ) -> usize
     requires { ⌜ (from ≤ length (now sheet)) × (length (now sheet) ≤ 65536) × (4000 ≤ length (now «data»))
-        × (8002 ≤ length (now lines)) × (start + 22 * (length (now sheet) + 1) ≤ length (now out)) ⌝ }
+        × (12003 ≤ length (now lines)) × (start + 28 * (length (now sheet) + 1) ≤ length (now out)) ⌝ }
     ensures { λ r. ⌜ (r ≡ start + length (rowsFrom 0 (sheetLines (drop from (now (sheet .entry))))))
         × (now (out .exit) ≡ overAt start (rowsFrom 0 (sheetLines (drop from (now (sheet .entry))))) (now (out .entry))) ⌝ }
 {
@@ -186,18 +186,18 @@ fn data_buffer() -> [u8; 4000]
     [0; 4000]
 }
 
-fn line_list() -> [u32; 8002]
-    ensures { λ r. ⌜ 8002 ≡ length r ⌝ }
+fn line_list() -> [u32; 12003]
+    ensures { λ r. ⌜ 12003 ≡ length r ⌝ }
 {
-    [0; 8002]
+    [0; 12003]
 }
 
 // What is printed for a sheet, in out; returns its length.
-pub fn write_output(sheet: &[u8], out: &mut [u8; 1441833]) -> usize
+pub fn write_output(sheet: &[u8], out: &mut [u8; 1835061]) -> usize
     ensures { λ r. ⌜ (r ≡ length (output (now (sheet .entry)))) × (now (out .exit) ≡ over (output (now (sheet .entry))) (now (out .entry))) ⌝ }
     ensures { λ r. ⌜ (r ≤ length (now (out .exit))) × (r ≡ length (take r (now (out .exit)))) ⌝ }
 {
-    let n = buffer::put(out, 0, b"row line start end\n", 0, 19);
+    let n = buffer::put(out, 0, b"row line start end width\n", 0, 25);
     if 65536 < sheet.len() {
         return put_bad(out, n, 0);
     }
@@ -214,8 +214,8 @@ pub fn write_output(sheet: &[u8], out: &mut [u8; 1441833]) -> usize
 }
 
 // As long as the longest output that there can be.
-fn output_buffer() -> [u8; 1441833] {
-    [0; 1441833]
+fn output_buffer() -> [u8; 1835061] {
+    [0; 1835061]
 }
 
 // Prints the output of a sheet. False if it could not all be written.
@@ -282,7 +282,7 @@ fn answer(input: i32, output: i32, errors: i32) {
 fn help(output: i32) {
     io::write_all(
         output,
-        b"wraplist reads a sheet of wrapping tasks from standard input and prints where their lines start and end.\n",
+        b"wraplist reads a sheet of wrapping tasks from standard input and prints where their lines start and end, and how wide they are.\n",
     );
     io::write_all(
         output,

@@ -1,9 +1,9 @@
-// Runs `rows` on a sheet with every kind of bad line (the file `stdin`), on short sheets, and on sheets at the limits, of which only the length of the output is printed.
+// Runs `rows` on a sheet with every kind of bad line and lines of every width (the file `stdin`), on short sheets, and on sheets at the limits, of which only the length of the output is printed.
 // Then the program on files of 65,536, of 65,537 and of more bytes, where it cannot read or write, and with `--help`; what it says on standard error goes to standard output here.
 // What is proved of a program is that it is safe; what it should print stands in the file `stdout`.
 
-fn output_buffer() -> [u8; 1441833] {
-    [0; 1441833]
+fn output_buffer() -> [u8; 1835061] {
+    [0; 1835061]
 }
 
 fn show(sheet: &[u8]) {

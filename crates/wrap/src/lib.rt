@@ -89,11 +89,11 @@ fn put_wrapped(
     requires { ⌜ now t ≡ leadTable ⌝ }
     requires { ⌜ Sound (now content) (now entries) (now text) ⌝ }
     requires { ⌜ Fits (resultItems (wrap width «break_words») (recording (now content) (now entries) (now text))) (blank (now bytes) (now numbers) (now texts)) ⌝ }
-    requires { ⌜ length (lineNumbers (wrapLines width «break_words» (now content))) ≤ length (now lines) ⌝ }
+    requires { ⌜ length (lineNumbers (now content) (wrapLines width «break_words» (now content))) ≤ length (now lines) ⌝ }
     ensures { λ r. ⌜ out (now (bytes .exit)) (now (numbers .exit)) (now (texts .exit)) (r .cursor)
         ≡ add (resultItems (wrap width «break_words») (recording (now (content .entry)) (now (entries .entry)) (now (text .entry))))
         (blank (now (bytes .entry)) (now (numbers .entry)) (now (texts .entry))) ⌝ }
-    ensures { λ r. ⌜ (now (lines .exit) ≡ over (lineNumbers (wrapLines width «break_words» (now (content .entry)))) (now (lines .entry)))
+    ensures { λ r. ⌜ (now (lines .exit) ≡ over (lineNumbers (now (content .entry)) (wrapLines width «break_words» (now (content .entry)))) (now (lines .entry)))
         × (r .count ≡ length (wrapLines width «break_words» (now (content .entry)))) ⌝ }
 {
     let mut c = Cursor {
@@ -108,7 +108,7 @@ fn put_wrapped(
     loop {
         let l = next_line(t, content, at, width, break_words);
         let end = l.end;
-        k = set_line(lines, k, at as u32, end as u32);
+        k = set_line(lines, k, at as u32, end as u32, l.width as u32);
         c = put_line(bytes, numbers, texts, content, entries, text, c, at, end);
         if !l.more {
             break;
@@ -163,7 +163,7 @@ fn settle_wrapped(
     requires { ⌜ now leads ≡ leadTable ⌝ }
     requires { ⌜ length (now content) ≤ dataLimit ⌝ }
     ensures { λ r. ⌜ settledFault r
-        ≡ sizesFault (joinedLen (wrapLines width «break_words» (now (content .entry)))) e t (length (lineNumbers (wrapLines width «break_words» (now (content .entry)))))
+        ≡ sizesFault (joinedLen (wrapLines width «break_words» (now (content .entry)))) e t (length (lineNumbers (now (content .entry)) (wrapLines width «break_words» (now (content .entry)))))
         (roomOf bytes numbers texts lines) ⌝ }
 {
     let largest = settle(

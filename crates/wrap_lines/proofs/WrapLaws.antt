@@ -2,7 +2,7 @@
 -- The idea: what is done, and the lines from `at` on, make all lines of the data (`restLines` at 0 is `wrapLines`).
 use Prim.Native.Nat.{ℕ, _+_, _-_, _*_, _/_, _≤_, _<_}
 use native.Mathlib.Omega.{arith}
-use native.Mathlib.Numerals.{add-one}
+use native.Mathlib.Numerals.{add-one, add-two}
 use mathlib.Core.Bool.{Bool, true, false}
 use mathlib.Core.Path.{_≡_, refl, sym, ap, _∙_}
 use mathlib.Core.List.{List, [], _∷_, _++_, append-assoc, append-nil}
@@ -13,22 +13,22 @@ use Rattle.buffer.specs.Place.{over, overAt}
 use Rattle.buffer.proofs.Laws.{put-over}
 use Rattle.recording.specs.Refusals.{dataLimit}
 use Rattle.recording.specs.Outcome.{refused, done, overLimit, noRoom, refusalOf, settle}
-use Rattle.layout.specs.Wrap.{Line, lineOf, lineNumbers, wrapLines}
+use Rattle.layout.specs.Wrap.{Line, lineOf, lineWidth, lineNumbers, wrapLines}
 use Rattle.line.specs.Rest.{restLines}
 use Rattle.line.specs.Line.{following}
 use Rattle.line.specs.declared.Next.{Next}
 use Rattle.line.proofs.RestLaws.{rest-all}
 use Rattle.wrap_lines.specs.WrapBytes.{lineSize, shownBytes, wrapResult, wrapBytesOutcome}
 
--- two stores from k on
-pub two-stores : (l : List ℕ) (k a b : ℕ) → k + 2 ≤ length l → set (set l k a) (k + 1) b ≡ overAt k (a ∷ b ∷ []) l
+-- three stores from k on
+pub three-stores : (l : List ℕ) (k a b c : ℕ) → k + 3 ≤ length l → set (set (set l k a) (k + 1) b) (k + 2) c ≡ overAt k (a ∷ b ∷ c ∷ []) l
 unfolding overAt
-two-stores l k a b h = rw add-one (sets-eq (a ∷ b ∷ []) l k h ∙ append-assoc (take k l) (a ∷ b ∷ []) (drop (k + 2) l) ∙ rw drop-drop)
+three-stores l k a b c h = rw (add-one, add-two) (sets-eq (a ∷ b ∷ c ∷ []) l k h ∙ append-assoc (take k l) (a ∷ b ∷ c ∷ []) (drop (k + 3) l) ∙ rw drop-drop)
 
 -- ── how many numbers, how many bytes
-pub numbers-length : (ls : List Line) → length (lineNumbers ls) ≡ length ls * lineSize
-numbers-length [] = refl
-numbers-length (l ∷ ls) = omega (arith, numbers-length ls)
+pub numbers-length : (d : List ℕ) (ls : List Line) → length (lineNumbers d ls) ≡ length ls * lineSize
+numbers-length d [] = refl
+numbers-length d (l ∷ ls) = omega (arith, numbers-length d ls)
 
 -- ── one line of those that are left
 module _ (w : ℕ) (b : Bool) (d : List ℕ) (at : ℕ) (r : Next) (e : restLines w b at (drop at d) ≡ lineOf at (r .end) ∷ following w b d r) where
@@ -40,8 +40,8 @@ module _ (w : ℕ) (b : Bool) (d : List ℕ) (at : ℕ) (r : Next) (e : restLine
   unfolding following
   end m = e ∙ rw m
 
-  numbers-one : lineNumbers (restLines w b at (drop at d)) ≡ lineNumbers (lineOf at (r .end) ∷ []) ++ lineNumbers (following w b d r)
-  numbers-one = ap lineNumbers e
+  numbers-one : r .width ≡ lineWidth d (lineOf at (r .end)) → lineNumbers d (restLines w b at (drop at d)) ≡ (at ∷ r .end ∷ r .width ∷ []) ++ lineNumbers d (following w b d r)
+  numbers-one v = ap (lineNumbers d) e ∙ ap (λ (n : ℕ). at ∷ r .end ∷ n ∷ lineNumbers d (following w b d r)) (sym v)
 
 -- ── counting
 pub record Counted (w : ℕ) (b : Bool) (d : List ℕ) (count bytes at : ℕ) : Type 0 where
@@ -76,52 +76,53 @@ pub record Written (w : ℕ) (b : Bool) (d old lines : List ℕ) (k at : ℕ) : 
   pub holds : lines ≡ over done old
   pub end : k ≡ length done
   -- the lines that are left give the rest of the numbers
-  pub rest : done ++ lineNumbers (restLines w b at (drop at d)) ≡ lineNumbers (wrapLines w b d)
+  pub rest : done ++ lineNumbers d (restLines w b at (drop at d)) ≡ lineNumbers d (wrapLines w b d)
   pub within : at ≤ length d
   pub long : length lines ≡ length old
 
 pub start : (w : ℕ) (b : Bool) (d old : List ℕ) → Written w b d old old 0 0
 unfolding over
-start w b d old = record { done = []; holds = refl; end = refl; rest = ap lineNumbers (rest-all w b d); within = omega arith; long = refl }
+start w b d old = record { done = []; holds = refl; end = refl; rest = ap (lineNumbers d) (rest-all w b d); within = omega arith; long = refl }
 
-module _ (w : ℕ) (b : Bool) (d old lines : List ℕ) (k at : ℕ) (S : Written w b d old lines k at) (r : Next) (e : restLines w b at (drop at d) ≡ lineOf at (r .end) ∷ following w b d r) where
+module _ (w : ℕ) (b : Bool) (d old lines : List ℕ) (k at : ℕ) (S : Written w b d old lines k at) (r : Next) (e : restLines w b at (drop at d) ≡ lineOf at (r .end) ∷ following w b d r)
+    (v : r .width ≡ lineWidth d (lineOf at (r .end))) where
   abbrev one : List ℕ
-  one = lineNumbers (lineOf at (r .end) ∷ [])
+  one = at ∷ r .end ∷ r .width ∷ []
 
   -- there is room for one more
-  pub room : length (lineNumbers (wrapLines w b d)) ≤ length old → k + lineSize ≤ length lines
+  pub room : length (lineNumbers d (wrapLines w b d)) ≤ length old → k + lineSize ≤ length lines
   room h =
       omega (
         arith,
         S .end,
         S .long,
         ap length (S .rest),
-        length-append (S .done) (lineNumbers (restLines w b at (drop at d))),
-        ap length (numbers-one w b d at r e),
+        length-append (S .done) (lineNumbers d (restLines w b at (drop at d))),
+        ap length (numbers-one w b d at r e v),
         length-append one
-            (lineNumbers (following w b d r)),
+            (lineNumbers d (following w b d r)),
       )
 
   put : (lines′ : List ℕ) → lines′ ≡ overAt k one lines → lines′ ≡ over (S .done ++ one) old
   put lines′ q = q ∙ rw (S .holds, S .end) (put-over (S .done) one old)
 
-  more : (S .done ++ one) ++ lineNumbers (following w b d r) ≡ lineNumbers (wrapLines w b d)
-  more = append-assoc (S .done) one (lineNumbers (following w b d r)) ∙ ap (λ (l : List ℕ). S .done ++ l) (sym (numbers-one w b d at r e)) ∙ S .rest
+  more : (S .done ++ one) ++ lineNumbers d (following w b d r) ≡ lineNumbers d (wrapLines w b d)
+  more = append-assoc (S .done) one (lineNumbers d (following w b d r)) ∙ ap (λ (l : List ℕ). S .done ++ l) (sym (numbers-one w b d at r e v)) ∙ S .rest
 
   pub next : (lines′ : List ℕ) (k′ : ℕ) → k′ ≡ k + lineSize → lines′ ≡ overAt k one lines → length lines′ ≡ length lines → r .more ≡ true → r .next ≤ length d → Written w b d old lines′ k′ (r .next)
   unfolding following
   next lines′ k′ p q l m n =
       record { done = S .done ++ one; holds = put lines′ q; end = omega (arith, p, S .end, length-append (S .done) one); rest = rw m at more; within = n; long = l ∙ S .long }
 
-  whole : r .more ≡ false → S .done ++ one ≡ lineNumbers (wrapLines w b d)
+  whole : r .more ≡ false → S .done ++ one ≡ lineNumbers d (wrapLines w b d)
   unfolding following
   whole m = sym (append-nil (S .done ++ one)) ∙ rw m at more
 
-  pub last : (lines′ : List ℕ) → lines′ ≡ overAt k one lines → r .more ≡ false → lines′ ≡ over (lineNumbers (wrapLines w b d)) old
+  pub last : (lines′ : List ℕ) → lines′ ≡ overAt k one lines → r .more ≡ false → lines′ ≡ over (lineNumbers d (wrapLines w b d)) old
   last lines′ q m = put lines′ q ∙ ap (λ (l : List ℕ). over l old) (whole m)
 
   pub last-count : (k′ : ℕ) → k′ ≡ k + lineSize → r .more ≡ false → k′ / lineSize ≡ length (wrapLines w b d)
-  last-count k′ p m = omega (arith, p, S .end, ap length (whole m), length-append (S .done) one, numbers-length (wrapLines w b d))
+  last-count k′ p m = omega (arith, p, S .end, ap length (whole m), length-append (S .done) one, numbers-length d (wrapLines w b d))
 
 -- ── the outcome: refusal 1, refusal 24, or the lines
 module _ (w : ℕ) (b : Bool) (d : List ℕ) (room : ℕ) where
@@ -130,10 +131,10 @@ module _ (w : ℕ) (b : Bool) (d : List ℕ) (room : ℕ) where
   outcome-long h = simp (lt-ltb dataLimit (length d) h)
 
   module _ (h : length d ≤ dataLimit) where
-    pub outcome-short : room < length (lineNumbers (wrapLines w b d)) → wrapBytesOutcome w b d room ≡ refused 24
+    pub outcome-short : room < length (lineNumbers d (wrapLines w b d)) → wrapBytesOutcome w b d room ≡ refused 24
     unfolding wrapBytesOutcome settle refusalOf overLimit noRoom
-    outcome-short k = simp (le-ltb dataLimit (length d) h, lt-ltb room (length (lineNumbers (wrapLines w b d))) k)
+    outcome-short k = simp (le-ltb dataLimit (length d) h, lt-ltb room (length (lineNumbers d (wrapLines w b d))) k)
 
-    pub outcome-done : length (lineNumbers (wrapLines w b d)) ≤ room → wrapBytesOutcome w b d room ≡ done (wrapResult w b d)
+    pub outcome-done : length (lineNumbers d (wrapLines w b d)) ≤ room → wrapBytesOutcome w b d room ≡ done (wrapResult w b d)
     unfolding wrapBytesOutcome settle refusalOf overLimit noRoom
-    outcome-done k = simp (le-ltb dataLimit (length d) h, le-ltb room (length (lineNumbers (wrapLines w b d))) k)
+    outcome-done k = simp (le-ltb dataLimit (length d) h, le-ltb room (length (lineNumbers d (wrapLines w b d))) k)

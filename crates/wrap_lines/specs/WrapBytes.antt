@@ -13,7 +13,7 @@ use Rattle.wrap_lines.specs.declared.Lines.{Lines}
 
 -- how many numbers a line takes in the line list
 abbrev pub lineSize : ℕ
-lineSize = length (lineNumbers (lineOf 0 0 ∷ []))
+lineSize = length (lineNumbers [] (lineOf 0 0 ∷ []))
 
 -- how many bytes of the data the lines show
 abbrev pub shownBytes : List Line → ℕ
@@ -37,7 +37,7 @@ abbrev pub wrapFaults : List ℕ → Faults
 wrapFaults d = record { lengths = 0; content = refuseIf (ltb dataLimit (length d)) 1; second = 0; added = 0; plain = 0; own = 0 }
 
 abbrev pub wrapResult : ℕ → Bool → List ℕ → Result
-wrapResult w b d = record { recording = noRecording; lines = lineNumbers (wrapLines w b d); number = length (wrapLines w b d) }
+wrapResult w b d = record { recording = noRecording; lines = lineNumbers d (wrapLines w b d); number = length (wrapLines w b d) }
 
 -- THE OUTCOME of the call, for a line list of `room` numbers
 unfoldable pub wrapBytesOutcome : ℕ → Bool → List ℕ → ℕ → Outcome

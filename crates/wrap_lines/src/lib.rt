@@ -1,4 +1,4 @@
-// Wrapping data bytes: the lines, first byte and end of each, in a lent line list.
+// Wrapping data bytes: the lines, first byte, end and display width of each, in a lent line list.
 // `wrap_bytes` answers and leaves what `wrapBytesOutcome` of `specs/WrapBytes.antt` says, refusals included.
 // A refused call touches nothing: the lines are counted first, unless the list takes as many as the data can have.
 use line::Next;
@@ -14,13 +14,13 @@ ghost use Rattle.chars.specs.Leads.{leadTable};
 ghost use Rattle.buffer.specs.Place.{over, overAt};
 ghost use Rattle.recording.specs.Refusals.{dataLimit};
 ghost use Rattle.recording.specs.Outcome.{Promised};
-ghost use Rattle.layout.specs.Wrap.{lineOf, lineNumbers, wrapLines};
+ghost use Rattle.layout.specs.Wrap.{lineNumbers, wrapLines};
 ghost use Rattle.wrap_lines.specs.WrapBytes.{lineSize, linesOf, lentLines, wrapBytesOutcome};
 
 const DATA_LIMIT: usize = 1048576;
 
-// The numbers of a line in the line list: first byte and end.
-pub const LINE_NUMBERS: usize = 2;
+// The numbers of a line in the line list: first byte, end and display width.
+pub const LINE_NUMBERS: usize = 3;
 
 // How many lines there are, and how many bytes of the data they show.
 pub struct Lines {
@@ -54,12 +54,13 @@ pub fn count_lines(t: &[u16; 256], data: &[u8], width: u32, break_words: bool) -
 }
 
 // Puts the numbers of one line at k, and returns the place after them.
-pub fn set_line(lines: &mut [u32], k: usize, first: u32, end: u32) -> usize
+pub fn set_line(lines: &mut [u32], k: usize, first: u32, end: u32, width: u32) -> usize
     requires { ⌜ k + lineSize ≤ length (now lines) ⌝ }
-    ensures { λ r. ⌜ (r ≡ k + lineSize) × (now (lines .exit) ≡ overAt k (lineNumbers (lineOf first end ∷ [])) (now (lines .entry))) ⌝ }
+    ensures { λ r. ⌜ (r ≡ k + lineSize) × (now (lines .exit) ≡ overAt k (first ∷ end ∷ width ∷ []) (now (lines .entry))) ⌝ }
 {
     lines[k] = first;
     lines[k + 1] = end;
+    lines[k + 2] = width;
     k + LINE_NUMBERS
 }
 
@@ -73,8 +74,8 @@ fn write_lines(
 ) -> usize
     requires { ⌜ now t ≡ leadTable ⌝ }
     requires { ⌜ length (now «data») ≤ dataLimit ⌝ }
-    requires { ⌜ length (lineNumbers (wrapLines width «break_words» (now «data»))) ≤ length (now lines) ⌝ }
-    ensures { λ _. ⌜ now (lines .exit) ≡ over (lineNumbers (wrapLines width «break_words» (now («data» .entry)))) (now (lines .entry)) ⌝ }
+    requires { ⌜ length (lineNumbers (now «data») (wrapLines width «break_words» (now «data»))) ≤ length (now lines) ⌝ }
+    ensures { λ _. ⌜ now (lines .exit) ≡ over (lineNumbers (now («data» .entry)) (wrapLines width «break_words» (now («data» .entry)))) (now (lines .entry)) ⌝ }
     ensures { λ r. ⌜ r ≡ length (wrapLines width «break_words» (now («data» .entry))) ⌝ }
 {
     let mut k = 0;
@@ -82,7 +83,7 @@ fn write_lines(
     loop {
         let l = next_line(t, data, at, width, break_words);
         let end = l.end;
-        k = set_line(lines, k, at as u32, end as u32);
+        k = set_line(lines, k, at as u32, end as u32, l.width as u32);
         if !l.more {
             break;
         }
@@ -103,7 +104,7 @@ pub fn numbers_of(count: usize) -> usize
 fn lines_fit(t: &[u16; 256], data: &[u8], width: u32, break_words: bool, room: usize) -> bool
     requires { ⌜ now t ≡ leadTable ⌝ }
     requires { ⌜ length (now «data») ≤ dataLimit ⌝ }
-    ensures { λ r. ⌜ r ≡ leb (length (lineNumbers (wrapLines width «break_words» (now («data» .entry))))) room ⌝ }
+    ensures { λ r. ⌜ r ≡ leb (length (lineNumbers (now («data» .entry)) (wrapLines width «break_words» (now («data» .entry))))) room ⌝ }
 {
     if numbers_of(data.len() + 1) <= room {
         return true;

@@ -1,13 +1,13 @@
 //! Lists of layout calls on one content: each call's content is the result of the last one that was not refused. The original's
 //! recorders go the same way beside it, and both are compared after every call.
 use bench::inputs::{Numbers, damaged};
-use bench::recordings::{Answer, Expected, view};
+use bench::recordings::{Answer, Expected, listed, view};
 use bench::room::Room;
 use oracle::original::{self, FormatRecorder};
 use oracle::{Lists, Recording};
 use ruszvedok::lent;
 
-use crate::{input, lend_to, numbers_of, records, records_fault, same, wrap_width};
+use crate::{input, lend_to, records, records_fault, same, wrap_width};
 
 /// The content in the library's form, as the library left it, and the original's recorder of it.
 struct Content {
@@ -71,8 +71,8 @@ fn call(content: &mut Content, numbers: &mut Numbers) -> Result<(), String> {
         4 => original::write_padded_centered(out, recorder, &theirs, width),
         5 => original::write_indented(out, recorder, |out| theirs.replay(out)),
         6 => {
-            lines = numbers_of(oracle::wrap_bytes(&lists.data, wrap_width, break_words));
-            number = lines.len() / 2;
+            let (count, numbers) = listed(&lists.data, wrap_width, break_words);
+            (number, lines) = (count as usize, numbers);
             original::write_wrapped(out, recorder, wrap_width, break_words)
         }
         _ => {

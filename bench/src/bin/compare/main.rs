@@ -9,7 +9,7 @@ use std::fmt::Debug;
 use std::process::ExitCode;
 
 use bench::inputs::{Numbers, damaged};
-use bench::recordings::{Answer, Expected, Left, at_a_limit, content, fault, maybe_damaged, numbers_of, recording, scattered, view, with_added};
+use bench::recordings::{Answer, Expected, Left, at_a_limit, content, fault, listed, maybe_damaged, recording, scattered, view, with_added};
 use bench::room::{LIMITS, Room};
 use oracle::{Lists, Recording};
 use ruszvedok::lent::{self, Buffers, Place, Replacement, Used, View};
@@ -240,8 +240,7 @@ fn wrap_bytes(numbers: &mut Numbers) -> Result<(), String> {
 }
 
 fn wrap_bytes_of(data: &[u8], width: usize, break_words: bool, numbers: &mut Numbers) -> Result<(), String> {
-    let lines = numbers_of(oracle::wrap_bytes(data, width, break_words));
-    let number = lines.len() as u64 / 2;
+    let (number, lines) = listed(data, width, break_words);
     let expected = Expected { faults: vec![], result: Lists::default(), lines, number };
     lend(numbers, expected, |_, lines| lent::wrap_bytes(data, width as u32, break_words, lines), &(data, width, break_words))
 }
@@ -254,9 +253,8 @@ fn write_wrapped(numbers: &mut Numbers) -> Result<(), String> {
 
 /// The content as its lists, its fault and its recording.
 fn write_wrapped_of((lists, fault, content): (&Lists, u64, &Recording), width: usize, break_words: bool, numbers: &mut Numbers) -> Result<(), String> {
-    let lines = numbers_of(oracle::wrap_bytes(&content.data, width, break_words));
+    let (number, lines) = listed(&content.data, width, break_words);
     let result = oracle::write_wrapped(content, width, break_words).to_lists();
-    let number = lines.len() as u64 / 2;
     let expected = Expected { faults: vec![fault], result, lines, number };
     let call = |room: &mut Room, lines: &mut [u32]| lent::write_wrapped(view(lists), width as u32, break_words, room.lent(), lines);
     lend(numbers, expected, call, &(lists, width, break_words))

@@ -159,10 +159,10 @@ pub fn texts(numbers: &mut Numbers, count: u64) -> Result<u64, String> {
         same(Ok(oracle::complete_newline(&text)), ruszvedok::complete_newline(&text), &text)?;
         same(oracle::trim_start_zero_width_chars(&text), ruszvedok::trim_start_zero_width_chars(&text), &text)?;
         let (wrap_width, break_words) = (wrap_width(&bytes, numbers), numbers.within(0, 1) == 0);
-        let place = |line: &[u8]| (line.as_ptr(), line.len());
-        let theirs: Vec<_> = original::wrap_bytes(&bytes, wrap_width, break_words).into_iter().map(place).collect();
+        let start = |line: &[u8]| line.as_ptr() as usize - bytes.as_ptr() as usize;
+        let place = |(line, width): (&[u8], usize)| (start(line), start(line) + line.len(), width);
         let ours = ruszvedok::wrap_bytes(&bytes, wrap_width, break_words).map(|lines| lines.into_iter().map(place).collect());
-        same(Ok(theirs), ours, &(&bytes, wrap_width, break_words))?;
+        same(Ok(oracle::wrap_bytes(&bytes, wrap_width, break_words)), ours, &(&bytes, wrap_width, break_words))?;
     }
     Ok(5 * count)
 }

@@ -1,12 +1,10 @@
 -- A character read in the rest of the data is the character of the word there: none goes on past the word's end (`char-word`).
--- A printable ASCII byte is one of width 1 (`plain`).
+-- A visible ASCII byte is one of width 1 (`at-visible`).
 use native.Mathlib.Omega.{arith}
 use borrow.Author.Needs.{needs}
-use mathlib.Core.Path.{sym}
-use Rattle.chars.specs.declared.Seen.{Seen}
-use Rattle.chars.proofs.FoldLaws.{plain}
 use Rattle.line.specs.Rest.{wordText}
 use Rattle.line.proofs.LineLaws as laws
+use Rattle.line.proofs.VisibleLaws.{at-visible}
 use Rattle.line.proofs.seen_in_word.Statement.{statement}
 use Rattle.line.proofs.seen_in_word.Tie as tie
 use Rattle.line.proofs.seen_in_word.Reads as reads
@@ -47,11 +45,9 @@ returns-4 c =
 returns-5 : tie.Need-returns-5
 returns-5 c =
     let a = c .before .before .before .before .before .args in
-    let p = plain (a .s .now) (a .i) (omega (arith, c .before .if2 .left)) (omega (arith, c .if5 .taken)) in
-    let one : Seen = record { len = 1; width = 1 } in
-    let e = laws.at-char (a .s .now) (a .i) (c .before .before .before .before .before .pre .1) (c .before .before .before .if1 .left) (λ z. omega (arith, z, c .before .if2 .left))
-    (λ z. omega (arith, z, c .before .if2 .left)) one (sym (p .0)) (sym (p .1)) in
-    (e, (laws.seen-inside (wordText (a .s .now)) (a .i) one e (c .before .before .before .before .before .pre .1), search needs))
+    let within = c .before .before .before .before .before .pre .1 in
+    let e = at-visible (a .s .now) (a .i) within (c .before .before .before .if1 .left) (omega (arith, c .before .if2 .left)) (omega (arith, c .if5 .taken)) in
+    (e, (laws.seen-inside (wordText (a .s .now)) (a .i) (record { len = 1; width = 1 }) e within, search needs))
 
 seen-at-requires-2 : tie.Need-seen-at-requires-2
 seen-at-requires-2 c κs = search needs

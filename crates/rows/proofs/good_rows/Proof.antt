@@ -7,7 +7,8 @@ use lib.ListN.{length}
 use Rattle.recording.specs.Outcome.{Lent}
 use Rattle.layout.specs.Wrap.{lineNumbers, wrapLines}
 use Rattle.rows.specs.Rows.{numberRows}
-use Rattle.rows.proofs.RowLaws.{numbers-two, rows-lines, line-count, line-list, same-row}
+use Rattle.wrap_lines.proofs.WrapLaws.{numbers-length}
+use Rattle.rows.proofs.RowLaws.{rows-lines, line-count, line-list, same-row}
 use Rattle.rows.proofs.good_rows.Statement.{statement}
 use Rattle.rows.proofs.good_rows.Tie as tie
 use Rattle.rows.proofs.good_rows.Reads as reads
@@ -34,11 +35,13 @@ count c =
 
 -- so are the numbers
 numbers : (c : tie.After-numbers-of) → c .numbers-of .result ≡ length
-    (lineNumbers (wrapLines (c .before .before .before .before .before .before .before .before .before .args .width)
+    (lineNumbers (c .before .before .before .before .before .before .before .before .before .args .d .now)
+    (wrapLines (c .before .before .before .before .before .before .before .before .before .args .width)
     (c .before .before .before .before .before .before .before .before .before .args .breaks) (c .before .before .before .before .before .before .before .before .before .args .d .now)))
 numbers c = omega (
   arith,
-  numbers-two (wrapLines (c .before .before .before .before .before .before .before .before .before .args .width)
+  numbers-length (c .before .before .before .before .before .before .before .before .before .args .d .now)
+      (wrapLines (c .before .before .before .before .before .before .before .before .before .args .width)
       (c .before .before .before .before .before .before .before .before .before .args .breaks)
       (c .before .before .before .before .before .before .before .before .before .args .d .now)),
   count (c .before),
@@ -60,7 +63,7 @@ slice-reshare-prefix-put-lines c =
     omega (
       arith,
       numbers (c .before),
-      numbers-two (wrapLines (x .width) (x .breaks) (x .d .now)),
+      numbers-length (x .d .now) (wrapLines (x .width) (x .breaks) (x .d .now)),
       few (c .before .before .before .before .before),
       c .before .before .before .before .before .wrap-bytes .kept,
       c .before .before .before .before .before .before .before .before .before .before .pre,
@@ -85,7 +88,7 @@ put-lines-requires c κs =
     let e = numbers (c .before .before) in
     let h = line-list (x .width) (x .breaks) (x .d .now) (x .lines .now) (w .ensures .1) (pre .0) (pre .1) _ _ e (ap (λ (b : Lent). b .lines) (w .ensures .0 .1)) in
     let f = few (c .before .before .before .before .before .before) in
-    (omega (arith, ap length h, numbers-two ls, f, pre), omega (arith, ap length h, numbers-two ls, f, pre))
+    (omega (arith, ap length h, numbers-length (x .d .now) ls, f, pre), omega (arith, ap length h, numbers-length (x .d .now) ls, f, pre))
 
 same-length : tie.Need-same-length
 same-length c = search needs
@@ -105,8 +108,8 @@ returns c =
     let e = numbers (at-5) in
     let h = line-list (x .width) (x .breaks) (x .d .now) (x .lines .now) (w .ensures .1) (pre .0) (pre .1) _ _ e (ap (λ (b : Lent). b .lines) (w .ensures .0 .1)) in
     let p = c .before .before .put-lines in
-    let r = ap (numberRows (x .row) 0) h ∙ rows-lines (x .row) 0 ls in
-    (same-row (x .at) (x .out .now) _ _ (p .result) _ r (p .ensures .0 .0) (p .ensures .0 .1), omega (arith, p .ensures .1, ap length h, numbers-two ls, few (at-wrap-bytes)))
+    let r = ap (numberRows (x .row) 0) h ∙ rows-lines (x .d .now) (x .row) 0 ls in
+    (same-row (x .at) (x .out .now) _ _ (p .result) _ r (p .ensures .0 .0) (p .ensures .0 .1), omega (arith, p .ensures .1, ap length h, numbers-length (x .d .now) ls, few (at-wrap-bytes)))
 
 pub good-rows-spec : {M : Type 1} → statement M
 good-rows-spec =

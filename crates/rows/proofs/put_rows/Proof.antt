@@ -27,7 +27,7 @@ record So-far (s : List ℕ) (from : ℕ) (data₀ lines₀ out₀ : List ℕ) (
   rest : done ++ rowsFrom row (sheetLines (drop p s)) ≡ rowsFrom 0 (sheetLines (drop from s))
   within : p ≤ length s + 1
   count : row ≤ p
-  room : at ≤ start + 22 * p
+  room : at ≤ start + 28 * p
   data-long : length data₁ ≡ length data₀
   lines-long : length lines ≡ length lines₀
   long : length out ≡ length out₀
@@ -36,7 +36,7 @@ module _ (s : List ℕ) (from : ℕ) (data₀ lines₀ out₀ : List ℕ) (start
     (i : So-far s from data₀ lines₀ out₀ start data₁ lines out p row at) (ok : start ≤ length out₀) where
   step : p < length s → (e : ℕ) → e ≡ p + length (upTo 0x0A (drop p s)) → p ≤ e → e ≤ length s → (data′ lines′ out′ : List ℕ) (r : ℕ)
       → r ≡ at + length (rowsOf row (sheetLine (take (e - p) (drop p s)) (ltb e (length s))))
-      → out′ ≡ overAt at (rowsOf row (sheetLine (take (e - p) (drop p s)) (ltb e (length s)))) out → r ≤ at + 22 * (length (take (e - p) (drop p s)) + 1)
+      → out′ ≡ overAt at (rowsOf row (sheetLine (take (e - p) (drop p s)) (ltb e (length s)))) out → r ≤ at + 28 * (length (take (e - p) (drop p s)) + 1)
       → length data′ ≡ length data₁ → length lines′ ≡ length lines → length out′ ≡ length out
       → So-far s from data₀ lines₀ out₀ start data′ lines′ out′ (e + 1) (row + 1) r
   step more e k low high data′ lines′ out′ r f g b l m n =

@@ -45,23 +45,30 @@ cast-set-line c =
 
 cast-set-line-2 : tie.Need-cast-set-line-2 Inv-loop μ-loop
 cast-set-line-2 c =
-    omega (arith, c .before .next-line .ensures .1 .1, start (c .before) .pre .1 .0 .short)
+    omega (arith, c .before .next-line .ensures .1 .0 .1, start (c .before) .pre .1 .0 .short)
+
+cast-set-line-3 : tie.Need-cast-set-line-3 Inv-loop μ-loop
+cast-set-line-3 c =
+    let p = c .before .before in
+    let e = p .next-line .ensures in
+    omega (arith, e .1 .0 .1, e .1 .1 .1, start p .pre .1 .0 .short)
 
 set-line-requires : tie.Need-set-line-requires Inv-loop μ-loop
 set-line-requires c κs =
-    let n = c .before .next-line in
-    lists.room _ _ _ _ _ _ _ (c .before .before .loop .inv .1) (n .result) (n .ensures .0) (start (c .before) .pre .1 .1 .1)
+    let p = c .before .before in
+    let n = p .next-line in
+    lists.room _ _ _ _ _ _ _ (p .before .loop .inv .1) (n .result) (n .ensures .0) (n .ensures .1 .1 .0) (start p .pre .1 .1 .1)
 
 put-line-requires : tie.Need-put-line-requires Inv-loop μ-loop
 put-line-requires c κs =
-    let p = c .before .before .before .before .before .before .before in
+    let p = c .before .before .before .before .before .before .before .before in
     let S = p .before .loop .inv .0 in
     let n = p .next-line in
-    (S .ready, ((S .here, n .ensures .1 .0, n .ensures .1 .1), laws.room-line _ _ _ _ _ _ _ _ _ S (start p .pre .1 .1 .0) (n .result) (n .ensures .0)))
+    (S .ready, ((S .here, n .ensures .1 .0 .0, n .ensures .1 .0 .1), laws.room-line _ _ _ _ _ _ _ _ _ S (start p .pre .1 .1 .0) (n .result) (n .ensures .0)))
 
 -- ── once a line is written: where it was found, and where it was listed
 abbrev found : tie.After-put-line Inv-loop μ-loop → tie.After-next-line Inv-loop μ-loop
-found c = c .before .before .before .before .before .before .before .before
+found c = c .before .before .before .before .before .before .before .before .before
 
 abbrev listed : tie.After-put-line Inv-loop μ-loop → tie.After-set-line Inv-loop μ-loop
 listed c = c .before .before .before .before .before .before
@@ -79,7 +86,7 @@ put-newline-requires c κs =
 loop-less : tie.Need-loop-less Inv-loop μ-loop
 loop-less c =
     let n = found (c .before .before .before .before .before .before .before .before .before .before .before .before) .next-line in
-    omega (arith, n .ensures .1 .2, n .ensures .1 .3 (not-false (n .result .more) (c .before .before .before .before .if1 .left)) .0)
+    omega (arith, n .ensures .1 .0 .2, n .ensures .1 .0 .3 (not-false (n .result .more) (c .before .before .before .before .if1 .left)) .0)
 
 loop-again : tie.Need-loop-again Inv-loop μ-loop
 loop-again c =
@@ -92,8 +99,8 @@ loop-again c =
     let m = not-false (n .result .more) (c .before .before .before .before .if1 .left) in
     let v = bytes-wrote _ _ _ _ (0x0A ∷ []) _ _ (w .1) (w .0 .2) (w .0 .3) (w .0 .4) in (
       laws.step _ _ _ _ _ _ _ _ _ (S .0) (start (found p) .pre .1 .1 .0) (n .result) (n .ensures .0) _ _ (l .0) (l .1 .0) (l .1 .1 .0) (l .1 .1 .1) m _ _ v (w .0 .0) (w .0 .1)
-          (n .ensures .1 .3 m .1) (n .ensures .1 .2),
-      lists.next _ _ _ _ _ _ _ (S .1) (n .result) (n .ensures .0) _ _ (s .ensures .0) (s .ensures .1) (s .kept .0) m (n .ensures .1 .2),
+          (n .ensures .1 .0 .3 m .1) (n .ensures .1 .0 .2),
+      lists.next _ _ _ _ _ _ _ (S .1) (n .result) (n .ensures .0) (n .ensures .1 .1 .0) _ _ (s .ensures .0) (s .ensures .1) (s .kept .0) m (n .ensures .1 .0 .2),
     )
 
 skip-requires : tie.Need-skip-requires Inv-loop μ-loop
@@ -103,7 +110,7 @@ skip-requires c κs =
     let l = p .put-line .ensures in
     let f = laws.room-behind _ _ _ _ _ _ _ _ _ (found p .before .loop .inv .0) (start (found p) .pre .1 .1 .0) (n .result) (n .ensures .0) _ _ (l .0) (l .1 .0) (l .1 .1 .0) (l .1 .1 .1)
     (not-true (n .result .more) (c .before .before .before .if1 .taken)) in
-    (l .1 .1 .0, ((omega (arith, l .1 .1 .1, n .ensures .1 .1), omega arith), f))
+    (l .1 .1 .0, ((omega (arith, l .1 .1 .1, n .ensures .1 .0 .1), omega arith), f))
 
 same-length : tie.Need-same-length Inv-loop μ-loop
 unfolding out
@@ -141,7 +148,10 @@ returns c =
     let m = not-true (n .result .more) (c .before .before .before .before .before .before .before .before .before .before .if1 .taken) in (
       laws.finish _ _ _ _ _ _ _ _ _ (S .0) (start (found p) .pre .1 .1 .0) (n .result) (n .ensures .0) _ _ (l .0) (l .1 .0) (l .1 .1 .0) (l .1 .1 .1) m _
           (c .before .before .before .before .before .before .skip .ensures .0),
-      (lists.last _ _ _ _ _ _ _ (S .1) (n .result) (n .ensures .0) _ (s .ensures .1) m, lists.last-count _ _ _ _ _ _ _ (S .1) (n .result) (n .ensures .0) (s .result) (s .ensures .0) m),
+      (
+        lists.last _ _ _ _ _ _ _ (S .1) (n .result) (n .ensures .0) (n .ensures .1 .1 .0) _ (s .ensures .1) m,
+        lists.last-count _ _ _ _ _ _ _ (S .1) (n .result) (n .ensures .0) (n .ensures .1 .1 .0) (s .result) (s .ensures .0) m,
+      ),
     )
 
 pub put-wrapped-spec : {M : Type 1} → statement M
@@ -154,6 +164,7 @@ put-wrapped-spec =
     next-line-requires
     cast-set-line
     cast-set-line-2
+    cast-set-line-3
     set-line-requires
     put-line-requires
     put-newline-requires

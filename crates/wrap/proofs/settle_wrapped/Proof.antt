@@ -43,7 +43,7 @@ returns c =
     sym (smaller-fits _ _ _ _ _ _ _ h (c .before .before .before .before .most-bytes .ensures)
     (omega (
       arith,
-      numbers-length ls,
+      numbers-length (a .content .now) ls,
       lines-few (a .width) (a .break-words) (a .content .now) (c .before .before .before .before .before .before .pre .1),
       c .before .before .before .numbers-of .ensures,
     )))
@@ -72,7 +72,7 @@ returns-2 c =
     let a = c .before .before .before .before .before .before .before .before .before .before .args in
     let e = c .before .before .before .count-lines .ensures .0 in
     let d = ap (λ (x : Lines). x .bytes + (x .count - 1)) e in
-    let l = c .before .numbers-of2 .ensures ∙ ap (λ (x : Lines). x .count * lineSize) e ∙ sym (numbers-length (wrapLines (a .width) (a .break-words) (a .content .now))) in
+    let l = c .before .numbers-of2 .ensures ∙ ap (λ (x : Lines). x .count * lineSize) e ∙ sym (numbers-length (a .content .now) (wrapLines (a .width) (a .break-words) (a .content .now))) in
     c .settle2 .ensures ∙ (λ i. sizesFault (d i) (a .e) (a .t) (l i) (roomOf (a .bytes) (a .numbers) (a .texts) (a .lines)))
 
 pub settle-wrapped-spec : {M : Type 1} → statement M

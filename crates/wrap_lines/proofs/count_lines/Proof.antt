@@ -32,23 +32,23 @@ add-count c =
 
 sub-bytes : tie.Need-sub-bytes Inv-loop μ-loop
 sub-bytes c =
-    omega (arith, c .before .next-line .ensures .1 .0)
+    omega (arith, c .before .next-line .ensures .1 .0 .0)
 
 add-bytes : tie.Need-add-bytes Inv-loop μ-loop
 add-bytes c =
-    omega (arith, c .before .next-line .ensures .1 .0, c .before .next-line .ensures .1 .1, c .before .before .loop .inv .shown)
+    omega (arith, c .before .next-line .ensures .1 .0 .0, c .before .next-line .ensures .1 .0 .1, c .before .before .loop .inv .shown)
 
 loop-less : tie.Need-loop-less Inv-loop μ-loop
 loop-less c =
     let l = c .before .before .before .next-line in
-    omega (arith, l .ensures .1 .2, l .ensures .1 .3 (not-false (l .result .more) (c .if1 .left)) .0)
+    omega (arith, l .ensures .1 .0 .2, l .ensures .1 .0 .3 (not-false (l .result .more) (c .if1 .left)) .0)
 
 loop-again : tie.Need-loop-again Inv-loop μ-loop
 loop-again c =
     let l = c .before .before .before .next-line in
     let m = not-false (l .result .more) (c .if1 .left) in
-    let p = l .ensures .1 .3 m in
-    laws.count-on _ _ _ _ _ _ (c .before .before .before .before .loop .inv) (l .result) (l .ensures .0) m (l .ensures .1 .2) (p .0) (l .ensures .1 .0) (p .1)
+    let p = l .ensures .1 .0 .3 m in
+    laws.count-on _ _ _ _ _ _ (c .before .before .before .before .loop .inv) (l .result) (l .ensures .0) m (l .ensures .1 .0 .2) (p .0) (l .ensures .1 .0 .0) (p .1)
 
 returns : tie.Need-returns Inv-loop μ-loop
 unfolding linesOf
@@ -56,7 +56,7 @@ returns c =
     let l = c .before .before .before .next-line in
     let S = c .before .before .before .before .loop .inv in
     let k = laws.count-last _ _ _ _ _ _ S (l .result) (l .ensures .0) (not-true (l .result .more) (c .if1 .taken)) in
-    (λ i. record { count = k .0 i; bytes = k .1 i }, (omega arith, omega (arith, S .few, S .within), omega (arith, S .shown, l .ensures .1 .0, l .ensures .1 .1)))
+    (λ i. record { count = k .0 i; bytes = k .1 i }, (omega arith, omega (arith, S .few, S .within), omega (arith, S .shown, l .ensures .1 .0 .0, l .ensures .1 .0 .1)))
 
 pub count-lines-spec : {M : Type 1} → statement M
 count-lines-spec =

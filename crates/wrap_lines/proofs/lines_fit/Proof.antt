@@ -27,10 +27,10 @@ numbers-of-requires c κs = search needs
 returns : tie.Need-returns
 returns c =
     let a = c .before .before .before .args in
-    sym (le-leb (length (lineNumbers (wrapLines (a .width) (a .break-words) (a .«data» .now)))) (a .room)
+    sym (le-leb (length (lineNumbers (a .«data» .now) (wrapLines (a .width) (a .break-words) (a .«data» .now)))) (a .room)
     (omega (
       arith,
-      numbers-length (wrapLines (a .width) (a .break-words) (a .«data» .now)),
+      numbers-length (a .«data» .now) (wrapLines (a .width) (a .break-words) (a .«data» .now)),
       lines-few (a .width) (a .break-words) (a .«data» .now) (c .before .before .before .pre .1),
       c .before .numbers-of .ensures,
       c .if1 .taken,
@@ -47,7 +47,7 @@ unfolding linesOf
 returns-2 c =
     let a = c .before .before .before .before .before .args in
     let e = ap (λ (x : Lines). x .count * lineSize) (c .before .count-lines .ensures .0) in
-    ap (λ (n : ℕ). leb n (a .room)) (c .numbers-of2 .ensures ∙ e ∙ sym (numbers-length (wrapLines (a .width) (a .break-words) (a .«data» .now))))
+    ap (λ (n : ℕ). leb n (a .room)) (c .numbers-of2 .ensures ∙ e ∙ sym (numbers-length (a .«data» .now) (wrapLines (a .width) (a .break-words) (a .«data» .now))))
 
 pub lines-fit-spec : {M : Type 1} → statement M
 lines-fit-spec =

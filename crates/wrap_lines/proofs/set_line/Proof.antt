@@ -1,4 +1,4 @@
--- Two stores are the numbers of one line.
+-- Three stores are the numbers of one line.
 use native.Mathlib.Omega.{arith}
 use borrow.Author.Needs.{needs}
 use Rattle.wrap_lines.proofs.WrapLaws as laws
@@ -25,6 +25,16 @@ slice-write-lines-2 : tie.Need-slice-write-lines-2
 slice-write-lines-2 c =
     simp length-set (omega arith)
 
+add-lines-2 : tie.Need-add-lines-2
+add-lines-2 c = search needs
+
+mul-lines-3 : tie.Need-mul-lines-3
+mul-lines-3 c = search needs
+
+slice-write-lines-3 : tie.Need-slice-write-lines-3
+slice-write-lines-3 c =
+    simp (length-set, length-set) (omega arith)
+
 add-result : tie.Need-add-result
 add-result c = search needs
 
@@ -34,7 +44,7 @@ same-length c =
 
 returns : tie.Need-returns
 returns c =
-    (refl, laws.two-stores _ _ _ _ (c .pre))
+    (refl, laws.three-stores _ _ _ _ _ (c .pre))
 
 pub set-line-spec : {M : Type 1} → statement M
 set-line-spec =
@@ -45,6 +55,9 @@ set-line-spec =
     add-lines
     mul-lines-2
     slice-write-lines-2
+    add-lines-2
+    mul-lines-3
+    slice-write-lines-3
     add-result
     same-length
     returns)

@@ -18,6 +18,13 @@ Inv-loop t «data» width break-words lines₀ k₀ at₀ lines k at = laws.Writ
 abbrev μ-loop : tie.MeasureT-loop
 μ-loop t «data» width break-words lines₀ k₀ at₀ lines k at = length «data» - at
 
+-- where a line is found, and where it is listed
+abbrev found : tie.After-struct-known Inv-loop μ-loop → tie.After-next-line Inv-loop μ-loop
+found c = c .before .before
+
+abbrev set : tie.After-struct-known2 Inv-loop μ-loop → tie.After-set-line Inv-loop μ-loop
+set c = c .before .before .before
+
 loop-holds : tie.Need-loop-holds Inv-loop μ-loop
 loop-holds c =
     laws.start _ _ _ _
@@ -32,35 +39,49 @@ cast-set-line c =
 
 cast-set-line-2 : tie.Need-cast-set-line-2 Inv-loop μ-loop
 cast-set-line-2 c =
-    omega (arith, c .before .next-line .ensures .1 .1)
+    omega (arith, c .before .next-line .ensures .1 .0 .1)
+
+cast-set-line-3 : tie.Need-cast-set-line-3 Inv-loop μ-loop
+cast-set-line-3 c =
+    let e = found c .next-line .ensures in
+    omega (arith, e .1 .0 .1, e .1 .1 .1)
 
 set-line-requires : tie.Need-set-line-requires Inv-loop μ-loop
 set-line-requires c κs =
-    laws.room _ _ _ _ _ _ _ (c .before .before .loop .inv) (c .before .next-line .result) (c .before .next-line .ensures .0) (c .before .before .before .before .before .pre .1 .1)
+    let f = found c in
+    let l = f .next-line in
+    laws.room _ _ _ _ _ _ _ (f .before .loop .inv) (l .result) (l .ensures .0) (l .ensures .1 .1 .0) (f .before .before .before .before .pre .1 .1)
 
 loop-less : tie.Need-loop-less Inv-loop μ-loop
 loop-less c =
-    let l = c .before .before .before .before .before .before .next-line in
-    omega (arith, l .ensures .1 .2, l .ensures .1 .3 (not-false (l .result .more) (c .if1 .left)) .0)
+    let l = found (set (c .before) .before) .next-line in
+    omega (arith, l .ensures .1 .0 .2, l .ensures .1 .0 .3 (not-false (l .result .more) (c .if1 .left)) .0)
 
 loop-again : tie.Need-loop-again Inv-loop μ-loop
 loop-again c =
-    let l₀ = c .before .before .before .before .before .before .before .loop in
-    let l = c .before .before .before .before .before .before .next-line in
-    let s = c .before .before .before .before .set-line in
-    laws.next _ _ _ _ _ _ _ (l₀ .inv) (l .result) (l .ensures .0) _ _ (s .ensures .0) (s .ensures .1) (s .kept .0) (not-false (l .result .more) (c .if1 .left)) (l .ensures .1 .2)
+    let a = set (c .before) in
+    let f = found (a .before) in
+    let l = f .next-line in
+    let s = a .set-line in
+    laws.next _ _ _ _ _ _ _ (f .before .loop .inv) (l .result) (l .ensures .0) (l .ensures .1 .1 .0) _ _ (s .ensures .0) (s .ensures .1) (s .kept .0) (not-false (l .result .more) (c .if1 .left))
+    (l .ensures .1 .0 .2)
 
 same-length : tie.Need-same-length Inv-loop μ-loop
 same-length c =
-    c .before .before .before .before .set-line .kept .0 ∙ c .before .before .before .before .before .before .before .loop .inv .long
+    let a = set (c .before) in
+    a .set-line .kept .0 ∙ found (a .before) .before .loop .inv .long
 
 returns : tie.Need-returns Inv-loop μ-loop
 returns c =
-    let S = c .before .before .before .before .before .before .before .loop .inv in
-    let l = c .before .before .before .before .before .before .next-line in
-    let s = c .before .before .before .before .set-line in
-    let m = not-true (l .result .more) (c .if1 .taken) in
-    (laws.last _ _ _ _ _ _ _ S (l .result) (l .ensures .0) _ (s .ensures .1) m, laws.last-count _ _ _ _ _ _ _ S (l .result) (l .ensures .0) (s .result) (s .ensures .0) m)
+    let a = set (c .before) in
+    let f = found (a .before) in
+    let S = f .before .loop .inv in
+    let l = f .next-line in
+    let s = a .set-line in
+    let m = not-true (l .result .more) (c .if1 .taken) in (
+      laws.last _ _ _ _ _ _ _ S (l .result) (l .ensures .0) (l .ensures .1 .1 .0) _ (s .ensures .1) m,
+      laws.last-count _ _ _ _ _ _ _ S (l .result) (l .ensures .0) (l .ensures .1 .1 .0) (s .result) (s .ensures .0) m,
+    )
 
 pub write-lines-spec : {M : Type 1} → statement M
 write-lines-spec =
@@ -72,6 +93,7 @@ write-lines-spec =
     next-line-requires
     cast-set-line
     cast-set-line-2
+    cast-set-line-3
     set-line-requires
     loop-less
     loop-again
