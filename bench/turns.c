@@ -28,7 +28,7 @@ static size_t line_numbers;
 static uint8_t out_data[ROOM];
 static uint32_t out_entries[ROOM];
 static uint8_t out_text[ROOM];
-static uint32_t out_lines[3 * MOST_LINES];
+static uint32_t out_lines[4 * MOST_LINES]; /* up to four numbers a line */
 static ruszvedok_recording out = {out_data, ROOM, 0, out_entries, ROOM, 0, out_text, ROOM, 0};
 static uint64_t res[5];
 
@@ -69,6 +69,14 @@ static const call calls[] = {
     OF(write_padded_start, false, false), OF(write_padded_end, false, false), OF(write_padded_centered, false, false),
     OF(write_indented, false, false), OF(wrap_bytes, true, false), OF(write_wrapped, true, false), OF(write_replaced, false, false),
     OF(elide_start, false, true), OF(elide_end, false, true), OF(complete_newline, false, true)};
+
+static const call *named(const char *name)
+{
+    const call *c = calls;
+    while (strcmp(c->name, name) != 0)
+        c++;
+    return c;
+}
 
 /* ---- the texts ---- */
 static uint64_t seed;
@@ -260,7 +268,7 @@ int main(int argc, char **argv)
         take(0);
         fill_row(rows, data, size, false, 0);
         for (int exact = 0; exact < 2; exact++)
-            compare(calls + 7, hard[n].name, rows, 1, (task){hard[n].width, hard[n].break_words, exact});
+            compare(named("wrap_bytes"), hard[n].name, rows, 1, (task){hard[n].width, hard[n].break_words, exact});
     }
     return 0;
 }
