@@ -15,8 +15,8 @@ use Rattle.chars.proofs.CharsLaws.{valid-clean, width-append}
 use Rattle.chars.proofs.SeamLaws.{width-none, chars-low, blank, chars-blank, width-blank}
 use Rattle.recording.specs.Recording.{Bytes}
 use Rattle.recording.proofs.Lists.{AllOf, all-append}
-use Rattle.layout.specs.Wrap.{groups, splitLines, Word, byteWords, wordsOf, inHead, splitWordsAtWidth, fitsLine, fullWidth, firstFit, Line, wrappedLine, linesFrom, wrapLines}
-use Rattle.layout.specs.Widths.{LoneWord, TextFits, LinesFit, WidthsTrusted}
+use Rattle.layout.specs.Wrap.{groups, splitLines, Word, byteWords, wordsOf, inHead, splitWordsAtWidth, fitsLine, fullWidth, firstFit, Line, wrappedLine, linesFrom, lineNumbers, wrapLines}
+use Rattle.layout.specs.Widths.{LoneWord, Uncut, ListFits, WidthsTrusted}
 use Rattle.layout.proofs.GroupLaws.{all-concat, groups-concat, Joined, JoinedAll, groups-joined}
 use Rattle.layout.proofs.ByteWordLaws.{Chain, NoNewline, Inner, lines-none, runs-ok, runs-chain}
 use Rattle.layout.proofs.BreakLaws.{PieceOk, WordOk, Spaced, breaking-chain, breaking-pieces, fit-spaced}
@@ -84,7 +84,11 @@ lone-word : (s : Bytes) → AllOf Inner s → LoneWord s
 lone-word [] h = tt
 lone-word (b ∷ s) h = (eqb-false b 0x20 (h .0 .0), lone-word s (h .1))
 
--- one word by itself; t says whether words are broken
+-- what a line shows is within the width, or not cut further; t says whether words are broken
+abbrev TextFits : ℕ → Bool → Bytes → Type 0
+TextFits w t s = (textWidth s ≤ w) ⊎ Uncut t s
+
+-- one word by itself
 word-fits : (t : Bool) (w : ℕ) (cs : List Character) → PieceOk t w cs → TextFits w t (bytesOf cs)
 word-fits false w cs o = inr (lone-word (bytesOf cs) (o .inner))
 word-fits true w [] o = inl (omega (arith, width-none))
@@ -118,13 +122,13 @@ lines-fit : (w : ℕ) (b : Bool) (ls : List Bytes) → AllOf (AllOf NoNewline) l
 lines-fit w b [] h = tt
 lines-fit w b (l ∷ ls) h = all-append (TextFits w (b && ltb 0 w)) (texts (wrappedLine w b l)) (textsOf w b ls) (line-fits w b l (h .0)) (lines-fit w b ls (h .1))
 
--- what the lines show is what they list
-listed : (w : ℕ) (b : Bool) (d : Bytes) (ls : List Line) → AllOf (TextFits w (b && ltb 0 w)) (cuts d ls) → LinesFit w b d ls
-listed w b d [] h = tt
-listed w b d (l ∷ ls) h = (h .0, listed w b d ls (h .1))
+-- the list has the width of what each line shows
+listed : (w : ℕ) (t : Bool) (d : Bytes) (ls : List Line) → AllOf (TextFits w t) (cuts d ls) → ListFits w t d (lineNumbers d ls)
+listed w t d [] h = tt
+listed w t d (l ∷ ls) h = (h .0, listed w t d ls (h .1))
 
 pub widths-trusted : WidthsTrusted
 unfolding wrapLines
 widths-trusted w b d =
-    listed w b d (linesFrom w b 0 (splitLines d))
+    listed w (b && ltb 0 w) d (linesFrom w b 0 (splitLines d))
     (subst (AllOf (TextFits w (b && ltb 0 w))) (sym (cuts-all w b d 0 (splitLines d) (sym (join-lines d)))) (lines-fit w b (splitLines d) (lines-none d)))

@@ -6,10 +6,11 @@ use mathlib.Core.Logic.{_⊎_, _≢_}
 use mathlib.Core.Path.{_≡_}
 use mathlib.Core.List.{List, [], _∷_}
 use lib.Dec.{ltb}
-use Rattle.chars.specs.Chars.{Character, chars, textWidth}
+use Rattle.chars.specs.Chars.{Character, chars}
 use Rattle.chars.specs.Cut.{leadingZeroWidth}
+use Rattle.buffer.specs.Place.{part}
 use Rattle.recording.specs.Recording.{Bytes}
-use Rattle.layout.specs.Wrap.{Line, lineBytes, wrapLines}
+use Rattle.layout.specs.Wrap.{lineNumbers, wrapLines}
 
 -- a lone word: no 20 stands in it
 abbrev pub LoneWord : Bytes → Type 0
@@ -26,18 +27,13 @@ abbrev pub Uncut : Bool → Bytes → Type 0
 Uncut true t = LoneCharacter (chars t)
 Uncut false t = LoneWord t
 
--- what a line shows is within the width, or not cut further; t says whether words are broken
-abbrev pub TextFits : ℕ → Bool → Bytes → Type 0
-TextFits w t s = (textWidth s ≤ w) ⊎ Uncut t s
+-- a line list of the data d: three numbers a line; the third, its width, is at most w, or its bytes, from the first number to the second, are not cut further. t says whether words are broken
+abbrev pub ListFits : ℕ → Bool → Bytes → List ℕ → Type 0
+ListFits w t d [] = Unit {0}
+ListFits w t d (first ∷ []) = ⊥
+ListFits w t d (first ∷ end ∷ []) = ⊥
+ListFits w t d (first ∷ end ∷ width ∷ ns) = ((width ≤ w) ⊎ Uncut t (part first end d)) × ListFits w t d ns
 
--- a line, whose listed width is that of what it shows; words are broken if that is asked for and the width is above 0
-abbrev pub LineFits : ℕ → Bool → Bytes → Line → Type 0
-LineFits w b d l = TextFits w (b && ltb 0 w) (lineBytes d l)
-
-abbrev pub LinesFit : ℕ → Bool → Bytes → List Line → Type 0
-LinesFit w b d [] = Unit {0}
-LinesFit w b d (l ∷ ls) = LineFits w b d l × LinesFit w b d ls
-
--- THE LAW: of every line that wrapping lists, whatever the bytes
+-- THE LAW: of the list that wrapping leaves, whatever the bytes; words are broken if that is asked for and the width is above 0
 abbrev pub WidthsTrusted : Type 0
-WidthsTrusted = (w : ℕ) (b : Bool) (d : Bytes) → LinesFit w b d (wrapLines w b d)
+WidthsTrusted = (w : ℕ) (b : Bool) (d : Bytes) → ListFits w (b && ltb 0 w) d (lineNumbers d (wrapLines w b d))
