@@ -20,7 +20,7 @@ use Rattle.chars.proofs.FoldLaws as folds
 use Rattle.chars.proofs.SeamLaws.{Seam, width-none, seam-start, seam-next}
 use Rattle.layout.specs.Wrap.{lineOf, lineWidth}
 use Rattle.layout.proofs.WidthLaws.{zero-wide}
-use Rattle.line.specs.Rest.{restLines, lineText, endsWord, wordText, spaceLen, oneChar, headOf, unreached, limitOf, going, firstHead, headLen, headWidth}
+use Rattle.line.specs.Rest.{restLines, lineText, endsWord, wordText, leading, space, spaceLen, oneChar, headOf, unreached, limitOf, going, firstHead, headLen, headWidth}
 use Rattle.line.specs.declared.Next.{Next}
 use Rattle.line.specs.Line.{seenOf, oneHead, pickHead, headFrom, inLine, afterLine, following}
 use Rattle.line.proofs.HeadLaws.{text-le}
@@ -165,19 +165,28 @@ one-start d g e = go (chars (wordText d)) refl e
         let w : g .width ≡ wide c = ap (λ (x : Seen). x .width) f in
         rw (n, ← first-rest (wordText d) c cs k .0, k) (sym (length-append (c .text) (bytesOf (leadingZeroWidth cs))), omega (arith, w, zero-wide cs))
 
--- ── bytes 20
-module _ (s : List ℕ) (i : ℕ) (more : i < length s) where
-  pub space-yes : getD s i 0 ≡ 0x20 → spaceLen (drop i s) ≡ suc (spaceLen (drop (i + 1) s))
-  unfolding spaceLen
-  space-yes e = rw (add-one, drop-cons s i 0 more, e)
+-- ── bytes of one kind from a place on
+module _ (so : ℕ → Bool) (s : List ℕ) (i : ℕ) where
+  pub leading-yes : i < length s → so (getD s i 0) ≡ true → leading so (drop i s) ≡ suc (leading so (drop (i + 1) s))
+  leading-yes more e = rw (add-one, drop-cons s i 0 more, e)
 
-  pub space-no : getD s i 0 ≢ 0x20 → spaceLen (drop i s) ≡ 0
-  unfolding spaceLen
-  space-no e = rw (drop-cons s i 0 more, ne-eqb (getD s i 0) 0x20 e)
+  pub leading-no : i < length s → so (getD s i 0) ≡ false → leading so (drop i s) ≡ 0
+  leading-no more e = rw (drop-cons s i 0 more, e)
+
+  pub leading-end : length s ≤ i → leading so (drop i s) ≡ 0
+  leading-end h = rw (drop-of-length-le s {i = i} h)
+
+pub space-yes : (s : List ℕ) (i : ℕ) → i < length s → getD s i 0 ≡ 0x20 → spaceLen (drop i s) ≡ suc (spaceLen (drop (i + 1) s))
+unfolding spaceLen
+space-yes s i more e = leading-yes space s i more (rw e)
+
+pub space-no : (s : List ℕ) (i : ℕ) → i < length s → getD s i 0 ≢ 0x20 → spaceLen (drop i s) ≡ 0
+unfolding spaceLen
+space-no s i more e = leading-no space s i more (ne-eqb (getD s i 0) 0x20 e)
 
 pub space-end : (s : List ℕ) (i : ℕ) → length s ≤ i → spaceLen (drop i s) ≡ 0
 unfolding spaceLen
-space-end s i h = rw (drop-of-length-le s {i = i} h)
+space-end s i h = leading-end space s i h
 
 -- ── the front of what is left
 pub line-none : (s : List ℕ) → length s ≡ 0 → false ≡ inLine s

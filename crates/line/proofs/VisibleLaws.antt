@@ -2,20 +2,18 @@
 -- The idea: the search takes them one by one (`search-more`).
 use Prim.Native.Nat.{ℕ, zero, suc, _+_, _-_, _≤_, _<_}
 use native.Mathlib.Omega.{arith}
-use native.Mathlib.Numerals.{add-one}
 use mathlib.Core.Bool.{Bool, true, false, cond, _&&_, false≢true}
 use mathlib.Core.Path.{_≡_, refl, sym, subst, _∙_}
 use mathlib.Core.List.{List, [], _∷_}
 use lib.Dec.{leb}
-use lib.ListN.{length, drop, getD, drop-of-length-le}
-use lib.Seq.{drop-cons}
+use lib.ListN.{length, drop, getD}
 use borrow.Author.Tests.{leb-true, leb-false, le-leb, lt-leb, ne-eqb}
 use Rattle.chars.specs.Chars.{chars}
 use Rattle.chars.specs.declared.Seen.{Seen}
 use Rattle.chars.proofs.FoldLaws.{plain}
 use Rattle.line.specs.Rest.{wordText}
 use Rattle.line.specs.Line.{seenOf, visible, visibleLen, atMost}
-use Rattle.line.proofs.LineLaws.{at-char, seen-inside, Search, search-start, search-more}
+use Rattle.line.proofs.LineLaws.{at-char, seen-inside, leading-yes, leading-no, leading-end, Search, search-start, search-more}
 
 abbrev one : Seen
 one = record { len = 1; width = 1 }
@@ -62,19 +60,19 @@ visible-bounds x e = go (leb 0x21 x) refl (leb x 0x7E) refl e
 module _ (s : List ℕ) (i : ℕ) (more : i < length s) where
   pub visible-yes : 0x21 ≤ getD s i 0 → getD s i 0 ≤ 0x7E → visibleLen (drop i s) ≡ suc (visibleLen (drop (i + 1) s))
   unfolding visibleLen
-  visible-yes p q = rw (add-one, drop-cons s i 0 more, is-visible (getD s i 0) p q)
+  visible-yes p q = leading-yes visible s i more (is-visible (getD s i 0) p q)
 
   pub visible-low : getD s i 0 ≤ 0x20 → visibleLen (drop i s) ≡ 0
   unfolding visibleLen
-  visible-low p = rw (drop-cons s i 0 more, lt-leb 0x21 (getD s i 0) (omega (arith, p)))
+  visible-low p = leading-no visible s i more (rw (lt-leb 0x21 (getD s i 0) (omega (arith, p))))
 
   pub visible-high : 0x7F ≤ getD s i 0 → visibleLen (drop i s) ≡ 0
   unfolding visibleLen
-  visible-high p = rw (drop-cons s i 0 more, le-leb 0x21 (getD s i 0) (omega (arith, p)), lt-leb (getD s i 0) 0x7E (omega (arith, p)))
+  visible-high p = leading-no visible s i more (rw (le-leb 0x21 (getD s i 0) (omega (arith, p)), lt-leb (getD s i 0) 0x7E (omega (arith, p))))
 
 pub visible-end : (s : List ℕ) (i : ℕ) → length s ≤ i → visibleLen (drop i s) ≡ 0
 unfolding visibleLen
-visible-end s i h = rw (drop-of-length-le s {i = i} h)
+visible-end s i h = leading-end visible s i h
 
 -- what was counted up to i is all of them, or as many as asked for
 pub count-byte : (m : ℕ) (s : List ℕ) (i : ℕ) → i ≤ m → visibleLen (drop i s) ≡ 0 → i + visibleLen (drop i s) ≡ visibleLen s → i ≡ atMost m (visibleLen s)

@@ -1,5 +1,5 @@
 -- What the functions of this crate give, as records.
-use Prim.Native.Nat.{ℕ, suc, _+_, _-_}
+use Prim.Native.Nat.{ℕ, _+_, _-_}
 use mathlib.Core.Bool.{Bool, true, false, cond, _&&_, not}
 use mathlib.Core.List.{List, [], _∷_}
 use lib.Dec.{leb, eqb}
@@ -7,7 +7,7 @@ use lib.ListN.{length, drop}
 use Rattle.chars.specs.Chars.{Character, chars, bytesOf, wide, widthOf}
 use Rattle.chars.specs.declared.Seen.{Seen}
 use Rattle.layout.specs.Wrap.{Line}
-use Rattle.line.specs.Rest.{restLines, wordText, oneChar}
+use Rattle.line.specs.Rest.{restLines, wordText, leading, oneChar}
 use Rattle.line.specs.declared.Head.{Head}
 use Rattle.line.specs.declared.Next.{Next}
 
@@ -38,8 +38,7 @@ visible x = leb 0x21 x && leb x 0x7E
 
 -- how many such bytes d begins with
 unfoldable pub visibleLen : List ℕ → ℕ
-visibleLen [] = 0
-visibleLen (x ∷ d) = cond (visible x) (suc (visibleLen d)) 0
+visibleLen d = leading visible d
 
 -- n, but no more than m
 unfoldable pub atMost : ℕ → ℕ → ℕ

@@ -31,10 +31,17 @@ unfoldable pub wordText : List ℕ → List ℕ
 wordText [] = []
 wordText (x ∷ d) = cond (endsWord x) [] (x ∷ wordText d)
 
+-- how many bytes d begins with that are so
+abbrev pub leading : (ℕ → Bool) → List ℕ → ℕ
+leading so [] = 0
+leading so (x ∷ d) = cond (so x) (suc (leading so d)) 0
+
+abbrev pub space : ℕ → Bool
+space x = eqb x 0x20
+
 -- how many bytes 20 d begins with
 unfoldable pub spaceLen : List ℕ → ℕ
-spaceLen [] = 0
-spaceLen (x ∷ d) = cond (eqb x 0x20) (suc (spaceLen d)) 0
+spaceLen d = leading space d
 
 -- one character with the zero-width characters after it
 unfoldable pub oneChar : List Character → List Character
