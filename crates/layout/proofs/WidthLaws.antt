@@ -16,7 +16,7 @@ use Rattle.chars.proofs.SeamLaws.{width-none, chars-low, blank, chars-blank, wi
 use Rattle.recording.specs.Recording.{Bytes}
 use Rattle.recording.proofs.Lists.{AllOf, all-append}
 use Rattle.layout.specs.Wrap.{groups, splitLines, Word, byteWords, wordsOf, inHead, splitWordsAtWidth, fitsLine, fullWidth, firstFit, Line, wrappedLine, linesFrom, lineNumbers, wrapLines}
-use Rattle.layout.specs.Widths.{LoneWord, Uncut, ListFits, WidthsTrusted}
+use Rattle.layout.specs.Widths.{LoneWord, WidthFits, ListFits, WidthsTrusted}
 use Rattle.layout.proofs.GroupLaws.{all-concat, groups-concat, Joined, JoinedAll, groups-joined}
 use Rattle.layout.proofs.ByteWordLaws.{Chain, NoNewline, Inner, lines-none, runs-ok, runs-chain}
 use Rattle.layout.proofs.BreakLaws.{PieceOk, WordOk, Spaced, breaking-chain, breaking-pieces, fit-spaced}
@@ -84,9 +84,9 @@ lone-word : (s : Bytes) → AllOf Inner s → LoneWord s
 lone-word [] h = tt
 lone-word (b ∷ s) h = (eqb-false b 0x20 (h .0 .0), lone-word s (h .1))
 
--- what a line shows is within the width, or not cut further; t says whether words are broken
+-- the same of what a line shows
 abbrev TextFits : ℕ → Bool → Bytes → Type 0
-TextFits w t s = (textWidth s ≤ w) ⊎ Uncut t s
+TextFits w t s = WidthFits w t (textWidth s) s
 
 -- one word by itself
 word-fits : (t : Bool) (w : ℕ) (cs : List Character) → PieceOk t w cs → TextFits w t (bytesOf cs)

@@ -27,12 +27,16 @@ abbrev pub Uncut : Bool → Bytes → Type 0
 Uncut true t = LoneCharacter (chars t)
 Uncut false t = LoneWord t
 
--- a line list of the data d: three numbers a line; the third, its width, is at most w, or its bytes, from the first number to the second, are not cut further. t says whether words are broken
+-- a width is at most w, or the bytes that are so wide are not cut further; t says whether words are broken
+abbrev pub WidthFits : ℕ → Bool → ℕ → Bytes → Type 0
+WidthFits w t width s = (width ≤ w) ⊎ Uncut t s
+
+-- so it is with every line of a line list of the data d: three numbers a line, the third is the width of the bytes from the first to the second
 abbrev pub ListFits : ℕ → Bool → Bytes → List ℕ → Type 0
 ListFits w t d [] = Unit {0}
 ListFits w t d (first ∷ []) = ⊥
 ListFits w t d (first ∷ end ∷ []) = ⊥
-ListFits w t d (first ∷ end ∷ width ∷ ns) = ((width ≤ w) ⊎ Uncut t (part first end d)) × ListFits w t d ns
+ListFits w t d (first ∷ end ∷ width ∷ ns) = WidthFits w t width (part first end d) × ListFits w t d ns
 
 -- THE LAW: of the list that wrapping leaves, whatever the bytes; words are broken if that is asked for and the width is above 0
 abbrev pub WidthsTrusted : Type 0
