@@ -244,7 +244,8 @@ enum ruszvedok_call_kind {
     RUSZVEDOK_CALL_INDENT = 5,
     RUSZVEDOK_CALL_WRAP = 6,
     RUSZVEDOK_CALL_WRAP_BREAKING = 7,
-    RUSZVEDOK_CALL_REPLACE = 8
+    RUSZVEDOK_CALL_REPLACE = 8,
+    RUSZVEDOK_CALL_EXPAND_TABS = 9
 };
 
 /* Refusals. The first cause in this order is given: 10; the content, then the second recording, each 1, 2, 5 for its lengths and
@@ -265,6 +266,7 @@ enum ruszvedok_refusal {
     RUSZVEDOK_ENTRY_BUFFER_TOO_SHORT = 22, /* The entry buffer is too short for the result. */
     RUSZVEDOK_TEXT_BUFFER_TOO_SHORT = 23,  /* The text buffer is too short for the result. */
     RUSZVEDOK_LINE_LIST_TOO_SHORT = 24,    /* The line list is too short for the result. */
+    RUSZVEDOK_TAB_STOP = 31,               /* A tab stop that is 0 or over 64. */
     RUSZVEDOK_SETS_DIFFER = 61,            /* Two sets of buffers that differ in a length. */
     RUSZVEDOK_CALL_NUMBERS = 62,           /* Calls that are not eight numbers each, an unknown kind, a range not within its pool. */
     RUSZVEDOK_ANSWER_LIST_TOO_SHORT = 63   /* The list of answers is too short, at two numbers a call. */
@@ -289,6 +291,7 @@ static inline const char *ruszvedok_refusal_name(uint64_t refusal)
     case RUSZVEDOK_ENTRY_BUFFER_TOO_SHORT: return "ENTRY_BUFFER_TOO_SHORT";
     case RUSZVEDOK_TEXT_BUFFER_TOO_SHORT: return "TEXT_BUFFER_TOO_SHORT";
     case RUSZVEDOK_LINE_LIST_TOO_SHORT: return "LINE_LIST_TOO_SHORT";
+    case RUSZVEDOK_TAB_STOP: return "TAB_STOP";
     case RUSZVEDOK_SETS_DIFFER: return "SETS_DIFFER";
     case RUSZVEDOK_CALL_NUMBERS: return "CALL_NUMBERS";
     case RUSZVEDOK_ANSWER_LIST_TOO_SHORT: return "ANSWER_LIST_TOO_SHORT";
@@ -315,6 +318,7 @@ static inline const char *ruszvedok_refusal_reason(uint64_t refusal)
     case RUSZVEDOK_ENTRY_BUFFER_TOO_SHORT: return "the entry buffer is too short for the result";
     case RUSZVEDOK_TEXT_BUFFER_TOO_SHORT: return "the text buffer is too short for the result";
     case RUSZVEDOK_LINE_LIST_TOO_SHORT: return "the line list is too short for the result";
+    case RUSZVEDOK_TAB_STOP: return "a tab stop that is 0 or over 64";
     case RUSZVEDOK_SETS_DIFFER: return "two sets of buffers that differ in a length";
     case RUSZVEDOK_CALL_NUMBERS: return "calls that are not eight numbers each, an unknown kind, a range not within its pool";
     case RUSZVEDOK_ANSWER_LIST_TOO_SHORT: return "the list of answers is too short, at two numbers a call";
@@ -434,6 +438,14 @@ void ruszvedok_write_replaced(
     const uint8_t *content, size_t content_len, const uint32_t *entries, size_t entries_len, const uint8_t *text, size_t text_len,
     const uint32_t *records, size_t records_len,
     const uint8_t *new_text, size_t new_text_len,
+    uint8_t *out_data, size_t out_data_len, uint32_t *out_entries, size_t out_entries_len, uint8_t *out_text, size_t out_text_len,
+    uint64_t res[5]);
+
+/* Writes the content with each byte 09 replaced by spaces up to the next of the stops, which are `stop` columns apart, from 1 to
+ * 64; the spaces carry the tab's labels. */
+void ruszvedok_write_tabs_expanded(
+    const uint8_t *content, size_t content_len, const uint32_t *entries, size_t entries_len, const uint8_t *text, size_t text_len,
+    uint32_t stop,
     uint8_t *out_data, size_t out_data_len, uint32_t *out_entries, size_t out_entries_len, uint8_t *out_text, size_t out_text_len,
     uint64_t res[5]);
 
@@ -581,6 +593,13 @@ static inline ruszvedok_answer ruszvedok_write_replaced_to(
 {
     uint64_t res[5];
     ruszvedok_write_replaced(RUSZVEDOK_READ(content), records, records_len, new_text, new_text_len, RUSZVEDOK_LENT(out), res);
+    return ruszvedok_take_over(out, res);
+}
+
+static inline ruszvedok_answer ruszvedok_write_tabs_expanded_to(ruszvedok_recording *out, ruszvedok_view content, uint32_t stop)
+{
+    uint64_t res[5];
+    ruszvedok_write_tabs_expanded(RUSZVEDOK_READ(content), stop, RUSZVEDOK_LENT(out), res);
     return ruszvedok_take_over(out, res);
 }
 

@@ -37,6 +37,8 @@ pub enum Refusal {
     TextBufferTooShort,
     /// 24: the line list is too short for the result.
     LineListTooShort,
+    /// 31: a tab stop that is 0 or over 64.
+    TabStop,
     /// 61: two sets of buffers that differ in a length.
     SetsDiffer,
     /// 62: calls that are not eight numbers each, an unknown kind, a range not within its pool.
@@ -64,6 +66,7 @@ impl Refusal {
         Self::EntryBufferTooShort,
         Self::TextBufferTooShort,
         Self::LineListTooShort,
+        Self::TabStop,
         Self::SetsDiffer,
         Self::CallNumbers,
         Self::AnswerListTooShort,
@@ -87,6 +90,7 @@ impl Refusal {
             Self::EntryBufferTooShort => 22,
             Self::TextBufferTooShort => 23,
             Self::LineListTooShort => 24,
+            Self::TabStop => 31,
             Self::SetsDiffer => 61,
             Self::CallNumbers => 62,
             Self::AnswerListTooShort => 63,
@@ -112,6 +116,7 @@ impl Refusal {
             Self::EntryBufferTooShort => "the entry buffer is too short for the result",
             Self::TextBufferTooShort => "the text buffer is too short for the result",
             Self::LineListTooShort => "the line list is too short for the result",
+            Self::TabStop => "a tab stop that is 0 or over 64",
             Self::SetsDiffer => "two sets of buffers that differ in a length",
             Self::CallNumbers => "calls that are not eight numbers each, an unknown kind, a range not within its pool",
             Self::AnswerListTooShort => "the list of answers is too short, at two numbers a call",

@@ -26,6 +26,7 @@ pub enum Kind {
     Wrap = 6,
     WrapBreaking = 7,
     Replace = 8,
+    ExpandTabs = 9,
 }
 
 /// A place in a text, and the width of the part that is kept.
@@ -100,6 +101,11 @@ extern "C" {
         text_len: usize, records: *const u32, records_len: usize, new_text: *const u8, new_text_len: usize,
         out_data: *mut u8, out_data_len: usize, out_entries: *mut u32, out_entries_len: usize, out_text: *mut u8,
         out_text_len: usize, res: *mut [u64; 5],
+    );
+    pub fn ruszvedok_write_tabs_expanded(
+        content: *const u8, content_len: usize, entries: *const u32, entries_len: usize, text: *const u8,
+        text_len: usize, stop: u32, out_data: *mut u8, out_data_len: usize, out_entries: *mut u32,
+        out_entries_len: usize, out_text: *mut u8, out_text_len: usize, res: *mut [u64; 5],
     );
     pub fn ruszvedok_run_calls(
         calls: *const u32, calls_len: usize, pool: *const u8, pool_len: usize, pool_numbers: *const u32,

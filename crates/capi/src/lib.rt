@@ -21,6 +21,7 @@ use recorder::replay;
 use recorder::write;
 use replace::write_replaced_flat;
 use runs::run_calls;
+use tabs::write_tabs_expanded;
 use truncate::write_truncated_end;
 use truncate::write_truncated_start;
 use well_formed::is_well_formed;
@@ -32,7 +33,7 @@ ghost use Rattle.chars.specs.Chars.{textWidth, wellFormed};
 ghost use Rattle.chars.specs.Cut.{truncateEndPos, truncateEndWidth, truncateStartPos, truncateStartWidth, zeroWidthLen};
 ghost use Rattle.recording.specs.Recording.{recording};
 ghost use Rattle.recorder.specs.Recorder.{replayed, written, pushed, popped, rawAdded};
-ghost use Rattle.layout.specs.Layout.{truncateStart, truncateEnd, padStart, padEnd, padCentered, indent, wrap, replace};
+ghost use Rattle.layout.specs.Layout.{truncateStart, truncateEnd, padStart, padEnd, padCentered, indent, wrap, replace, expandTabs};
 ghost use Rattle.layout.specs.Lent.{lentOf, lentLined};
 ghost use Rattle.wrap_lines.specs.WrapBytes.{lentLines, wrapBytesOutcome};
 ghost use Rattle.replace.specs.Records.{recordsOf};
@@ -382,6 +383,25 @@ pub extern "C" fn ruszvedok_write_replaced(
         (lentOf (now (bytes .entry)) (now (numbers .entry)) (now (texts .entry))) (lentOf (now (bytes .exit)) (now (numbers .exit)) (now (texts .exit))) (now (res .exit)) ⌝ }
 {
     let a = write_replaced_flat(content, entries, text, records, new, bytes, numbers, texts);
+    store(a, res);
+}
+
+// Writes the content with each byte 09 replaced by spaces up to the next of the stops, which are `stop` columns apart, from 1 to 64; the spaces carry the tab's labels.
+#[no_mangle]
+pub extern "C" fn ruszvedok_write_tabs_expanded(
+    content: &[u8],
+    entries: &[u32],
+    text: &[u8],
+    stop: u32,
+    bytes: &mut [u8],
+    numbers: &mut [u32],
+    texts: &mut [u8],
+    res: &mut [u64; 5],
+)
+    ensures { λ _. ⌜ LeavesNumbers (expandTabs stop) (recording (now (content .entry)) (now (entries .entry)) (now (text .entry)))
+        (lentOf (now (bytes .entry)) (now (numbers .entry)) (now (texts .entry))) (lentOf (now (bytes .exit)) (now (numbers .exit)) (now (texts .exit))) (now (res .exit)) ⌝ }
+{
+    let a = write_tabs_expanded(content, entries, text, stop, bytes, numbers, texts);
     store(a, res);
 }
 

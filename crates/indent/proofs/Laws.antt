@@ -11,48 +11,11 @@ use borrow.Author.Tests.{eq-eqb, ne-eqb, eqb-true, eqb-false, lt-ltb, le-ltb, lt
 use lib.Dec.{eqb, ltb}
 use lib.ListN.{length, drop, getD, drop-of-length-le}
 use lib.Seq.{drop-cons, drop-drop}
-use Rattle.recording.specs.Recording.{Item, byte, push, pop, raw}
+use Rattle.recording.specs.Recording.{Item}
 use Rattle.recording.specs.Edit.{keep, put, front, back, edit}
+use Rattle.recording.proofs.EditLaws.{front-with-back, front-add, back-add}
 use Rattle.layout.specs.Layout.{indentOps}
 use Rattle.indent.specs.Lines.{filledLines, toNext, toBreak}
-
--- ── one byte at a time
-front-zero : (m : ℕ) (is : List Item) → front m is ≡ front 0 is ++ front m (back 0 is)
-front-zero m [] = refl
-front-zero m (byte b ∷ is) = refl
-front-zero m (push l ∷ is) = ap (λ (r : List Item). push l ∷ r) (front-zero m is)
-front-zero m (pop ∷ is) = ap (λ (r : List Item). pop ∷ r) (front-zero m is)
-front-zero m (raw t ∷ is) = ap (λ (r : List Item). raw t ∷ r) (front-zero m is)
-
-front-next : (m : ℕ) (is : List Item) → front (suc m) is ≡ front 1 is ++ front m (back 1 is)
-front-next m [] = refl
-front-next m (byte b ∷ is) = ap (λ (r : List Item). byte b ∷ r) (front-zero m is)
-front-next m (push l ∷ is) = ap (λ (r : List Item). push l ∷ r) (front-next m is)
-front-next m (pop ∷ is) = ap (λ (r : List Item). pop ∷ r) (front-next m is)
-front-next m (raw t ∷ is) = ap (λ (r : List Item). raw t ∷ r) (front-next m is)
-
-back-zero : (m : ℕ) (is : List Item) → back m is ≡ back m (back 0 is)
-back-zero m [] = refl
-back-zero m (byte b ∷ is) = refl
-back-zero m (push l ∷ is) = back-zero m is
-back-zero m (pop ∷ is) = back-zero m is
-back-zero m (raw t ∷ is) = back-zero m is
-
-back-next : (m : ℕ) (is : List Item) → back (suc m) is ≡ back m (back 1 is)
-back-next m [] = refl
-back-next m (byte b ∷ is) = back-zero m is
-back-next m (push l ∷ is) = back-next m is
-back-next m (pop ∷ is) = back-next m is
-back-next m (raw t ∷ is) = back-next m is
-
--- both parts are the whole
-whole : (n : ℕ) (is : List Item) → front n is ++ back n is ≡ is
-whole n [] = refl
-whole zero (byte b ∷ is) = refl
-whole (suc n) (byte b ∷ is) = ap (λ (r : List Item). byte b ∷ r) (whole n is)
-whole n (push l ∷ is) = ap (λ (r : List Item). push l ∷ r) (whole n is)
-whole n (pop ∷ is) = ap (λ (r : List Item). pop ∷ r) (whole n is)
-whole n (raw t ∷ is) = ap (λ (r : List Item). raw t ∷ r) (whole n is)
 
 -- ── from line to line
 pub plan-next : (p : List Item) (start : Bool) (d : List ℕ) (is : List Item) → toNext start d < length d
@@ -74,7 +37,7 @@ plan-next p start (b ∷ bs) is h = go (start && not (eqb b 0x0A)) (λ g. plan-n
     go false f g =
         ap (λ (l : List Item). front 1 is ++ l) (f (omega arith))
         ∙ sym (append-assoc (front 1 is) (front m (back 1 is)) (p ++ rest (back m (back 1 is))))
-        ∙ (λ i. sym (front-next m is) i ++ (p ++ rest (sym (back-next m is) i)))
+        ∙ (λ i. sym (front-add 1 m is) i ++ (p ++ rest (sym (back-add 1 m is) i)))
 
 pub plan-last : (p : List Item) (start : Bool) (d : List ℕ) (is : List Item) → length d ≤ toNext start d → edit (indentOps p start d) is ≡ is
 unfolding toNext
@@ -84,12 +47,12 @@ plan-last p start (b ∷ bs) is h = go (start && not (eqb b 0x0A)) (λ g. plan-l
     go : (t : Bool) → (length bs ≤ toNext (eqb b 0x0A) bs → edit (indentOps p (eqb b 0x0A) bs) (back 1 is) ≡ back 1 is) → suc (length bs) ≤ cond t 0 (suc (toNext (eqb b 0x0A) bs))
         → edit (cond t (put p ∷ []) [] ++ (keep 1 ∷ indentOps p (eqb b 0x0A) bs)) is ≡ is
     go true f g = absurd (omega arith)
-    go false f g = ap (λ (l : List Item). front 1 is ++ l) (f (omega arith)) ∙ whole 1 is
+    go false f g = ap (λ (l : List Item). front 1 is ++ l) (f (omega arith)) ∙ front-with-back 1 is
 
 -- ── sizes: the content's, and the prefix's for each line that is not empty; `size` counts bytes, entries or text
 module _ (size : List Item → ℕ) (size-append : (a b : List Item) → size (a ++ b) ≡ size a + size b) where
   split : (n : ℕ) (is : List Item) → size (front n is) + size (back n is) ≡ size is
-  split n is = sym (size-append (front n is) (back n is)) ∙ ap size (whole n is)
+  split n is = sym (size-append (front n is) (back n is)) ∙ ap size (front-with-back n is)
 
   pub sized : (p : List Item) (start : Bool) (d : List ℕ) (is : List Item) → size (edit (indentOps p start d) is) ≡ size is + filledLines start d * size p
   unfolding filledLines

@@ -1,17 +1,18 @@
--- The layout calls (document 01, modules 2 to 5): what each leaves, returns and refuses.
+-- The layout calls (document 01, modules 2 to 5; document 02): what each leaves, returns and refuses.
 use Prim.Native.Nat.{ℕ, zero, suc, _+_, _-_, _/_}
 use mathlib.Core.Bool.{Bool, true, cond, _&&_, _||_, not}
 use mathlib.Core.List.{List, [], _∷_, _++_}
 use lib.Dec.{ltb, eqb}
 use lib.ListN.{length, drop}
-use Rattle.chars.specs.Chars.{textWidth}
+use Rattle.chars.specs.Chars.{chars, textWidth}
 use Rattle.chars.specs.Cut.{truncateEndPos, truncateEndWidth, truncateStartPos, truncateStartWidth, zeroWidthLen}
 use Rattle.buffer.specs.Place.{part}
 use Rattle.recording.specs.Recording.{Bytes, Recording, Item, byte, push, pop, raw, byteItems, items, encode}
 use Rattle.recording.specs.Edit.{Op, keep, skip, put, edit}
-use Rattle.recording.specs.Refusals.{recordingFault}
+use Rattle.recording.specs.Refusals.{refuseIf, recordingFault}
 use Rattle.recording.specs.Outcome.{Room, Result, Faults, refusalOf, Outcome, refused, done, settle}
 use Rattle.layout.specs.declared.Replacement.{Replacement}
+use Rattle.layout.specs.Tabs.{tabOps}
 use Rattle.layout.specs.Wrap.{Line, lineNumbers, wrapLines}
 
 -- ── module 2: cutting
@@ -69,10 +70,11 @@ replaceOps t at (x ∷ xs) = keep (x .start - at) ∷ put (byteItems (part (x .f
 pub data Kind : Type 0 where
   writeTruncatedStart writeTruncatedEnd writePaddedStart writePaddedEnd writePaddedCentered writeIndented : Kind
 
--- the calls on a content alone: a width and whether words are broken; the replacement records and their text
+-- the calls on a content alone: a width and whether words are broken; the replacement records and their text; the columns between tab stops
 pub data Single : Type 0 where
   writeWrapped : ℕ → Bool → Single
   writeReplaced : List Replacement → Bytes → Single
+  writeTabsExpanded : ℕ → Single
 
 -- what a call does: with a second recording by its kind and width, or alone
 pub data Job : Type 0 where
@@ -104,6 +106,9 @@ wrap w b = alone (writeWrapped w b)
 abbrev pub replace : List Replacement → Bytes → Job
 replace xs t = alone (writeReplaced xs t)
 
+abbrev pub expandTabs : ℕ → Job
+expandTabs s = alone (writeTabsExpanded s)
+
 -- a call: what it does, and the lengths of the buffers that it is lent
 pub record Call : Type 0 where
   pub job : Job
@@ -113,11 +118,13 @@ pub record Call : Type 0 where
 abbrev pub singleOps : Single → Bytes → List Op
 singleOps (writeWrapped w b) d = wrapOps (length d) 0 (wrapLines w b d)
 singleOps (writeReplaced xs t) d = replaceOps t 0 xs
+singleOps (writeTabsExpanded s) d = tabOps s 0 (chars d)
 
 -- the lines that it leaves in the line list
 abbrev pub singleLines : Single → Bytes → List Line
 singleLines (writeWrapped w b) d = wrapLines w b d
 singleLines (writeReplaced xs t) d = []
+singleLines (writeTabsExpanded s) d = []
 
 -- the items that a call leaves
 unfoldable pub resultItems : Job → Recording → List Item
@@ -156,6 +163,7 @@ number (withSecond writePaddedCentered m f) r = 0
 number (withSecond writeIndented m p) r = 0
 number (alone (writeWrapped w b)) r = length (wrapLines w b (r .dataBytes))
 number (alone (writeReplaced xs t)) r = 0
+number (alone (writeTabsExpanded s)) r = 0
 
 unfoldable pub resultOf : Job → Recording → Result
 resultOf j r = record { recording = encode (resultItems j r); lines = lineNumbers (r .dataBytes) (linesLeft j r); number = number j r }
@@ -174,10 +182,15 @@ abbrev pub recordsFault : ℕ → ℕ → ℕ → List Replacement → ℕ
 recordsFault at n t [] = 0
 recordsFault at n t (x ∷ xs) = cond (badRecord at n t x) 8 (recordsFault (x .end) n t xs)
 
--- the refusals of a call on the content alone: of replacing, 8
+-- 31: a tab stop that is 0 or over 64
+abbrev pub stopFault : ℕ → ℕ
+stopFault s = refuseIf (eqb s 0 || ltb 64 s) 31
+
+-- the refusals of a call on the content alone: of replacing, 8; of tabs, 31
 abbrev pub singleFault : Single → Bytes → ℕ
 singleFault (writeWrapped w b) d = 0
 singleFault (writeReplaced xs t) d = recordsFault 0 (length d) (length t) xs
+singleFault (writeTabsExpanded s) d = stopFault s
 
 -- the refusals of one call alone
 unfoldable pub ownFault : Job → Recording → ℕ

@@ -1,4 +1,5 @@
 pub mod Wrap
+pub mod Tabs
 pub mod Widths
 pub mod Layout
 pub mod Lent

@@ -1,5 +1,5 @@
--- The plain steps of demand 3 (document 01, "Plain steps"), on lists of coloured bytes with stretches. Byte values alone choose what is cut, counted or broken.
-use Prim.Native.Nat.{ℕ, zero, suc, _-_, _/_}
+-- The plain steps of demand 3 (document 01, "Plain steps"; document 02), on lists of coloured bytes with stretches. Byte values alone choose what is cut, counted or broken.
+use Prim.Native.Nat.{ℕ, zero, suc, _-_, _/_, _%_}
 use mathlib.Core.Bool.{Bool, true, cond, _&&_, not}
 use mathlib.Core.List.{List, [], _∷_, _++_}
 use lib.Dec.{ltb, eqb}
@@ -11,9 +11,10 @@ use Rattle.recording.specs.Recording.{Bytes, Recording}
 use Rattle.recording.specs.Coloured.{Coloured, coloured, values}
 use Rattle.recording.specs.Edit.{labelsAt, under}
 use Rattle.layout.specs.declared.Replacement.{Replacement}
+use Rattle.layout.specs.Tabs.{spaces}
 use Rattle.layout.specs.Wrap.{Line, wrapLines}
 use Rattle.layout.specs.Layout.{trimmedStartPos, fillCount, Kind, writeTruncatedStart, writeTruncatedEnd, writePaddedStart, writePaddedEnd, writePaddedCentered}
-use Rattle.layout.specs.Layout.{writeIndented, Single, writeWrapped, writeReplaced, Job, withSecond, alone, Call, refusal, after}
+use Rattle.layout.specs.Layout.{writeIndented, Single, writeWrapped, writeReplaced, writeTabsExpanded, Job, withSecond, alone, Call, refusal, after}
 
 -- what the steps are told of a call: of a refused one only that; of any other its name, numbers, breaking, replacement records and text, and its second recording as coloured bytes
 pub data Told : Type 0 where
@@ -54,6 +55,13 @@ abbrev pub replaced : Bytes → ℕ → List Replacement → List Coloured → L
 replaced t at [] cs = drop at cs
 replaced t at (x ∷ xs) cs = stretch at (x .start) cs ++ (withLabels (labelsOf (x .start) cs) (part (x .from) (x .to) t) ++ replaced t (x .end) xs cs)
 
+-- each 09 gone, and in its stead, under its labels, the spaces from the width of the line so far to the next stop; `line` has the bytes made since the last 0A
+abbrev pub tabbed : ℕ → Bytes → List Coloured → List Coloured
+tabbed s line [] = []
+tabbed s line (c ∷ cs) =
+    let blanks = spaces (s - textWidth line % s) in
+    cond (eqb (c .val) 0x09) (withLabels (c .labels) blanks ++ tabbed s (line ++ blanks) cs) (c ∷ tabbed s (cond (eqb (c .val) 0x0A) [] (line ++ (c .val ∷ []))) cs)
+
 -- ── one step
 unfoldable pub step : Told → List Coloured → List Coloured
 step wasRefused cs = cs
@@ -68,6 +76,7 @@ step (withSecond′ writePaddedCentered m f) cs = let n = fillCount m (values cs
 step (withSecond′ writeIndented m p) cs = indented p true cs
 step (alone′ (writeWrapped w b)) cs = wrapped (wrapLines w b (values cs)) cs
 step (alone′ (writeReplaced xs t)) cs = replaced t 0 xs cs
+step (alone′ (writeTabsExpanded s)) cs = tabbed s [] cs
 
 abbrev pub steps : List Told → List Coloured → List Coloured
 steps [] cs = cs

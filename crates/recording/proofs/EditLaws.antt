@@ -223,3 +223,28 @@ back-back (suc k) (byte b ∷ is) = back-back k is
 back-back k (push l ∷ is) = back-back k is
 back-back k (pop ∷ is) = back-back k is
 back-back k (raw l ∷ is) = back-back k is
+
+-- ── the items up to a place and those from it on are all of them; and a place further on is found from there
+pub front-with-back : (n : ℕ) (is : List Item) → front n is ++ back n is ≡ is
+front-with-back n [] = refl
+front-with-back zero (byte b ∷ is) = refl
+front-with-back (suc n) (byte b ∷ is) = ap (λ (r : List Item). byte b ∷ r) (front-with-back n is)
+front-with-back n (push l ∷ is) = ap (λ (r : List Item). push l ∷ r) (front-with-back n is)
+front-with-back n (pop ∷ is) = ap (λ (r : List Item). pop ∷ r) (front-with-back n is)
+front-with-back n (raw t ∷ is) = ap (λ (r : List Item). raw t ∷ r) (front-with-back n is)
+
+pub front-add : (m n : ℕ) (is : List Item) → front (m + n) is ≡ front m is ++ front n (back m is)
+front-add m n [] = refl
+front-add zero n (byte b ∷ is) = rw (zero-add n)
+front-add (suc m) n (byte b ∷ is) = rw (suc-add m n) (ap (λ (r : List Item). byte b ∷ r) (front-add m n is))
+front-add m n (push l ∷ is) = ap (λ (r : List Item). push l ∷ r) (front-add m n is)
+front-add m n (pop ∷ is) = ap (λ (r : List Item). pop ∷ r) (front-add m n is)
+front-add m n (raw t ∷ is) = ap (λ (r : List Item). raw t ∷ r) (front-add m n is)
+
+pub back-add : (m n : ℕ) (is : List Item) → back (m + n) is ≡ back n (back m is)
+back-add m n [] = refl
+back-add zero n (byte b ∷ is) = rw (zero-add n)
+back-add (suc m) n (byte b ∷ is) = rw (suc-add m n) (back-add m n is)
+back-add m n (push l ∷ is) = back-add m n is
+back-add m n (pop ∷ is) = back-add m n is
+back-add m n (raw t ∷ is) = back-add m n is

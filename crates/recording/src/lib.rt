@@ -6,7 +6,7 @@ ghost use lib.ListN.{length, drop};
 ghost use Rattle.recording.specs.Recording.{entriesOf};
 ghost use Rattle.recording.specs.Refusals.{numberOf};
 
-// The refusals, by document 01's causes, and those of a list of calls; `specs/Refusals.antt` gives each its number.
+// The refusals, by document 01's causes and then document 02's, and those of a list of calls; `specs/Refusals.antt` gives each its number.
 pub enum Refusal {
     // Data over its limit.
     DataTooLong,
@@ -33,13 +33,15 @@ pub enum Refusal {
     EntryBufferTooShort,
     TextBufferTooShort,
     LineListTooShort,
+    // A tab stop that is 0 or over 64.
+    TabStop,
     // Of a list of calls: two sets of buffers that differ in a length, numbers that are no calls, a list of answers that is too short.
     SetsDiffer,
     CallNumbers,
     AnswerListTooShort,
 }
 
-// Document 01's number of a refusal; 61 and above are those of a list of calls, which document 01 does not number.
+// The documents' number of a refusal, from 31 on document 02's; 61 and above are those of a list of calls, which neither numbers.
 pub fn number_of(f: Refusal) -> u64
     ensures { λ r. ⌜ r ≡ numberOf f ⌝ }
 {
@@ -58,6 +60,7 @@ pub fn number_of(f: Refusal) -> u64
         Refusal::EntryBufferTooShort => 22,
         Refusal::TextBufferTooShort => 23,
         Refusal::LineListTooShort => 24,
+        Refusal::TabStop => 31,
         Refusal::SetsDiffer => 61,
         Refusal::CallNumbers => 62,
         Refusal::AnswerListTooShort => 63,

@@ -12,7 +12,7 @@ use Rattle.buffer.specs.Place.{over}
 use Rattle.recording.specs.declared.Answer.{Answer}
 use Rattle.recording.specs.Recording.{Recording}
 use Rattle.recording.specs.Outcome.{Room, Result, Faults, Outcome, refused, done, noRoom, refusalOf, settle, Lent, lentAfter, Promised}
-use Rattle.layout.specs.Layout.{Job, truncateStart, truncateEnd, padStart, padEnd, padCentered, indent, wrap, replace, linesLeft, resultOf, faultsOf, outcome}
+use Rattle.layout.specs.Layout.{Job, truncateStart, truncateEnd, padStart, padEnd, padCentered, indent, wrap, replace, expandTabs, linesLeft, resultOf, faultsOf, outcome}
 use Rattle.layout.specs.Lent.{lentOf, lentLined, callIn, Leaves}
 use Rattle.replace.specs.Records.{recordsOf}
 use Rattle.requests.specs.Requests.{jobOf}
@@ -108,10 +108,14 @@ module _ (k n : ℕ) (q : Recording) where
         | false ↦ λ e. let z : k ≡ 6 = omega (arith, h, g, eqb-false k 7 e) in rw z
       ] refl
 
-  -- all others replace
-  pub job-replace : 8 ≤ k → jobOf k n q ≡ replace (recordsOf (q .entryNumbers)) (q .dataBytes)
+  pub job-replace : k ≡ 8 → jobOf k n q ≡ replace (recordsOf (q .entryNumbers)) (q .dataBytes)
   unfolding jobOf
-  job-replace h =
+  job-replace h = rw h
+
+  -- all others expand tabs
+  pub job-tabs : 8 < k → jobOf k n q ≡ expandTabs n
+  unfolding jobOf
+  job-tabs h =
       rw (
         ne-eqb k 0 (λ e. omega (arith, h, e)),
         ne-eqb k 1 (λ e. omega (arith, h, e)),
@@ -121,4 +125,5 @@ module _ (k n : ℕ) (q : Recording) where
         ne-eqb k 5 (λ e. omega (arith, h, e)),
         ne-eqb k 6 (λ e. omega (arith, h, e)),
         ne-eqb k 7 (λ e. omega (arith, h, e)),
+        ne-eqb k 8 (λ e. omega (arith, h, e)),
       )

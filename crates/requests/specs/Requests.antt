@@ -1,5 +1,5 @@
 -- Layout calls as numbers, eight a call: its kind, its width, and three ranges of two lent pools. With a second recording these are its data, entry numbers and text;
--- of a replacement the numbers are the records, four each, and the data their text.
+-- of a replacement the numbers are the records, four each, and the data their text; of tabs the width is the columns between stops.
 use Prim.Native.Nat.{ℕ, zero, suc}
 use mathlib.Core.Bool.{Bool, true, false, cond, _&&_}
 use mathlib.Core.List.{List, [], _∷_}
@@ -8,7 +8,7 @@ use lib.ListN.{drop, getD}
 use Rattle.buffer.specs.Place.{part}
 use Rattle.recording.specs.Recording.{Bytes, Recording, recording}
 use Rattle.recording.specs.Outcome.{Room}
-use Rattle.layout.specs.Layout.{Job, truncateStart, truncateEnd, padStart, padEnd, padCentered, indent, wrap, replace, Call}
+use Rattle.layout.specs.Layout.{Job, truncateStart, truncateEnd, padStart, padEnd, padCentered, indent, wrap, replace, expandTabs, Call}
 use Rattle.replace.specs.Records.{recordsOf}
 use Rattle.requests.specs.declared.Request.{Request}
 
@@ -42,7 +42,8 @@ jobOf k n q =
     (cond (eqb k 4) (padCentered n q)
     (cond (eqb k 5) (indent q)
     (cond (eqb k 6) (wrap n false)
-    (cond (eqb k 7) (wrap n true) (replace (recordsOf (q .entryNumbers)) (q .dataBytes)))))))))
+    (cond (eqb k 7) (wrap n true)
+    (cond (eqb k 8) (replace (recordsOf (q .entryNumbers)) (q .dataBytes)) (expandTabs n)))))))))
 
 -- its ranges of a pool of bytes and of a pool of numbers
 abbrev pub rangesOf : Bytes → List ℕ → Request → Recording
@@ -69,7 +70,7 @@ rangeFits n a b = leb a b && leb b n
 
 -- the largest kind
 abbrev pub lastKind : ℕ
-lastKind = 8
+lastKind = 9
 
 -- a known kind, and each range within its pool; p and q are the pools' lengths
 unfoldable pub fitsIn : ℕ → ℕ → Request → Bool

@@ -6,6 +6,7 @@ use pad::write_padded_end;
 use pad::write_padded_start;
 use recording::Answer;
 use replace::write_replaced_flat;
+use tabs::write_tabs_expanded;
 use truncate::write_truncated_end;
 use truncate::write_truncated_start;
 use wrap::write_wrapped;
@@ -31,7 +32,7 @@ pub struct Request {
 }
 
 // The largest kind.
-const LAST_KIND: u32 = 8;
+const LAST_KIND: u32 = 9;
 
 // ── the numbers of the calls
 
@@ -94,8 +95,8 @@ pub fn all_fit(calls: &[u32], p: usize, q: usize) -> bool
 
 // ── one call
 
-// One call, chosen by its kind: 0 and 1 truncate at the start and the end; 2, 3 and 4 pad there and on both sides; 5 indents; 6 wraps, 7 wraps and breaks; all others replace.
-// `second` is the ellipsis, fill or prefix; of a replacement its numbers are the records and its data their text.
+// One call, chosen by its kind: 0 and 1 truncate at the start and the end; 2, 3 and 4 pad there and on both sides; 5 indents; 6 wraps, 7 wraps and breaks; 8 replaces; all others expand tabs.
+// `second` is the ellipsis, fill or prefix; of a replacement its numbers are the records and its data their text. For tabs `width` is the columns between stops.
 fn apply(
     kind: u32,
     width: u32,
@@ -211,16 +212,19 @@ fn apply(
             lines,
         );
     }
-    write_replaced_flat(
-        content,
-        entries,
-        text,
-        second_entries,
-        second,
-        bytes,
-        numbers,
-        texts,
-    )
+    if kind == 8 {
+        return write_replaced_flat(
+            content,
+            entries,
+            text,
+            second_entries,
+            second,
+            bytes,
+            numbers,
+            texts,
+        );
+    }
+    write_tabs_expanded(content, entries, text, width, bytes, numbers, texts)
 }
 
 // The call whose eight numbers start at i, with its ranges known to lie in their pools.

@@ -1,12 +1,12 @@
 -- `apply` leaves and answers what the job of its kind does: at each return, the promise of the call of that kind, with the line list as it was where that call has none.
 use native.Mathlib.Omega.{arith}
 use borrow.Author.Needs.{needs}
-use Rattle.requests.proofs.ApplyLaws.{unlined, lined, job-start, job-end, job-pad-start, job-pad-end, job-pad-centered, job-indent, job-wrap, job-replace}
+use Rattle.requests.proofs.ApplyLaws.{unlined, lined, job-start, job-end, job-pad-start, job-pad-end, job-pad-centered, job-indent, job-wrap, job-replace, job-tabs}
 use Rattle.requests.specs.Requests.{jobOf}
 use Prim.Native.Nat.{ℕ}
 use Rattle.replace.specs.Records.{recordsOf}
 use Rattle.layout.specs.Lent.{lentOf, lentLined, Leaves}
-use Rattle.layout.specs.Layout.{Job, truncateStart, truncateEnd, padStart, padEnd, padCentered, indent, wrap, replace, linesLeft}
+use Rattle.layout.specs.Layout.{Job, truncateStart, truncateEnd, padStart, padEnd, padCentered, indent, wrap, replace, expandTabs, linesLeft}
 use Rattle.recording.specs.Recording.{Recording, recording}
 use Rattle.recording.specs.declared.Answer.{Answer}
 use mathlib.Core.List.{List, []}
@@ -21,6 +21,7 @@ use Rattle.pad.proofs.write_padded_centered.Reads as write-padded-centered-read
 use Rattle.pad.proofs.write_padded_end.Reads as write-padded-end-reads
 use Rattle.pad.proofs.write_padded_start.Reads as write-padded-start-reads
 use Rattle.replace.proofs.write_replaced_flat.Reads as write-replaced-flat-reads
+use Rattle.tabs.proofs.write_tabs_expanded.Reads as write-tabs-expanded-reads
 use Rattle.truncate.proofs.write_truncated_end.Reads as write-truncated-end-reads
 use Rattle.truncate.proofs.write_truncated_start.Reads as write-truncated-start-reads
 use Rattle.wrap.proofs.write_wrapped.Reads as write-wrapped-reads
@@ -220,9 +221,31 @@ unfolding linesLeft
 returns-8 c =
     let w = c .before .before .before .before .before .before in
     let t = w .before .before .before .before in
-    let s = start (t .before .before .before .before .before .before .before) in
+    let s = start (t .before .before .before .before .before .before .before .before) in
     no-lines s (replace (recordsOf (second s .entryNumbers)) (second s .dataBytes))
-    (job-replace (s .args .kind) (s .args .width) (second s) (t .if7 .left)) refl _ _ _ (w .write-replaced-flat .result) (w .write-replaced-flat .ensures)
+    (job-replace (s .args .kind) (s .args .width) (second s) (t .if8 .taken)) refl _ _ _ (w .write-replaced-flat .result) (w .write-replaced-flat .ensures)
+
+write-tabs-expanded-requires : tie.Need-write-tabs-expanded-requires
+write-tabs-expanded-requires c κs = search needs
+
+same-length-26 : tie.Need-same-length-26
+same-length-26 c = search needs
+
+same-length-27 : tie.Need-same-length-27
+same-length-27 c = search needs
+
+same-length-28 : tie.Need-same-length-28
+same-length-28 c = search needs
+
+returns-9 : tie.Need-returns-9
+unfolding linesLeft
+returns-9 c =
+    let w = c .before .before .before .before .before .before in
+    let e8 = w .before .before .before .before in
+    let e7 = e8 .before in
+    let s = start (e7 .before .before .before .before .before .before .before) in
+    no-lines s (expandTabs (s .args .width))
+    (job-tabs (s .args .kind) (s .args .width) (second s) (omega (arith, e7 .if7 .left, e8 .if8 .left))) refl _ _ _ (w .write-tabs-expanded .result) (w .write-tabs-expanded .ensures)
 
 pub apply-spec : {M : Type 1} → statement M
 apply-spec =
@@ -268,4 +291,9 @@ apply-spec =
     same-length-23
     same-length-24
     same-length-25
-    returns-8)
+    returns-8
+    write-tabs-expanded-requires
+    same-length-26
+    same-length-27
+    same-length-28
+    returns-9)

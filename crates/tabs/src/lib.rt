@@ -1,0 +1,240 @@
+// Tab stops: `write_tabs_expanded` (document 02, Q-2), each byte 09 replaced by spaces up to the next stop.
+// It keeps one promise, `Leaves` (layout), for the job `expandTabs`.
+// The data is read once to measure and once to write. A tab is one replacement: the 09 goes and some of 64 spaces come in, so a tab is written as a replacement record is.
+// `bytes`, `numbers` and `texts` are the lent buffers; `content`, `entries` and `text` the recording whose tabs are expanded.
+use chars::LEADS;
+use chars::seen_any;
+use layout::Replacement;
+use recording::Answer;
+use recording::Checked;
+use recording::Refusal;
+use recording_check::check;
+use replace::write_step;
+use writer::Cursor;
+use writer::Settled;
+use writer::keep;
+use writer::settle;
+ghost use mathlib.Core.Path.{_≡_};
+ghost use mathlib.Core.Bool.{false};
+ghost use Prim.Native.Nat.{_+_, _*_, _≤_, _<_};
+ghost use lib.ListN.{length, drop, getD};
+ghost use Rattle.chars.specs.Leads.{leadTable};
+ghost use Rattle.chars.specs.Chars.{chars, charIn};
+ghost use Rattle.recording.specs.Recording.{recording, items};
+ghost use Rattle.recording.specs.Edit.{edit, editData};
+ghost use Rattle.recording.specs.Refusals.{dataLimit};
+ghost use Rattle.writer.specs.Write.{out, add, blank, Fits, Sound};
+ghost use Rattle.layout.specs.Tabs.{spacesAt, spaces, columnAfter, tabOps};
+ghost use Rattle.layout.specs.Layout.{expandTabs};
+ghost use Rattle.layout.specs.Lent.{lentOf, Leaves};
+ghost use Rattle.replace.specs.Records.{capped};
+ghost use Rattle.tabs.specs.Tabs.{toTab, columnTo};
+
+// A place in the data, and the column there.
+pub struct Place {
+    pub at: usize,
+    pub column: u32,
+}
+
+// How many spaces a tab at this column becomes.
+fn spaces_at(stop: u32, column: u32) -> u32
+    requires { ⌜ 1 ≤ stop ⌝ }
+    ensures { λ r. ⌜ (r ≡ spacesAt stop column) × (1 ≤ r) × (r ≤ stop) ⌝ }
+{
+    stop - column % stop
+}
+
+// The place behind the character at `at`, which is no tab, and the column there. Most are printable ASCII, which needs no table.
+fn pass(t: &[u16; 256], s: &[u8], at: usize, column: u32) -> Place
+    requires { ⌜ now t ≡ leadTable ⌝ }
+    requires { ⌜ (at < length (now s)) × (length (now s) ≤ dataLimit) × (column ≤ 64 * at) × (getD (now s) at 0 ≡ 0x09 → ⊥) ⌝ }
+    ensures { λ r. ⌜ (r .at ≡ at + length (charIn at (now (s .entry)) .text)) × (r .column ≡ columnAfter 1 column (charIn at (now (s .entry)))) ⌝ }
+    ensures { λ r. ⌜ (at < r .at) × (r .at ≤ length (now (s .entry))) × (r .column ≤ 64 * r .at) ⌝ }
+{
+    let b = s[at];
+    if b == 0x0A {
+        return Place {
+            at: at + 1,
+            column: 0,
+        };
+    }
+    if b < 0x20 {
+        return Place {
+            at: at + 1,
+            column: column,
+        };
+    }
+    if b < 0x7F {
+        return Place {
+            at: at + 1,
+            column: column + 1,
+        };
+    }
+    let p = seen_any(t, s, at);
+    Place {
+        at: at + p / 8,
+        column: column + (p % 4) as u32,
+    }
+}
+
+// The place of the next tab, the data's end if there is none, and the column there.
+fn next_tab(t: &[u16; 256], s: &[u8], from: usize, column: u32) -> Place
+    requires { ⌜ now t ≡ leadTable ⌝ }
+    requires { ⌜ (from ≤ length (now s)) × (length (now s) ≤ dataLimit) × (column ≤ 64 * from) ⌝ }
+    ensures { λ r. ⌜ (r .at ≡ from + toTab (chars (drop from (now (s .entry))))) × (r .column ≡ columnTo column (chars (drop from (now (s .entry))))) ⌝ }
+    ensures { λ r. ⌜ (from ≤ r .at) × (r .at ≤ length (now (s .entry))) × (r .column ≤ 64 * r .at) ⌝ }
+{
+    let mut p = Place {
+        at: from,
+        column: column,
+    };
+    while p.at < s.len() {
+        if s[p.at] == 0x09 {
+            return p;
+        }
+        p = pass(t, s, p.at, p.column);
+    }
+    p
+}
+
+// How many data bytes the result has, capped above the limit of data: the reading stops where that is passed.
+fn expanded_len(t: &[u16; 256], content: &[u8], stop: u32) -> usize
+    requires { ⌜ now t ≡ leadTable ⌝ }
+    requires { ⌜ (1 ≤ stop) × (stop ≤ 64) × (length (now content) ≤ dataLimit) ⌝ }
+    ensures { λ r. ⌜ r ≡ capped (length (editData (tabOps stop 0 (chars (now (content .entry)))) (now (content .entry)))) ⌝ }
+{
+    let mut size = content.len();
+    let mut p = next_tab(t, content, 0, 0);
+    while p.at < content.len() {
+        let n = spaces_at(stop, p.column);
+        size += (n - 1) as usize;
+        if 1048576 < size {
+            return 1048577;
+        }
+        p = next_tab(t, content, p.at + 1, p.column + n);
+    }
+    size
+}
+
+// Writes the content with each tab's spaces in its stead. `spaces` are 64 bytes 20.
+fn put_expanded(
+    t: &[u16; 256],
+    content: &[u8],
+    entries: &[u32],
+    text: &[u8],
+    stop: u32,
+    blanks: &[u8],
+    bytes: &mut [u8],
+    numbers: &mut [u32],
+    texts: &mut [u8],
+) -> Cursor
+    requires { ⌜ (now t ≡ leadTable) × (now blanks ≡ spaces 64) × Sound (now content) (now entries) (now text) ⌝ }
+    requires { ⌜ (1 ≤ stop) × (stop ≤ 64) ⌝ }
+    requires { ⌜ Fits (edit (tabOps stop 0 (chars (now content))) (items (recording (now content) (now entries) (now text)))) (blank (now bytes) (now numbers) (now texts)) ⌝ }
+    ensures { λ r. ⌜ out (now (bytes .exit)) (now (numbers .exit)) (now (texts .exit)) r
+        ≡ add (edit (tabOps stop 0 (chars (now (content .entry)))) (items (recording (now (content .entry)) (now (entries .entry)) (now (text .entry)))))
+        (blank (now (bytes .entry)) (now (numbers .entry)) (now (texts .entry))) ⌝ }
+{
+    let mut c = Cursor {
+        at: 0,
+        k: 0,
+        d: 0,
+        e: 0,
+        t: 0,
+    };
+    let mut p = next_tab(t, content, 0, 0);
+    while p.at < content.len() {
+        let n = spaces_at(stop, p.column);
+        c = write_step(
+            c,
+            Replacement {
+                start: p.at as u32,
+                end: p.at as u32 + 1,
+                from: 0,
+                to: n,
+            },
+            content,
+            entries,
+            text,
+            blanks,
+            bytes,
+            numbers,
+            texts,
+        );
+        p = next_tab(t, content, p.at + 1, p.column + n);
+    }
+    keep(
+        bytes,
+        numbers,
+        texts,
+        content,
+        entries,
+        text,
+        c,
+        content.len(),
+    )
+}
+
+// Writes the content with each byte 09 replaced by spaces up to the next of the stops, which are `stop` columns apart, from 1 to 64. The spaces carry the tab's labels.
+pub fn write_tabs_expanded(
+    content: &[u8],
+    entries: &[u32],
+    text: &[u8],
+    stop: u32,
+    bytes: &mut [u8],
+    numbers: &mut [u32],
+    texts: &mut [u8],
+) -> Answer
+    ensures { λ r. ⌜ Leaves (expandTabs stop) (recording (now (content .entry)) (now (entries .entry)) (now (text .entry)))
+        (lentOf (now (bytes .entry)) (now (numbers .entry)) (now (texts .entry))) (lentOf (now (bytes .exit)) (now (numbers .exit)) (now (texts .exit))) r ⌝ }
+{
+    let checked = check(content, entries, text);
+    let size = match checked {
+        Checked::Refused(f) => {
+            return Answer::Refused(f);
+        }
+        Checked::Fine(n) => n,
+    };
+    if stop == 0 {
+        return Answer::Refused(Refusal::TabStop);
+    }
+    if 64 < stop {
+        return Answer::Refused(Refusal::TabStop);
+    }
+    let t = LEADS;
+    let d = expanded_len(&t, content, stop);
+    let verdict = settle(
+        d,
+        entries.len(),
+        size,
+        0,
+        bytes.len(),
+        numbers.len(),
+        texts.len(),
+        0,
+    );
+    match verdict {
+        Settled::Refused(f) => {
+            return Answer::Refused(f);
+        }
+        Settled::Room => {}
+    }
+    let blanks: [u8; 64] = [0x20; 64];
+    let c = put_expanded(
+        &t,
+        content,
+        entries,
+        text,
+        stop,
+        &blanks[0..64],
+        bytes,
+        numbers,
+        texts,
+    );
+    Answer::Done {
+        data: c.d,
+        entries: c.e,
+        text: c.t,
+        number: 0,
+    }
+}
