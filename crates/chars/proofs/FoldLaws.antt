@@ -18,7 +18,7 @@ use Rattle.chars.proofs.ReaderLaws.{in-span, above}
 use Rattle.chars.proofs.Table.{and-left, and-right}
 
 -- ── ASCII
-ascii-row : (a : ℕ) → a < 128 → rowOf a ≡ span 0x00 0x7F ∷ []
+pub ascii-row : (a : ℕ) → a < 128 → rowOf a ≡ span 0x00 0x7F ∷ []
 unfolding rowOf table37
 ascii-row a h = simp (in-span 0x00 0x7F a (omega arith) (omega arith))
 

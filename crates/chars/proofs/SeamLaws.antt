@@ -3,7 +3,7 @@
 use Prim.Native.Nat.{ℕ, suc, _+_, _≤_, _<_}
 use native.Mathlib.Omega.{arith}
 use mathlib.Core.Bool.{Bool, true, false, cond, _&&_}
-use mathlib.Core.Path.{_≡_, refl, sym, ap, _∙_}
+use mathlib.Core.Path.{_≡_, refl, sym, ap, subst, _∙_}
 use mathlib.Core.List.{List, [], _∷_, _++_, tail, append-assoc}
 use lib.Dec.{leb, T, leb→le}
 use lib.ListN.{length, take, drop, take-append-drop}
@@ -13,6 +13,7 @@ use Rattle.chars.specs.Utf8.{Row, within, table37, leads, rowIn, rowOf, 
 use Rattle.chars.specs.Width.{ranges, charWidth}
 use Rattle.chars.specs.Chars.{Character, charAt, chars, bytesOf, widthOf, textWidth}
 use Rattle.chars.proofs.Table.{and-left, and-right}
+use Rattle.chars.proofs.FoldLaws.{ascii-row}
 use Rattle.chars.proofs.CharsLaws.{bytes-chars, bytes-append, Read, Valid, valid-chars, valid-clean, chars-beginning, chars-rest, width-append}
 
 abbrev pub Seam : List ℕ → ℕ → Type 0
@@ -56,6 +57,35 @@ high-in (r ∷ rs) b h = go (leads r b) (and-left (allHigh (tail r)) (tailsHigh 
 pub high : (b : ℕ) → T (allHigh (tail (rowOf b)))
 unfolding rowOf table37
 high b = high-in table37 b tt
+
+-- the bytes of a character after its first are 80 or more
+abbrev pub High : List ℕ → Type 0
+High [] = Unit {0}
+High (b ∷ s) = (0x80 ≤ b) × High s
+
+matched-high : (cs : Row) (m r : List ℕ) → T (allHigh cs) → matched cs (m ++ r) ≡ length m → High m
+matched-high cs [] r h e = tt
+matched-high [] (b ∷ m) r h e = absurd (omega (arith, e))
+matched-high (c ∷ cs) (b ∷ m) r h e = go (within (c .low) (c .high) b) refl e (λ g. matched-high cs m r (and-right (leb 0x80 (c .low)) (allHigh cs) h) g)
+  where
+    go : (t : Bool) → within (c .low) (c .high) b ≡ t → cond t (suc (matched cs (m ++ r))) 0 ≡ suc (length m) → (matched cs (m ++ r) ≡ length m → High m) → (0x80 ≤ b) × High m
+    go true w g f = (omega (arith, leb→le 0x80 (c .low) (and-left (leb 0x80 (c .low)) (allHigh cs) h), leb→le (c .low) b (and-left (leb (c .low) b) (leb b (c .high)) (subst T (sym w) tt))), f (omega (arith, g)))
+    go false w g f = absurd (omega (arith, g))
+
+pub more-high : (c : Character) (rest : List ℕ) (R : Read c rest) → High (R .more)
+unfolding tailLen
+more-high c rest R = matched-high (tail (rowOf (R .first))) (R .more) rest (high (R .first)) (R .stops)
+
+none-of : (m : List ℕ) → length m ≡ 0 → m ≡ []
+none-of [] e = refl
+none-of (b ∷ m) e = absurd (omega (arith, e))
+
+-- a byte below 80 is a character by itself
+pub low-alone : (c : Character) (rest : List ℕ) (R : Read c rest) → R .first < 0x80 → c .text ≡ R .first ∷ []
+unfolding tailLen
+low-alone c rest R h =
+    let n : length (R .more) ≡ 0 = sym (R .stops) ∙ simp (ascii-row (R .first) h) in
+    R .text ∙ ap (λ (m : List ℕ). R .first ∷ m) (none-of (R .more) n)
 
 -- nothing, or a byte below 80
 abbrev pub Low : List ℕ → Type 0

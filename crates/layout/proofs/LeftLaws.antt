@@ -7,17 +7,18 @@ use mathlib.Core.List.{List, [], _∷_, _++_}
 use lib.Dec.{ltb, eqb}
 use lib.ListN.{length}
 use borrow.Author.Tests.{eq-eqb}
-use Rattle.chars.specs.Chars.{textWidth}
+use Rattle.chars.specs.Chars.{Character, chars, textWidth}
 use Rattle.chars.specs.Cut.{truncateEndPos, zeroWidthLen}
 use Rattle.buffer.specs.Place.{part}
-use Rattle.recording.specs.Edit.{keep, put, edit}
+use Rattle.recording.specs.Edit.{keep, skip, put, edit}
 use Rattle.recording.specs.Recording.{Bytes, Recording, Item, byte, push, pop, raw, byteItems, items}
 use Rattle.recording.specs.Refusals.{recordingFault}
 use Rattle.recording.proofs.FaultLaws.{Ok, ItemOk, ok-bytes, ok-edit, OkPuts, ok-recording, encoded}
 use Rattle.recording.proofs.Lists.{all-append}
 use Rattle.layout.specs.Layout.{trimmedStartPos, cutEnd, cutStart, copies, repeatPieces, padding, fillCount, indentOps, wrapOps, replaceOps, Kind, writeTruncatedStart}
-use Rattle.layout.specs.Layout.{writeTruncatedEnd, writePaddedStart, writePaddedEnd, writePaddedCentered, writeIndented, Single, writeWrapped, writeReplaced, Job, withSecond}
+use Rattle.layout.specs.Layout.{writeTruncatedEnd, writePaddedStart, writePaddedEnd, writePaddedCentered, writeIndented, Single, writeWrapped, writeReplaced, writeTabsExpanded, Job, withSecond}
 use Rattle.layout.specs.Layout.{alone, singleOps, Call, resultItems, secondFault, refusal, after, faultsOf, resultOf}
+use Rattle.layout.specs.Tabs.{spacesAt, spaces, leadsWith, columnAfter, tabOps}
 use Rattle.layout.specs.Wrap.{Line, wrapLines}
 use Rattle.layout.specs.declared.Replacement.{Replacement}
 use Rattle.layout.proofs.ListLaws.{after-done, GrantedCall, granted-call}
@@ -58,9 +59,19 @@ ok-wrap n at [] = tt
 ok-wrap n at (l ∷ []) = tt
 ok-wrap n at (l ∷ m ∷ ls) = ((tt, tt), ok-wrap n (l .end) (m ∷ ls))
 
+ok-tabs : (s c : ℕ) (cs : List Character) → OkPuts (tabOps s c cs)
+ok-tabs s c [] = tt
+ok-tabs s c (ch ∷ cs) = go (leadsWith 0x09 ch) (ok-tabs s (columnAfter s c ch) cs)
+  where
+    go : (t : Bool) → OkPuts (tabOps s (columnAfter s c ch) cs)
+        → OkPuts (cond t (put (byteItems (spaces (spacesAt s c))) ∷ skip 1 ∷ []) (keep (length (ch .text)) ∷ []) ++ tabOps s (columnAfter s c ch) cs)
+    go true q = (ok-bytes (spaces (spacesAt s c)), q)
+    go false q = q
+
 ok-single : (s : Single) (d : Bytes) → OkPuts (singleOps s d)
 ok-single (writeWrapped w b) d = ok-wrap (length d) 0 (wrapLines w b d)
 ok-single (writeReplaced xs t) d = ok-replace t 0 xs
+ok-single (writeTabsExpanded s) d = ok-tabs s 0 (chars d)
 
 ok-result : (j : Job) (r : Recording) → recordingFault r ≡ 0 → secondFault j ≡ 0 → Ok (resultItems j r)
 unfolding resultItems secondFault

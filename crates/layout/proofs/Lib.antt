@@ -1,5 +1,6 @@
 pub mod PadLaws
 pub mod PieceLaws
+pub mod TabLaws
 pub mod StepLaws
 pub mod ListLaws
 pub mod StripLaws
@@ -10,6 +11,7 @@ pub mod ByteWordLaws
 pub mod BreakLaws
 pub mod TwiceLaws
 pub mod WidthLaws
+pub mod TabStopLaws
 pub mod Demand3
 pub mod WordingLaws
 pub mod PinsHold

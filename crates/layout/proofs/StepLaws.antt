@@ -1,29 +1,33 @@
 -- Each call's coloured bytes are what its plain step makes of the content's, and balance is kept.
-use Prim.Native.Nat.{ℕ, suc, _+_, _-_, _≤_, _<_, _/_}
+use Prim.Native.Nat.{ℕ, zero, suc, _+_, _-_, _≤_, _<_, _/_}
 use native.Mathlib.Omega.{arith}
 use mathlib.Core.Bool.{Bool, true, false, cond, _&&_, _||_, not}
 use mathlib.Core.Path.{_≡_, refl, sym, ap, _∙_}
-use mathlib.Core.List.{List, [], _∷_, _++_, append-nil}
+use mathlib.Core.List.{List, [], _∷_, _++_, append-nil, append-assoc}
 use lib.Dec.{ltb, eqb}
-use lib.ListN.{length, take, drop, drop-of-length-le}
-use lib.Seq.{drop-drop}
-use borrow.Author.Tests.{ltb-false}
-use Rattle.chars.specs.Chars.{textWidth}
+use lib.ListN.{length, take, drop, getD, drop-of-length-le}
+use lib.Seq.{drop-drop, take-append-seam, drop-append-seam}
+use borrow.Author.Tests.{ltb-false, ne-eqb}
+use Rattle.chars.specs.Chars.{Character, chars, bytesOf, textWidth}
+use Rattle.chars.proofs.CharsLaws.{bytes-chars, Valid, valid-chars}
+use Rattle.chars.proofs.SeamLaws.{width-none}
 use Rattle.chars.specs.Cut.{truncateEndPos, zeroWidthLen}
 use Rattle.buffer.specs.Place.{part}
 use Rattle.recording.specs.Coloured.{Coloured, colouredFrom, coloured, balancedFrom, balanced, noneInside, values}
-use Rattle.recording.specs.Edit.{keep, put, edit, labelsAt, under, editColoured}
+use Rattle.recording.specs.Edit.{keep, skip, put, edit, labelsAt, under, editColoured}
 use Rattle.recording.specs.Recording.{Bytes, Recording, Item, byteItems, items}
 use Rattle.recording.proofs.EditLaws.{PutsBal, coloured-append, open-under, edit-law, edit-bal, bal-append}
-use Rattle.recording.proofs.ItemsLaws.{values-of}
+use Rattle.recording.proofs.ItemsLaws.{values-of, values-take, values-drop}
 use Rattle.recording.proofs.Lists.{or-left, or-right}
 use Rattle.layout.specs.Layout.{ownFault, singleOps, trimmedStartPos, cutEnd, cutStart, padding, fillCount, indentOps, wrapOps, replaceOps, Kind, writeTruncatedStart}
-use Rattle.layout.specs.Layout.{writeTruncatedEnd, writePaddedStart, writePaddedEnd, writePaddedCentered, writeIndented, Single, writeWrapped, writeReplaced, Job, withSecond}
-use Rattle.layout.specs.Layout.{alone, truncateStart, truncateEnd, padStart, padEnd, padCentered, wrap, replace, resultItems, recordsFault}
-use Rattle.layout.specs.Plain.{times, withLabels, indented, wrapped, replaced, step, toldOf}
+use Rattle.layout.specs.Layout.{writeTruncatedEnd, writePaddedStart, writePaddedEnd, writePaddedCentered, writeIndented, Single, writeWrapped, writeReplaced, writeTabsExpanded, Job, withSecond}
+use Rattle.layout.specs.Layout.{alone, truncateStart, truncateEnd, padStart, padEnd, padCentered, wrap, replace, expandTabs, resultItems, recordsFault, stopFault}
+use Rattle.layout.specs.Plain.{times, withLabels, indented, wrapped, replaced, tabbed, step, toldOf}
+use Rattle.layout.specs.Tabs.{spacesAt, spaces, leadsWith, columnAfter, tabOps}
 use Rattle.layout.specs.Theorem.{SecondOk}
 use Rattle.layout.specs.Wrap.{Line, wrapLines}
 use Rattle.layout.specs.declared.Replacement.{Replacement}
+use Rattle.layout.proofs.TabLaws.{some-spaces, Plain, Sort, tab, newline, other, sort, width-line, Closed, closed-start, closed-more, closed-new, closed-spaces}
 use Rattle.layout.proofs.PadLaws.{flat, coloured-padding, bal-padding}
 
 -- ── lists
@@ -134,6 +138,72 @@ wrap-law n at l [] cs e h =
 wrap-law n at l (m ∷ ls) cs e h =
     rw (drop-on at (l .first) cs (h .0), drop-on (l .first) (l .end) cs (h .1), wrap-law n (l .end) m ls cs e (h .2), append-nil (labelsAt (drop (l .end) cs)))
 
+-- ── tabs
+tab-puts : (s c : ℕ) (cs : List Character) → PutsBal (tabOps s c cs)
+tab-puts s c [] = tt
+tab-puts s c (ch ∷ cs) = go (leadsWith 0x09 ch) (tab-puts s (columnAfter s c ch) cs)
+  where
+    go : (t : Bool) → PutsBal (tabOps s (columnAfter s c ch) cs)
+        → PutsBal (cond t (put (byteItems (spaces (spacesAt s c))) ∷ skip 1 ∷ []) (keep (length (ch .text)) ∷ []) ++ tabOps s (columnAfter s c ch) cs)
+    go true q = (bal-bytes (spaces (spacesAt s c)), q)
+    go false q = q
+
+-- a stop that is not refused is not 0
+some-stop : (s : ℕ) → stopFault s ≡ 0 → 1 ≤ s
+some-stop zero z = absurd (omega (arith, z))
+some-stop (suc s) z = omega arith
+
+-- bytes that are no tab and no 0A pass, and the line grows by them
+plain-law : (s n : ℕ) (line : Bytes) (cs : List Coloured) → Plain (values (take n cs)) → tabbed s line cs ≡ take n cs ++ tabbed s (line ++ values (take n cs)) (drop n cs)
+plain-law s zero line cs h = rw (append-nil line)
+plain-law s (suc n) line [] h = refl
+plain-law s (suc n) line (c ∷ cs) h =
+    rw (ne-eqb (c .val) 0x09 (h .0), ne-eqb (c .val) 0x0A (h .1))
+    (ap (λ (l : List Coloured). c ∷ l) (plain-law s n (line ++ (c .val ∷ [])) cs (h .2) ∙ rw (append-assoc line (c .val ∷ []) (values (take n cs)))))
+
+-- a byte at the front
+pub record First (b : ℕ) (d : Bytes) (cs : List Coloured) : Type 0 where
+  pub labels : List Bytes
+  pub rest : List Coloured
+  pub here : cs ≡ record { val = b; labels = labels } ∷ rest
+  pub follow : values rest ≡ d
+
+first-of : (b : ℕ) (d : Bytes) (cs : List Coloured) → values cs ≡ b ∷ d → First b d cs
+first-of b d [] e = absurd (omega (arith, ap length e))
+first-of b d (c ∷ cs) e =
+    record { labels = c .labels; rest = cs; here = λ i. record { val = getD (e i) 0 0; labels = c .labels } ∷ cs; follow = ap (λ (l : Bytes). drop 1 l) e }
+
+-- character by character: the column is the width of the line so far
+pub tab-law : (s : ℕ) → 1 ≤ s → (line : Bytes) (chs : List Character) → Valid chs → Closed line chs → (cs : List Coloured) → values cs ≡ bytesOf chs
+    → editColoured (tabOps s (textWidth line) chs) cs ≡ tabbed s line cs
+tab-law s h line [] v k [] e = refl
+tab-law s h line [] v k (c ∷ cs) e = absurd (omega (arith, ap length e))
+tab-law s h line (ch ∷ chs) v k cs e = go (sort ch (bytesOf chs) (v .0)) (λ l j ds q. tab-law s h l chs (v .1) j ds q)
+  where
+    n : ℕ
+    n = spacesAt s (textWidth line)
+
+    Later : Type 0
+    Later = (l : Bytes) → Closed l chs → (ds : List Coloured) → values ds ≡ bytesOf chs → editColoured (tabOps s (textWidth l) chs) ds ≡ tabbed s l ds
+
+    go : Sort ch → Later → editColoured (tabOps s (textWidth line) (ch ∷ chs)) cs ≡ tabbed s line cs
+    go (tab t x) f =
+        let F : First 0x09 (bytesOf chs) cs = first-of 0x09 (bytesOf chs) cs (e ∙ rw x) in
+        let one : 1 ≤ n = some-spaces s (textWidth line) h .0 in
+        let g = f (line ++ spaces n) (closed-spaces line ch chs k n one) (F .rest) (F .follow) in
+        rw (t, F .here, under-bytes (F .labels) (spaces n), ← width-line line n one) (ap (λ (l : List Coloured). withLabels (F .labels) (spaces n) ++ l) g)
+    go (newline t u x) f =
+        let F : First 0x0A (bytesOf chs) cs = first-of 0x0A (bytesOf chs) cs (e ∙ rw x) in
+        let g = f [] (closed-new line ch chs k) (F .rest) (F .follow) in
+        rw (t, u, x, F .here) (ap (λ (l : List Coloured). record { val = 0x0A; labels = F .labels } ∷ l) (rw width-none at g))
+    go (other t u x) f =
+        let K = closed-more line ch chs k in
+        let m : ℕ = length (ch .text) in
+        let a : values (take m cs) ≡ ch .text = values-take m cs ∙ rw e (take-append-seam (ch .text) (bytesOf chs)) in
+        let b : values (drop m cs) ≡ bytesOf chs = values-drop m cs ∙ rw e (drop-append-seam (ch .text) (bytesOf chs)) in
+        let g = f (line ++ ch .text) (K .0) (drop m cs) b in
+        rw (t, u, ← K .1) (ap (λ (l : List Coloured). take m cs ++ l) g ∙ sym (plain-law s m line cs (rw a x) ∙ rw a))
+
 -- ── each call
 pub length-coloured : (r : Recording) → length (colouredFrom [] (items r)) ≡ length (r .dataBytes)
 unfolding coloured
@@ -142,6 +212,7 @@ length-coloured r = sym (length-values (coloured r)) ∙ ap length (values-of r)
 single-puts : (s : Single) (d : Bytes) → PutsBal (singleOps s d)
 single-puts (writeWrapped w b) d = wrap-puts (length d) 0 (wrapLines w b d)
 single-puts (writeReplaced xs t) d = replace-puts t 0 xs
+single-puts (writeTabsExpanded s) d = tab-puts s 0 (chars d)
 
 module _ (r : Recording) (h : balanced r ≡ true) where
   here : balancedFrom 0 (items r) ≡ true
@@ -217,6 +288,12 @@ module _ (r : Recording) (h : balanced r ≡ true) where
   unfolding resultItems step toldOf coloured balanced
   replaced-law xs t o = edit-law (replaceOps t 0 xs) [] (items r) h (replace-puts t 0 xs) ∙ replace-law t 0 xs (coloured r) o
 
+  expanded-law : (s : ℕ) → 1 ≤ s → colouredFrom [] (resultItems (expandTabs s) r) ≡ step (toldOf (expandTabs s)) (coloured r)
+  unfolding resultItems step toldOf coloured balanced
+  expanded-law s g =
+      edit-law (tabOps s 0 (chars (r .dataBytes))) [] (items r) h (tab-puts s 0 (chars (r .dataBytes)))
+      ∙ (rw width-none at (tab-law s g [] (chars (r .dataBytes)) (valid-chars (r .dataBytes)) (closed-start (r .dataBytes)) (coloured r) (values-of r ∙ sym (bytes-chars (r .dataBytes)))))
+
   wrapped-law : (w : ℕ) (b : Bool) (ls : List Line) → wrapLines w b (r .dataBytes) ≡ ls → Ordered 0 ls → (0 < length ls)
       → colouredFrom [] (resultItems (wrap w b) r) ≡ step (toldOf (wrap w b)) (coloured r)
   unfolding resultItems step toldOf coloured balanced
@@ -263,3 +340,4 @@ module _ (r : Recording) (h : balanced r ≡ true) where
   step-law o (withSecond writeIndented m p) g z = indented-law m p (g .0)
   step-law o (alone (writeWrapped w b)) g z = wrapped-law w b (wrapLines w b (r .dataBytes)) refl ((o w b (r .dataBytes)) .0) ((o w b (r .dataBytes)) .1)
   step-law o (alone (writeReplaced xs t)) g z = replaced-law xs t (sorted 0 (length (r .dataBytes)) (length t) xs z)
+  step-law o (alone (writeTabsExpanded s)) g z = expanded-law s (some-stop s z)

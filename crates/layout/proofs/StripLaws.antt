@@ -6,7 +6,7 @@ use mathlib.Core.List.{List, [], _∷_, _++_, append-nil}
 use lib.Dec.{ltb, eqb}
 use lib.ListN.{length, drop}
 use borrow.Author.Tests.{eqb-true, eq-eqb}
-use Rattle.chars.specs.Chars.{textWidth}
+use Rattle.chars.specs.Chars.{Character, chars, textWidth}
 use Rattle.chars.specs.Cut.{truncateEndPos, zeroWidthLen}
 use Rattle.buffer.specs.Place.{part}
 use Rattle.recording.specs.Coloured.{balancedFrom, balanced, noneInside}
@@ -18,8 +18,9 @@ use Rattle.recording.proofs.EditLaws.{data-append, edit-data}
 use Rattle.recording.proofs.FaultLaws.{no-fault, in-limits, Roomy, roomy}
 use Rattle.recording.proofs.ItemsLaws.{data-items, data-bytes}
 use Rattle.layout.specs.Layout.{trimmedStartPos, cutEnd, cutStart, copies, repeatPieces, padding, fillCount, indentOps, wrapOps, replaceOps, Kind, writeTruncatedStart}
-use Rattle.layout.specs.Layout.{writeTruncatedEnd, writePaddedStart, writePaddedEnd, writePaddedCentered, writeIndented, Single, writeWrapped, writeReplaced, Job, withSecond}
+use Rattle.layout.specs.Layout.{writeTruncatedEnd, writePaddedStart, writePaddedEnd, writePaddedCentered, writeIndented, Single, writeWrapped, writeReplaced, writeTabsExpanded, Job, withSecond}
 use Rattle.layout.specs.Layout.{alone, singleOps, Call, resultItems, linesLeft, secondFault, refusal, after, run, ownFault, faultsOf, resultOf}
+use Rattle.layout.specs.Tabs.{spacesAt, spaces, leadsWith, columnAfter, tabOps}
 use Rattle.layout.specs.Theorem.{SecondOk, Proper, strippedJob, stripped, again, NoneRefused}
 use Rattle.layout.specs.Wrap.{Line, wrapLines, lineNumbers}
 use Rattle.layout.specs.declared.Replacement.{Replacement}
@@ -226,6 +227,15 @@ bare-wrap n at [] = tt
 bare-wrap n at (l ∷ []) = tt
 bare-wrap n at (l ∷ m ∷ ls) = (tt, bare-wrap n (l .end) (m ∷ ls))
 
+bare-tabs : (s c : ℕ) (cs : List Character) → BarePuts (tabOps s c cs)
+bare-tabs s c [] = tt
+bare-tabs s c (ch ∷ cs) = go (leadsWith 0x09 ch) (bare-tabs s (columnAfter s c ch) cs)
+  where
+    go : (t : Bool) → BarePuts (tabOps s (columnAfter s c ch) cs)
+        → BarePuts (cond t (put (byteItems (spaces (spacesAt s c))) ∷ skip 1 ∷ []) (keep (length (ch .text)) ∷ []) ++ tabOps s (columnAfter s c ch) cs)
+    go true q = (bare-bytes (spaces (spacesAt s c)), q)
+    go false q = q
+
 bare-strip : (f : Recording) → Bare (items (strip f))
 unfolding items strip
 bare-strip f = bare-bytes (f .dataBytes)
@@ -237,6 +247,7 @@ bare-items r e = rw e (bare-bytes (r .dataBytes))
 pub bare-single : (s : Single) (d : Bytes) → BarePuts (singleOps s d)
 bare-single (writeWrapped w b) d = bare-wrap (length d) 0 (wrapLines w b d)
 bare-single (writeReplaced xs t) d = bare-replace t 0 xs
+bare-single (writeTabsExpanded s) d = bare-tabs s 0 (chars d)
 
 pub bare-result : (j : Job) (r : Recording) → Bare (items r) → Bare (resultItems (strippedJob j) r)
 unfolding resultItems

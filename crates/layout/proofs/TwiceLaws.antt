@@ -14,6 +14,7 @@ use Rattle.chars.proofs.CharsLaws.{valid-clean}
 use Rattle.recording.specs.Coloured.{Coloured, values}
 use Rattle.recording.specs.Edit.{labelsAt}
 use Rattle.recording.specs.Recording.{isNil, Bytes}
+use Rattle.recording.proofs.ItemsLaws.{values-take, values-drop}
 use Rattle.recording.proofs.Lists.{AllOf, all-left, all-right, all-append}
 use Rattle.layout.specs.Plain.{stretch, labelsOf, wrapped}
 use Rattle.layout.specs.Wrap.{ontoFirst, groups, splitLines, Word, ByteWord, byteWord, byteWords, wordsOf, splitWords, splitWordsAtWidth, fitsLine, fullWidth, firstFit, Line}
@@ -221,16 +222,6 @@ join-lines (b ∷ d) = go (eqb b 0x0A) refl (join-lines d)
 values-append : (x y : List Coloured) → values (x ++ y) ≡ values x ++ values y
 values-append [] y = refl
 values-append (c ∷ x) y = ap (λ (l : Bytes). c .val ∷ l) (values-append x y)
-
-values-take : (n : ℕ) (x : List Coloured) → values (take n x) ≡ take n (values x)
-values-take zero x = refl
-values-take (suc n) [] = refl
-values-take (suc n) (c ∷ x) = ap (λ (l : Bytes). c .val ∷ l) (values-take n x)
-
-values-drop : (n : ℕ) (x : List Coloured) → values (drop n x) ≡ drop n (values x)
-values-drop zero x = refl
-values-drop (suc n) [] = refl
-values-drop (suc n) (c ∷ x) = values-drop n x
 
 abbrev pub cuts : Bytes → List Line → List Bytes
 cuts d [] = []

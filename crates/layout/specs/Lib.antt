@@ -2,6 +2,7 @@ pub mod Wrap
 pub mod Tabs
 pub mod Widths
 pub mod Layout
+pub mod TabStops
 pub mod Lent
 pub mod Pins
 pub mod Plain

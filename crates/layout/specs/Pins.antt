@@ -11,7 +11,7 @@ use Rattle.recording.specs.Pins.{under}
 use Rattle.recording.specs.Outcome.{Room, Outcome, refused, done}
 use Rattle.layout.specs.declared.Replacement.{Replacement}
 use Rattle.layout.specs.Wrap.{Line, lineNumbers, wrapLines}
-use Rattle.layout.specs.Layout.{Job, truncateStart, truncateEnd, padStart, padEnd, padCentered, indent, wrap, replace, outcome, Call, refusal, after, run}
+use Rattle.layout.specs.Layout.{Job, truncateStart, truncateEnd, padStart, padEnd, padCentered, indent, wrap, replace, expandTabs, outcome, Call, refusal, after, run}
 use Rattle.layout.specs.Plain.{told, steps}
 use Rattle.layout.specs.Theorem.{again}
 
@@ -118,6 +118,13 @@ ticket =
 
 abbrev pub ticketColours : List Coloured
 ticketColours = under 0x3E ((0x78 ∷ []) ∷ (0x70 ∷ []) ∷ []) ∷ under 0x20 ((0x78 ∷ []) ∷ (0x70 ∷ []) ∷ []) ∷ under 0x2E ((0x65 ∷ []) ∷ []) ∷ []
+
+-- `ab`, a tab and `c`, with the label x over `b` and the tab
+abbrev pub tabbedRow : Recording
+tabbedRow = recording (0x61 ∷ 0x62 ∷ 0x09 ∷ 0x63 ∷ []) (1 ∷ 0 ∷ 0 ∷ 1 ∷ 3 ∷ 1 ∷ 0 ∷ 0 ∷ []) (0x78 ∷ [])
+
+abbrev pub tabbedColours : List Coloured
+tabbedColours = under 0x61 [] ∷ under 0x62 ((0x78 ∷ []) ∷ []) ∷ under 0x20 ((0x78 ∷ []) ∷ []) ∷ under 0x20 ((0x78 ∷ []) ∷ []) ∷ under 0x63 [] ∷ []
 
 unfoldable pub pins : List Row
 pins =
@@ -269,6 +276,39 @@ pins =
     row (call (replace (replacement 1 1 0 1 ∷ replacement 1 2 1 2 ∷ []) (0x58 ∷ 0x59 ∷ [])) roomy
     (recording (0x61 ∷ 0x62 ∷ 0x63 ∷ []) (1 ∷ 0 ∷ 0 ∷ 1 ∷ 2 ∷ 1 ∷ 0 ∷ 0 ∷ []) (0x4C ∷ [])))
     (outcomeOf (done (record { recording = recording (0x61 ∷ 0x58 ∷ 0x59 ∷ 0x63 ∷ []) (1 ∷ 0 ∷ 0 ∷ 1 ∷ 3 ∷ 1 ∷ 0 ∷ 0 ∷ []) (0x4C ∷ []); lines = []; number = 0 }))) ∷
+    -- tabs: to the next stop
+    row (call (expandTabs 4) roomy (recording (0x61 ∷ 0x09 ∷ 0x62 ∷ []) [] []))
+    (outcomeOf (done (record { recording = recording (0x61 ∷ 0x20 ∷ 0x20 ∷ 0x20 ∷ 0x62 ∷ []) [] []; lines = []; number = 0 }))) ∷
+    -- tabs: at a stop a whole stop, before one a single space
+    row (call (expandTabs 2) roomy (recording (0x61 ∷ 0x62 ∷ 0x09 ∷ 0x63 ∷ 0x09 ∷ 0x64 ∷ []) [] []))
+    (outcomeOf (done (record { recording = recording (0x61 ∷ 0x62 ∷ 0x20 ∷ 0x20 ∷ 0x63 ∷ 0x20 ∷ 0x64 ∷ []) [] []; lines = []; number = 0 }))) ∷
+    -- tabs: one after another, the spaces count
+    row (call (expandTabs 4) roomy (recording (0x09 ∷ 0x61 ∷ 0x09 ∷ 0x09 ∷ []) [] []))
+    (outcomeOf (done (record { recording = recording (0x20 ∷ 0x20 ∷ 0x20 ∷ 0x20 ∷ 0x61 ∷ 0x20 ∷ 0x20 ∷ 0x20 ∷ 0x20 ∷ 0x20 ∷ 0x20 ∷ 0x20 ∷ []) [] []; lines = []; number = 0 }))) ∷
+    -- tabs: a stop at every column
+    row (call (expandTabs 1) roomy (recording (0x09 ∷ 0x09 ∷ 0x61 ∷ []) [] []))
+    (outcomeOf (done (record { recording = recording (0x20 ∷ 0x20 ∷ 0x61 ∷ []) [] []; lines = []; number = 0 }))) ∷
+    -- tabs: the column starts anew after 0A
+    row (call (expandTabs 4) roomy (recording (0x61 ∷ 0x62 ∷ 0x63 ∷ 0x0A ∷ 0x09 ∷ 0x64 ∷ 0x09 ∷ []) [] []))
+    (outcomeOf (done (record { recording = recording (0x61 ∷ 0x62 ∷ 0x63 ∷ 0x0A ∷ 0x20 ∷ 0x20 ∷ 0x20 ∷ 0x20 ∷ 0x64 ∷ 0x20 ∷ 0x20 ∷ 0x20 ∷ []) [] []; lines = []; number = 0 }))) ∷
+    -- tabs: a wide character is two columns, a zero-width one none
+    row (call (expandTabs 4) roomy (recording (0xE6 ∷ 0x9C ∷ 0xA8 ∷ 0x09 ∷ 0x61 ∷ 0xCC ∷ 0x81 ∷ 0x09 ∷ []) [] []))
+    (outcomeOf (done (record { recording = recording (0xE6 ∷ 0x9C ∷ 0xA8 ∷ 0x20 ∷ 0x20 ∷ 0x61 ∷ 0xCC ∷ 0x81 ∷ 0x20 ∷ 0x20 ∷ 0x20 ∷ []) [] []; lines = []; number = 0 }))) ∷
+    -- tabs: a cut-off sequence is one column, also between tabs
+    row (call (expandTabs 4) roomy (recording (0xE6 ∷ 0x9C ∷ 0x09 ∷ 0x80 ∷ 0x09 ∷ 0xA8 ∷ []) [] []))
+    (outcomeOf (done (record { recording = recording (0xE6 ∷ 0x9C ∷ 0x20 ∷ 0x20 ∷ 0x20 ∷ 0x80 ∷ 0x20 ∷ 0x20 ∷ 0x20 ∷ 0xA8 ∷ []) [] []; lines = []; number = 0 }))) ∷
+    -- tabs: entries at the tab come before its spaces, those behind it after them
+    row (call (expandTabs 4) roomy (recording (0x61 ∷ 0x09 ∷ 0x62 ∷ []) (1 ∷ 0 ∷ 0 ∷ 1 ∷ 2 ∷ 1 ∷ 0 ∷ 0 ∷ []) (0x78 ∷ [])))
+    (outcomeOf (done (record { recording = recording (0x61 ∷ 0x20 ∷ 0x20 ∷ 0x20 ∷ 0x62 ∷ []) (1 ∷ 0 ∷ 0 ∷ 1 ∷ 4 ∷ 1 ∷ 0 ∷ 0 ∷ []) (0x78 ∷ []); lines = []; number = 0 }))) ∷
+    -- tabs: a label that closes and one that opens at the tab
+    row (call (expandTabs 4) roomy (recording (0x61 ∷ 0x09 ∷ 0x62 ∷ []) (0 ∷ 0 ∷ 0 ∷ 1 ∷ 1 ∷ 1 ∷ 0 ∷ 0 ∷ 1 ∷ 0 ∷ 1 ∷ 1 ∷ 3 ∷ 1 ∷ 0 ∷ 0 ∷ []) (0x78 ∷ 0x79 ∷ [])))
+    (outcomeOf (done (record { recording = recording (0x61 ∷ 0x20 ∷ 0x20 ∷ 0x20 ∷ 0x62 ∷ []) (0 ∷ 0 ∷ 0 ∷ 1 ∷ 1 ∷ 1 ∷ 0 ∷ 0 ∷ 1 ∷ 0 ∷ 1 ∷ 1 ∷ 5 ∷ 1 ∷ 0 ∷ 0 ∷ []) (0x78 ∷ 0x79 ∷ []); lines = []; number = 0 }))) ∷
+    -- tabs: no tab, nothing changes
+    row (call (expandTabs 8) roomy (recording (0x61 ∷ 0x0A ∷ 0x62 ∷ []) (1 ∷ 2 ∷ 0 ∷ 1 ∷ []) (0x1B ∷ [])))
+    (outcomeOf (done (record { recording = recording (0x61 ∷ 0x0A ∷ 0x62 ∷ []) (1 ∷ 2 ∷ 0 ∷ 1 ∷ []) (0x1B ∷ []); lines = []; number = 0 }))) ∷
+    -- tabs: 64 columns
+    row (call (expandTabs 64) roomy (recording (0x61 ∷ 0x09 ∷ []) [] []))
+    (outcomeOf (done (record { recording = recording (0x61 ∷ fill 63 0x20) [] []; lines = []; number = 0 }))) ∷
     -- texts are copied in entry order from 0, unused text goes
     row (call (wrap 9 false) roomy (recording [] (0 ∷ 0 ∷ 2 ∷ 1 ∷ 0 ∷ 0 ∷ 1 ∷ 1 ∷ []) (0x78 ∷ 0x79 ∷ 0x7A ∷ [])))
     (outcomeOf (done (record { recording = recording [] (0 ∷ 0 ∷ 0 ∷ 1 ∷ 0 ∷ 0 ∷ 1 ∷ 1 ∷ []) (0x7A ∷ 0x79 ∷ []); lines = (0 ∷ 0 ∷ 0 ∷ []); number = 1 }))) ∷
@@ -307,6 +347,9 @@ pins =
     row (call (replace (replacement 0 1 1 0 ∷ []) (0x58 ∷ [])) roomy (recording (0x61 ∷ 0x62 ∷ 0x63 ∷ []) [] [])) (outcomeOf (refused 8)) ∷
     -- 8: to beyond its text
     row (call (replace (replacement 0 1 0 2 ∷ []) (0x58 ∷ [])) roomy (recording (0x61 ∷ 0x62 ∷ 0x63 ∷ []) [] [])) (outcomeOf (refused 8)) ∷
+    -- 31: a stop of 0, and over 64
+    row (call (expandTabs 0) roomy (recording (0x61 ∷ []) [] [])) (outcomeOf (refused 31)) ∷
+    row (call (expandTabs 65) roomy (recording (0x61 ∷ []) [] [])) (outcomeOf (refused 31)) ∷
     -- 9: result entries over their limit
     row (call (truncateEnd 0 (recording [] (fill4 4096) [])) roomy (recording (0x61 ∷ []) (fill4 1) [])) (outcomeOf (refused 9)) ∷
     -- 9: result text over its limit: parts that overlap count each
@@ -340,6 +383,12 @@ pins =
     row (call (padStart 0 (recording [] (0 ∷ 0 ∷ 0 ∷ 1 ∷ []) (0xFF ∷ []))) roomy (recording (0x61 ∷ 0x62 ∷ []) [] [])) (outcomeOf (refused 6)) ∷
     -- 8: 8 before 9
     row (call (replace (replacement 1 0 0 0 ∷ []) (0x58 ∷ [])) roomy (recording [] (0 ∷ 2 ∷ 0 ∷ 65536 ∷ 0 ∷ 2 ∷ 0 ∷ 1 ∷ []) (fill 65536 0x61))) (outcomeOf (refused 8)) ∷
+    -- 6: the content before 31
+    row (call (expandTabs 0) roomy (recording [] (0 ∷ 0 ∷ 0 ∷ 1 ∷ []) (0xFF ∷ []))) (outcomeOf (refused 6)) ∷
+    -- 31: 31 before 9
+    row (call (expandTabs 65) roomy (recording [] (0 ∷ 2 ∷ 0 ∷ 65536 ∷ 0 ∷ 2 ∷ 0 ∷ 1 ∷ []) (fill 65536 0x61))) (outcomeOf (refused 31)) ∷
+    -- 31: 31 before 21
+    row (call (expandTabs 0) (room 0 0 0 0) (recording (0x61 ∷ []) [] [])) (outcomeOf (refused 31)) ∷
     -- 9: 9 before 21
     row (call (truncateEnd 0 (recording [] (fill4 4096) [])) (room 0 0 0 0) (recording (0x61 ∷ []) (fill4 1) [])) (outcomeOf (refused 9)) ∷
     -- C16: the 0A at 2 has no label
@@ -350,6 +399,10 @@ pins =
     row (colouredRun ticket c16) (colours ticketColours) ∷
     row (colouredSteps ticket c16) (colours ticketColours) ∷
     row (strippedRun ticket c16) (numbers (0x3E ∷ 0x20 ∷ 0x2E ∷ [])) ∷
+    -- tabs: the spaces carry the tab's labels, in what is left as in the plain step
+    row (colouredRun (record { job = expandTabs 4; room = roomy } ∷ []) tabbedRow) (colours tabbedColours) ∷
+    row (colouredSteps (record { job = expandTabs 4; room = roomy } ∷ []) tabbedRow) (colours tabbedColours) ∷
+    row (strippedRun (record { job = expandTabs 4; room = roomy } ∷ []) tabbedRow) (numbers (0x61 ∷ 0x62 ∷ 0x20 ∷ 0x20 ∷ 0x63 ∷ [])) ∷
     -- the theorem's hypotheses are needed. A fill with an entry inside, twice: piece by piece it is `aabb`, and the plain step would make `abab`
     row (colouredRun (record { job = padEnd 2 inside; room = roomy } ∷ []) (recording [] [] []))
     (colours (under 0x61 [] ∷ under 0x61 [] ∷ under 0x62 ((0x66 ∷ []) ∷ []) ∷ under 0x62 ((0x66 ∷ []) ∷ []) ∷ [])) ∷

@@ -9,7 +9,7 @@ use lib.ListN.{length, take, drop, length-append, take-append-drop}
 use lib.Seq.{take-append-seam, drop-append-seam, drop-at}
 use Rattle.recording.specs.declared.Entry.{Entry}
 use Rattle.recording.specs.Recording.{Bytes, Recording, entriesOf, numbersOf, partOf, Item, byte, push, pop, raw, byteItems, itemOf, itemsFrom, items, dataOf, textOf, entriesFrom, encode}
-use Rattle.recording.specs.Coloured.{colouredFrom, coloured, values}
+use Rattle.recording.specs.Coloured.{Coloured, colouredFrom, coloured, values}
 use Rattle.recording.proofs.EditLaws.{data-append}
 
 pub bytes-append : (a b : Bytes) → byteItems (a ++ b) ≡ byteItems a ++ byteItems b
@@ -102,3 +102,13 @@ values-coloured s (raw t ∷ is) = values-coloured s is
 pub values-of : (r : Recording) → values (coloured r) ≡ r .dataBytes
 unfolding coloured
 values-of r = values-coloured [] (items r) ∙ data-items r
+
+pub values-take : (n : ℕ) (x : List Coloured) → values (take n x) ≡ take n (values x)
+values-take zero x = refl
+values-take (suc n) [] = refl
+values-take (suc n) (c ∷ x) = ap (λ (l : Bytes). c .val ∷ l) (values-take n x)
+
+pub values-drop : (n : ℕ) (x : List Coloured) → values (drop n x) ≡ drop n (values x)
+values-drop zero x = refl
+values-drop (suc n) [] = refl
+values-drop (suc n) (c ∷ x) = values-drop n x
