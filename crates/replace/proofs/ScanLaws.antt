@@ -77,7 +77,7 @@ eight n t (x ∷ xs) s ok = go (badRecord (s .at) n t x) refl (λ v h. eight n t
 
 -- ── the size of the result
 -- what one record makes of the data from `at` on
-size-next : (ds new : List ℕ) (at : ℕ) (x : Replacement) (xs : List Replacement) → Good at (length ds) (length new) x
+pub size-next : (ds new : List ℕ) (at : ℕ) (x : Replacement) (xs : List Replacement) → Good at (length ds) (length new) x
     → length (editData (replaceOps new at (x ∷ xs)) (drop at ds)) ≡ ((x .start - at) + (x .to - x .from)) + length (editData (replaceOps new (x .end) xs) (drop (x .end) ds))
 size-next ds new at x xs g =
     let m : (at + (x .start - at)) + (x .end - x .start) ≡ x .end = omega (arith, g .low, g .order) in

@@ -3,7 +3,7 @@
 // The data is read once to measure and once to write. A tab is one replacement: the 09 goes and some of 64 spaces come in, so a tab is written as a replacement record is.
 // `bytes`, `numbers` and `texts` are the lent buffers; `content`, `entries` and `text` the recording whose tabs are expanded.
 use chars::LEADS;
-use chars::seen_any;
+use chars::seen_at;
 use layout::Replacement;
 use recording::Answer;
 use recording::Checked;
@@ -15,20 +15,19 @@ use writer::Settled;
 use writer::keep;
 use writer::settle;
 ghost use mathlib.Core.Path.{_≡_};
-ghost use mathlib.Core.Bool.{false};
 ghost use Prim.Native.Nat.{_+_, _*_, _≤_, _<_};
 ghost use lib.ListN.{length, drop, getD};
 ghost use Rattle.chars.specs.Leads.{leadTable};
-ghost use Rattle.chars.specs.Chars.{chars, charIn};
+ghost use Rattle.chars.specs.Chars.{chars};
 ghost use Rattle.recording.specs.Recording.{recording, items};
 ghost use Rattle.recording.specs.Edit.{edit, editData};
 ghost use Rattle.recording.specs.Refusals.{dataLimit};
 ghost use Rattle.writer.specs.Write.{out, add, blank, Fits, Sound};
-ghost use Rattle.layout.specs.Tabs.{spacesAt, spaces, columnAfter, tabOps};
+ghost use Rattle.layout.specs.Tabs.{spacesAt, spaces, tabOps};
 ghost use Rattle.layout.specs.Layout.{expandTabs};
 ghost use Rattle.layout.specs.Lent.{lentOf, Leaves};
 ghost use Rattle.replace.specs.Records.{capped};
-ghost use Rattle.tabs.specs.Tabs.{toTab, columnTo};
+ghost use Rattle.tabs.specs.Tabs.{Passed, Reached};
 
 // A place in the data, and the column there.
 pub struct Place {
@@ -44,36 +43,22 @@ fn spaces_at(stop: u32, column: u32) -> u32
     stop - column % stop
 }
 
-// The place behind the character at `at`, which is no tab, and the column there. Most are printable ASCII, which needs no table.
+// The place behind the character at `at`, which is no tab, and the column there.
 fn pass(t: &[u16; 256], s: &[u8], at: usize, column: u32) -> Place
     requires { ⌜ now t ≡ leadTable ⌝ }
     requires { ⌜ (at < length (now s)) × (length (now s) ≤ dataLimit) × (column ≤ 64 * at) × (getD (now s) at 0 ≡ 0x09 → ⊥) ⌝ }
-    ensures { λ r. ⌜ (r .at ≡ at + length (charIn at (now (s .entry)) .text)) × (r .column ≡ columnAfter 1 column (charIn at (now (s .entry)))) ⌝ }
-    ensures { λ r. ⌜ (at < r .at) × (r .at ≤ length (now (s .entry))) × (r .column ≤ 64 * r .at) ⌝ }
+    ensures { λ r. ⌜ Passed (now (s .entry)) at column r ⌝ }
 {
-    let b = s[at];
-    if b == 0x0A {
+    if s[at] == 0x0A {
         return Place {
             at: at + 1,
             column: 0,
         };
     }
-    if b < 0x20 {
-        return Place {
-            at: at + 1,
-            column: column,
-        };
-    }
-    if b < 0x7F {
-        return Place {
-            at: at + 1,
-            column: column + 1,
-        };
-    }
-    let p = seen_any(t, s, at);
+    let c = seen_at(t, s, at);
     Place {
-        at: at + p / 8,
-        column: column + (p % 4) as u32,
+        at: at + c.len,
+        column: column + c.width,
     }
 }
 
@@ -81,20 +66,19 @@ fn pass(t: &[u16; 256], s: &[u8], at: usize, column: u32) -> Place
 fn next_tab(t: &[u16; 256], s: &[u8], from: usize, column: u32) -> Place
     requires { ⌜ now t ≡ leadTable ⌝ }
     requires { ⌜ (from ≤ length (now s)) × (length (now s) ≤ dataLimit) × (column ≤ 64 * from) ⌝ }
-    ensures { λ r. ⌜ (r .at ≡ from + toTab (chars (drop from (now (s .entry))))) × (r .column ≡ columnTo column (chars (drop from (now (s .entry))))) ⌝ }
-    ensures { λ r. ⌜ (from ≤ r .at) × (r .at ≤ length (now (s .entry))) × (r .column ≤ 64 * r .at) ⌝ }
+    ensures { λ r. ⌜ Reached (now (s .entry)) from column r ⌝ }
 {
-    let mut p = Place {
-        at: from,
-        column: column,
-    };
-    while p.at < s.len() {
-        if s[p.at] == 0x09 {
-            return p;
+    let mut at = from;
+    let mut c = column;
+    while at < s.len() {
+        if s[at] == 0x09 {
+            return Place { at: at, column: c };
         }
-        p = pass(t, s, p.at, p.column);
+        let p = pass(t, s, at, c);
+        at = p.at;
+        c = p.column;
     }
-    p
+    Place { at: at, column: c }
 }
 
 // How many data bytes the result has, capped above the limit of data: the reading stops where that is passed.
@@ -116,7 +100,7 @@ fn expanded_len(t: &[u16; 256], content: &[u8], stop: u32) -> usize
     size
 }
 
-// Writes the content with each tab's spaces in its stead. `spaces` are 64 bytes 20.
+// Writes the content with each tab's spaces in its stead. `blanks` are 64 bytes 20.
 fn put_expanded(
     t: &[u16; 256],
     content: &[u8],
