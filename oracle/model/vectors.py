@@ -4,6 +4,7 @@ A line is a call's name and its fields `key=value`, with `!` before it if its ex
 or numbers, `*N` behind one that comes N times. `N:list` is a buffer of N places, which holds A5 beyond the list.
 """
 import re
+from functools import lru_cache
 
 import ruszvedok_model as model
 
@@ -125,6 +126,7 @@ class Line:
         return self.expected() == self.given()
 
 
+@lru_cache(maxsize=1)
 def check(text):
     """The rows that the program prints, and the lines where the model says otherwise than the file."""
     lines = [(number, Line(line)) for number, line in enumerate(text.split("\n"), 1) if line and not line.startswith("#")]
