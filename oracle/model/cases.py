@@ -1,4 +1,4 @@
-"""The model's own tests: document 01's cases C1 to C16, with document 02's widths of lines; its reading of UTF-8 against Python's decoder; and laws, on random inputs."""
+"""The model's own tests: document 01's cases C1 to C16, with document 02's widths of lines and tab stops; its reading of UTF-8 against Python's decoder; and laws, on random inputs."""
 import random
 
 import lists
@@ -25,6 +25,9 @@ DATA = [
     ("C13", ("write_indented", recording(b"a\n\nb"), recording(b"> ")), b"> a\n\n> b", 0),
     ("C14", ("write_replaced", recording(b"abcdef"), (1, 3, 0, 1, 6, 6, 1, 2), b"XY"), b"aXdefY", 0),
     ("C15", ("elide_end", b"spruce", b"..", 4), b"sp..", 4),
+    ("Q-2, up to the next stop", ("write_tabs_expanded", recording(b"ab\tc"), 8), b"ab      c", 0),
+    ("Q-2, at a stop", ("write_tabs_expanded", recording(b"abcd\te"), 4), b"abcd    e", 0),
+    ("Q-2, columns since the last 0A", ("write_tabs_expanded", recording(b"abc\n\xE6\x9C\xA8\t\t"), 4), b"abc\n\xE6\x9C\xA8      ", 0),
     ("fill ab, an entry at 1, twice", ("write_padded_start", recording(b""), recording(b"ab", (1, 2, 0, 1), b"x"), 2), b"aabb", 0),
 ]
 REFUSALS = [
@@ -32,8 +35,13 @@ REFUSALS = [
     ("6 of the content before 2 of the fill", ("write_padded_end", recording(b"", (0, 0, 0, 1), b"\xFF"), recording(b"", (0,)), 4), 6),
     ("8 before 9", ("write_replaced", recording(b"ab"), (0, 0, 0, 1048576, 2, 1, 0, 0), b"a" * 1048576), 8),
     ("9 before 21", ("write_padded_end", recording(b"ab"), recording(b"."), 1048577), 9),
+    ("6 before 31", ("write_tabs_expanded", recording(b"", (0, 0, 0, 1), b"\xFF"), 0), 6),
+    ("31 before 9", ("write_tabs_expanded", recording(b"\t" * 16385), 65), 31),
+    ("9 at stop 64", ("write_tabs_expanded", recording(b"\t" * 16385), 64), 9),
+    ("the limit at stop 64", ("write_tabs_expanded", recording(b"\t" * 16384), 64), 21),
 ]
 LABELLED = recording(b"ab cd", (0, 0, 0, 1, 2, 1, 0, 0), b"x")
+TABBED = recording(b"a\tb", (1, 0, 0, 1, 2, 1, 0, 0), b"x")
 
 
 def document_cases():
@@ -56,6 +64,9 @@ def document_cases():
     numbers, (data, entries, text, lines) = call("write_wrapped", LABELLED, 2, False, room=(5, 8, 1, 6))
     if (entries, lines) != ((0, 0, 0, 1, 2, 1, 0, 0), (0, 2, 2, 3, 5, 2)) or coloured(recording(data, entries, text))[2] != (0x0A, ()):
         wrong.append("C16")
+    numbers, (data, entries, text, _) = call("write_tabs_expanded", TABBED, 4, room=(5, 8, 1))
+    if entries != (1, 0, 0, 1, 4, 1, 0, 0) or coloured(recording(data, entries, text)) != [(0x61, ()), *[(0x20, (b"x",))] * 3, (0x62, ())]:
+        wrong.append("Q-2, the tab's labels")
     return wrong
 
 
@@ -90,7 +101,7 @@ def lines_too_wide(count=20_000):
 
 def random_recording(pick, inside=True):
     """A balanced recording, with entries inside its data or not."""
-    data = b"".join(pick.choice([b"a", b"b", b" ", b"\n", b"\xCC\x81", b"\xE6\x9C\xA8", b"\x9C"]) for _ in range(pick.randrange(8)))
+    data = b"".join(pick.choice([b"a", b"b", b" ", b"\t", b"\n", b"\xCC\x81", b"\xE6\x9C\xA8", b"\xE6", b"\x9C"]) for _ in range(pick.randrange(8)))
     numbers, text, open_labels = [], b"", 0
     for position in sorted(pick.choice([pick.randrange(len(data) + 1) if inside else 0, 0, len(data)]) for _ in range(pick.randrange(5))):
         kind = pick.randrange(3)
@@ -107,6 +118,8 @@ def random_call(pick):
     name = pick.choice(list(dict.fromkeys(NAMES)))
     if name == "write_wrapped":
         return name, pick.randrange(6), pick.random() < 0.5
+    if name == "write_tabs_expanded":
+        return name, pick.randrange(6)
     if name == "write_replaced":
         places = sorted(pick.randrange(7) for _ in range(4))
         return name, (places[0], places[1], 0, pick.randrange(3), places[2], places[3], 1, 2), b"X\n"

@@ -88,6 +88,15 @@ def plain_replace(state, numbers, new):
     return result + state[at:]
 
 
+def plain_tabs(state, stop):
+    """Each 09 gone, and in its stead as many 20s, with its labels, as the bytes left of it since the last 0A are short of the next stop (document 02, Q-2)."""
+    result = []
+    for byte, labels in state:
+        line = data_of(result).rpartition(b"\n")[2]
+        result += [(0x20, labels)] * (stop - text_width(line) % stop) if byte == 0x09 else [(byte, labels)]
+    return result
+
+
 def plain_step(state, name, *inputs):
     """One call not refused, on a list of coloured bytes; a second recording comes as coloured bytes."""
     inputs = [coloured(x) if isinstance(x, Recording) else x for x in inputs]
@@ -95,7 +104,8 @@ def plain_step(state, name, *inputs):
         return plain_truncate(name, state, *inputs)
     if name.startswith("write_padded"):
         return plain_pad(name, state, *inputs)
-    return {"write_indented": plain_indent, "write_wrapped": plain_wrap, "write_replaced": plain_replace}[name](state, *inputs)
+    rest = {"write_indented": plain_indent, "write_wrapped": plain_wrap, "write_replaced": plain_replace, "write_tabs_expanded": plain_tabs}
+    return rest[name](state, *inputs)
 
 
 def plain_steps(first, calls, refusals):

@@ -1,4 +1,4 @@
-"""Document 01 in Python, with what document 02 changed in it: what each call answers and leaves, worked out in the documents' order and words.
+"""Document 01 in Python, with what document 02 changed in it and added to it: what each call answers and leaves, worked out in the documents' order and words.
 
 It is written from the documents alone and shares nothing with the code that is proved. README.md says how it is used; in short:
 
@@ -223,10 +223,10 @@ class Copy:
             self.write_entries()
             self.at = min([end] + [e.position for e in self.left[-1:]])
 
-    def add(self, data):
+    def add(self, data, times=1):
         """Added bytes come after the entries at this offset, whose byte gives their labels."""
         self.write_entries()
-        self.out.write(data)
+        self.out.write(data, times)
 
     def finish(self, times=1):
         """The rest."""
@@ -530,6 +530,33 @@ def wraplist(sheet):
     return "\n".join(out + [""]).encode()
 
 
+# ── Document 02, Q-2: tab stops
+
+MOST_STOP = 64
+
+
+def spaces_to_stop(column, stop):
+    """At column c the stop less the remainder of c by it, so at least one."""
+    return stop - column % stop
+
+
+def write_tabs_expanded(content, stop, out):
+    """Each byte 09 gives way to spaces up to the next stop, under its labels. The column is the width since the last 0A, and the spaces count."""
+    copy, at, column = Copy(content, out), 0, 0
+    for c in chars(content.data):
+        if c.code == 0x09:
+            spaces = spaces_to_stop(column, stop)
+            copy.keep(at)
+            copy.add(b" ", spaces)
+            copy.drop(at + 1)
+            column += spaces
+        else:
+            column = 0 if c.code == 0x0A else column + width_of(c)
+        at += c.length
+    copy.finish()
+    return 0
+
+
 # ── Refusals
 
 class Refused(Exception):
@@ -625,6 +652,14 @@ def replace_call(content, numbers, new, buffers):
     return settle(out, write_replaced(content, records, new, out), [], buffers)
 
 
+def tabs_call(content, stop, buffers):
+    """31 comes after the content's checks and before 9."""
+    check_recording(content)
+    refuse_if(not 1 <= stop <= MOST_STOP, 31)
+    out = Result()
+    return settle(out, write_tabs_expanded(content, stop, out), [], buffers)
+
+
 def plain_call(work):
     def run(*inputs, buffers):
         check_plain(*[t for t in inputs if isinstance(t, bytes)])
@@ -667,6 +702,7 @@ CALLS = {
     "wrap_bytes": wrap_bytes_call,
     "write_wrapped": wrap_call,
     "write_replaced": replace_call,
+    "write_tabs_expanded": tabs_call,
     "elide_start": plain_call(elide_start),
     "elide_end": plain_call(elide_end),
     "complete_newline": plain_call(lambda text: (complete_newline(text), 0)),

@@ -4,12 +4,13 @@ A line is a call's name and its fields `key=value`, with `!` before it if its ex
 or numbers, `*N` behind one that comes N times. `N:list` is a buffer of N places, which holds A5 beyond the list.
 """
 import re
+from functools import lru_cache
 
 import ruszvedok_model as model
 
 NAMES = ("text_width well_formed truncate_end_pos truncate_start_pos zero_width_len replay write_truncated_start write_truncated_end write_padded_start write_padded_end "
          "write_padded_centered write_indented wrap_bytes write_wrapped write_replaced elide_start elide_end complete_newline write push_label pop_label raw "
-         "char_width read_char trim_start_zero_width_chars").split()
+         "char_width read_char trim_start_zero_width_chars write_tabs_expanded").split()
 KEYS = "data entries text second second_entries second_text records new added used width break code answer out out_entries out_text lines characters".split()
 WORDS = {"push": 0, "pop": 1, "raw": 2}
 ESCAPES = {"n": 0x0A, "t": 0x09}
@@ -90,6 +91,8 @@ class Line:
             return data, width, self.number("break") == 1
         if name == "write_wrapped":
             return self.content(), width, self.number("break") == 1
+        if name == "write_tabs_expanded":
+            return self.content(), width
         if name == "write_replaced":
             return self.content(), self.numbers("records"), self.bytes("new")
         if name == "replay":
@@ -123,6 +126,7 @@ class Line:
         return self.expected() == self.given()
 
 
+@lru_cache(maxsize=1)
 def check(text):
     """The rows that the program prints, and the lines where the model says otherwise than the file."""
     lines = [(number, Line(line)) for number, line in enumerate(text.split("\n"), 1) if line and not line.startswith("#")]

@@ -558,7 +558,7 @@ fn lists(
         63,
         31,
         32,
-        // Replace.
+        // Replace, by a text with a tab.
         8,
         0,
         26,
@@ -567,6 +567,24 @@ fn lists(
         52,
         28,
         28,
+        // Stops every 65 columns: refused (31).
+        9,
+        65,
+        0,
+        0,
+        0,
+        0,
+        0,
+        0,
+        // Tabs to stops every 4 columns: one of them without a label, one under the label of =>.
+        9,
+        4,
+        0,
+        0,
+        0,
+        0,
+        0,
+        0,
         // Truncate at the end to 12: the result is shorter than the one before.
         1,
         12,
@@ -633,7 +651,7 @@ fn refusals(
         2,
         3,
         // An unknown kind.
-        9,
+        10,
         9,
         0,
         2,
@@ -807,7 +825,7 @@ fn both(
     lines: &mut [u32],
     answers: &mut [u64],
 ) {
-    let pool = b"=>a~^^c\xe6\x9c\xa8-+blue| greenoakXY.> g";
+    let pool = b"=>a~^^c\xe6\x9c\xa8-+blue| greenoakX\x09.> g";
     refusals(
         pool,
         bytes,
@@ -840,7 +858,7 @@ fn main() {
     let mut other_numbers = [9; 96];
     let mut other_texts = [95; 24];
     let mut lines = [9; 16];
-    let mut answers = [9; 36];
+    let mut answers = [9; 40];
     both(
         &mut bytes,
         &mut numbers,

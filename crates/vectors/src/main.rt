@@ -23,6 +23,7 @@ use capi::ruszvedok_write_padded_centered;
 use capi::ruszvedok_write_padded_end;
 use capi::ruszvedok_write_padded_start;
 use capi::ruszvedok_write_replaced;
+use capi::ruszvedok_write_tabs_expanded;
 use capi::ruszvedok_write_truncated_end;
 use capi::ruszvedok_write_truncated_start;
 use capi::ruszvedok_write_wrapped;
@@ -39,9 +40,9 @@ ghost use lib.ListN.{length};
 ghost use Rattle.chars.specs.Leads.{leadTable};
 
 // How many calls there are in the table of names in `main`, and how many rows are printed: one more, of the lines that are wrong on purpose.
-const CALLS: usize = 25;
+const CALLS: usize = 26;
 
-const ROWS: usize = 26;
+const ROWS: usize = 27;
 
 // What stands for a word that is no number.
 const NONE: u64 = 18446744073709551615;
@@ -910,6 +911,16 @@ fn other_call(
             lines,
             res,
         ),
+        25 => ruszvedok_write_tabs_expanded(
+            content,
+            entries,
+            text,
+            width,
+            bytes,
+            numbers,
+            texts,
+            res,
+        ),
         _ => ruszvedok_write_replaced(
             content,
             entries,
@@ -987,7 +998,7 @@ fn layout_call(
     }
 }
 
-// What a line asks of a layout call besides recordings: how long the lent buffers are, the width, and whether words are broken.
+// What a line asks of a layout call besides recordings: how long the lent buffers are, the width or tab stop, and whether words are broken.
 struct Asked {
     bytes: usize,
     numbers: usize,
@@ -1485,7 +1496,7 @@ fn main() {
     run(
         b"text_width well_formed truncate_end_pos truncate_start_pos zero_width_len replay write_truncated_start write_truncated_end write_padded_start write_padded_end \
         write_padded_centered write_indented wrap_bytes write_wrapped write_replaced elide_start elide_end complete_newline write push_label pop_label raw \
-        char_width read_char trim_start_zero_width_chars wrong",
+        char_width read_char trim_start_zero_width_chars write_tabs_expanded wrong",
         &list[..n],
     );
 }
