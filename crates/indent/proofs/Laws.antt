@@ -35,9 +35,11 @@ plan-next p start (b ∷ bs) is h = go (start && not (eqb b 0x0A)) (λ g. plan-n
         ≡ front (cond t 0 (suc m)) is ++ (p ++ edit (indentOps p false (drop (cond t 0 (suc m)) (b ∷ bs))) (back (cond t 0 (suc m)) is))
     go true f g = refl
     go false f g =
+        let e : 1 + m ≡ suc m = omega arith in
         ap (λ (l : List Item). front 1 is ++ l) (f (omega arith))
         ∙ sym (append-assoc (front 1 is) (front m (back 1 is)) (p ++ rest (back m (back 1 is))))
         ∙ (λ i. sym (front-add 1 m is) i ++ (p ++ rest (sym (back-add 1 m is) i)))
+        ∙ ap (λ (n : ℕ). front n is ++ (p ++ rest (back n is))) e
 
 pub plan-last : (p : List Item) (start : Bool) (d : List ℕ) (is : List Item) → length d ≤ toNext start d → edit (indentOps p start d) is ≡ is
 unfolding toNext

@@ -107,7 +107,7 @@ returns-3 : tie.Need-returns-3
 returns-3 c =
     let k = c .before .before .before in
     let s = start k in
-    own-refused (call s) (ds s) (ns s) (ts s) (lent s) (size k) (fine k .passed) (fine k .text-size) TabStop (stop-over (s .args .stop) (c .if2 .taken))
+    own-refused (call s) (ds s) (ns s) (ts s) (lent s) (size k) (fine k .passed) (fine k .text-size) TabStop (stop-over (s .args .stop) (omega (arith, c .if2 .taken)))
 
 expanded-len-requires : tie.Need-expanded-len-requires
 unfolding leadTable
