@@ -54,6 +54,7 @@ ON_ROW(write_indented, CONTENT, SECOND("> "), LENT, res)
 ON_ROW(wrap_bytes, r->view.data, r->view.data_len, t.width, t.break_words, LINES, res)
 ON_ROW(write_wrapped, CONTENT, t.width, t.break_words, LENT, LINES, res)
 ON_ROW(write_replaced, CONTENT, r->records, r->records_len, (const uint8_t *)"new", 3, LENT, res)
+ON_ROW(write_tabs_expanded, CONTENT, 8, LENT, res)
 ON_ROW(elide_start, r->view.data, r->view.data_len, (const uint8_t *)"..", 2, (uint32_t)r->half, out_data, ROOM, res)
 ON_ROW(elide_end, r->view.data, r->view.data_len, (const uint8_t *)"..", 2, (uint32_t)r->half, out_data, ROOM, res)
 ON_ROW(complete_newline, r->view.data, r->view.data_len, out_data, ROOM, res)
@@ -68,7 +69,8 @@ static const call calls[] = {
     OF(replay, false, false), OF(write_truncated_start, false, false), OF(write_truncated_end, false, false),
     OF(write_padded_start, false, false), OF(write_padded_end, false, false), OF(write_padded_centered, false, false),
     OF(write_indented, false, false), OF(wrap_bytes, true, false), OF(write_wrapped, true, false), OF(write_replaced, false, false),
-    OF(elide_start, false, true), OF(elide_end, false, true), OF(complete_newline, false, true)};
+    OF(write_tabs_expanded, false, false), OF(elide_start, false, true), OF(elide_end, false, true),
+    OF(complete_newline, false, true)};
 
 static const call *named(const char *name)
 {
@@ -129,6 +131,15 @@ static void text(int kind, uint8_t *to, size_t size)
         if (at < size)
             to[at++] = ' ';
     }
+}
+
+/* Every third space of words is a tab, and every 18th of any bytes. */
+static void put_tabs(int kind, uint8_t *to, size_t size)
+{
+    size_t spaces = 0;
+    for (size_t at = 0; at < size; at++)
+        if (kind == 2 ? at % 18 == 0 : to[at] == ' ' && spaces++ % 3 == 0)
+            to[at] = '\t';
 }
 
 static void fill_row(row *r, uint8_t *data, size_t size, bool broken, size_t count)
@@ -251,10 +262,14 @@ int main(int argc, char **argv)
             char of[40];
             if (c->plain && kind == 2)
                 continue; /* refused: not well-formed */
+            if (dlsym(sides[0], c->symbol) == NULL || dlsym(sides[1], c->symbol) == NULL)
+                continue; /* one of the two has not got it yet */
             take(0);
             seed = 0x9E3779B97F4A7C15u ^ size << 8 ^ (uint64_t)kind;
             for (size_t i = 0; i < count; i++) {
                 text(kind, data + i * size, size);
+                if (c->run == write_tabs_expanded)
+                    put_tabs(kind, data + i * size, size);
                 fill_row(rows + i, data + i * size, size, !c->plain && size == LONG, size == SHORT ? 6 : MOST_ENTRIES);
             }
             sprintf(of, "%s, %s", kinds[kind], size == SHORT ? "80 B" : "64 KiB");

@@ -4,7 +4,8 @@ use std::hint::black_box;
 use std::io::{Result as Io, Write as _};
 use std::rc::Rc;
 
-use bench::inputs::{Input, ROWS, SHORT_ROWS, SIZES, Size};
+use bench::inputs::{Input, ROWS, SHORT_ROWS, SIZES, Size, TABBED};
+use bench::ours;
 use bench::recordings::{Answer, Left, view};
 use bench::room::Room;
 use bench::timing::Pair;
@@ -35,6 +36,7 @@ pub const CASES: &[Case] = &[
     Case { name: "wrap_bytes", sizes: &ROWS, sides: wrap_bytes },
     Case { name: "write_wrapped", sizes: &ROWS, sides: write_wrapped },
     Case { name: "write_replaced", sizes: &ROWS, sides: write_replaced },
+    Case { name: "write_tabs_expanded", sizes: &TABBED, sides: write_tabs_expanded },
     Case { name: "elide_start", sizes: &ROWS, sides: elide_start },
     Case { name: "elide_end", sizes: &ROWS, sides: elide_end },
     Case { name: "complete_newline", sizes: &ROWS, sides: complete_newline },
@@ -313,6 +315,15 @@ fn write_replaced(input: &Input) -> Result<Pair, String> {
             let records: Vec<_> = (0..row.lists.data.len() as u32 / 32).map(record).collect();
             lent::write_replaced(view(&row.lists), &records, b"new", room.lent())
         },
+    )
+}
+
+/// With a stop every 8 columns, against a function of ours: the original has none.
+fn write_tabs_expanded(input: &Input) -> Result<Pair, String> {
+    recorded(
+        &input.with_tabs(),
+        |row, out| ours::write_tabs_expanded(out, &row.recorder, 8).map(|()| 0),
+        |row, room| lent::write_tabs_expanded(view(&row.lists), 8, room.lent()),
     )
 }
 

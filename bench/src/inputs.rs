@@ -21,6 +21,8 @@ pub const SIZES: [Size; 4] = [(6, "6 B"), (80, "80 B"), (64 << 10, "64 KiB"), (1
 /// For the calls on recordings: results keep within the limit of 1 MiB.
 pub const ROWS: [Size; 3] = [(80, "80 B"), (64 << 10, "64 KiB"), (1_000_000, "1 MB")];
 pub const SHORT_ROWS: [Size; 2] = [(80, "80 B"), (64 << 10, "64 KiB")];
+/// For expanding tabs at stops of 8: with a tab in about 18 bytes a result can be longer by two fifths.
+pub const TABBED: [Size; 3] = [(80, "80 B"), (64 << 10, "64 KiB"), (700_000, "700 kB")];
 
 /// Numbers from a seed (xorshift).
 pub struct Numbers(u64);
@@ -99,6 +101,21 @@ impl Input {
         let mut numbers = Numbers::new(0x9E37_79B9_7F4A_7C15 ^ (size as u64) << 8 ^ kind as u64);
         let count = if size <= 1024 { many } else { 1 };
         Self { kind, size, texts: (0..count).map(|_| text(kind, size, &mut numbers)).collect() }
+    }
+}
+
+impl Input {
+    /// The same texts with tabs: every third space of words is one, and every 18th byte of random bytes, which is about as many.
+    pub fn with_tabs(&self) -> Self {
+        let tabbed = |text: &Vec<u8>| {
+            let mut text = text.clone();
+            match self.kind {
+                Kind::Random => text.iter_mut().step_by(18).for_each(|b| *b = b'\t'),
+                _ => text.iter_mut().filter(|b| **b == b' ').step_by(3).for_each(|b| *b = b'\t'),
+            }
+            text
+        };
+        Self { texts: self.texts.iter().map(tabbed).collect(), ..*self }
     }
 }
 

@@ -1,5 +1,6 @@
-//! What the two drivers share: the texts, the recordings, the buffers to lend and the timing.
+//! What the drivers share: the texts, the recordings, the buffers to lend, the timing, and calls that the original has not.
 pub mod inputs;
+pub mod ours;
 pub mod recordings;
 pub mod room;
 pub mod timing;

@@ -99,6 +99,15 @@ static void layout(void)
     left("C13", "> a\n\n> b", 0);
     ruszvedok_write_replaced(PLAIN("abcdef"), replacements, COUNT(replacements), BYTES("XY"), BUFFERS, res);
     left("C14", "aXdefY", 0);
+    /* columns 1, 0 and 6: the last one behind a character of width 2 */
+    ruszvedok_write_tabs_expanded(PLAIN("a\tb\n\t\xE6\x9C\xA8\t|"), 4, BUFFERS, res);
+    left("tabs", "a   b\n    \xE6\x9C\xA8  |", 0);
+    ruszvedok_write_tabs_expanded(PLAIN("\t"), 64, data, 63, entries, COUNT(entries), text, COUNT(text), res);
+    refused("tabs, data buffer", RUSZVEDOK_DATA_BUFFER_TOO_SHORT);
+    ruszvedok_write_tabs_expanded(PLAIN("\t"), 0, BUFFERS, res);
+    refused("no stops", RUSZVEDOK_TAB_STOP);
+    ruszvedok_write_tabs_expanded(PLAIN("\t"), 65, BUFFERS, res);
+    refused("stops too far apart", RUSZVEDOK_TAB_STOP);
     ruszvedok_elide_end(BYTES("spruce"), BYTES(".."), 4, data, COUNT(data), res);
     left("C15", "sp..", 4);
     ruszvedok_elide_start(BYTES("spruce"), BYTES(".."), 4, data, COUNT(data), res);
@@ -160,6 +169,7 @@ static void structs(void)
     holds("C13, structs", ruszvedok_write_indented_to(&out, ruszvedok_plain("a\n\nb"), ruszvedok_plain("> ")), &out, "> a\n\n> b", 0);
     holds("C14, structs", ruszvedok_write_replaced_to(&out, ruszvedok_plain("abcdef"), replacements, COUNT(replacements), BYTES("XY")),
         &out, "aXdefY", 0);
+    holds("tabs, structs", ruszvedok_write_tabs_expanded_to(&out, ruszvedok_plain("ab\tc\t"), 4), &out, "ab  c   ", 0);
     holds("C1, structs", ruszvedok_write_wrapped_to(&out, ruszvedok_plain("oak 12 ft b"), 5, false, lines, COUNT(lines)), &out,
         "oak\n12 ft\nb", 3);
     expect("C1, its last line", lines[2 * RUSZVEDOK_LINE_NUMBERS + RUSZVEDOK_LINE_FIRST] == 10
@@ -176,19 +186,21 @@ static void answered(const char *what, const ruszvedok_call_answer *answers, siz
     expect(what, memcmp(answers, wanted, 2 * count * sizeof wanted[0]) == 0);
 }
 
-/* Lists of calls: every kind, a refused one among them, and what refuses a list. */
+/* Lists of calls: every kind, refused ones among them, and what refuses a list. */
 static void lists(void)
 {
     const uint32_t numbers[] = {0, 1, 0, 1}, beyond[] = {90, 91, 0, 0};
-    const uint64_t wanted[] = {0, 8, 0, 5, 0, 0, 0, 0, 0, 0, 8, 0, 0, 0, 0, 0, 0, 2, 0, 3};
+    const uint64_t wanted[] = {31, 0, 0, 0, 0, 8, 0, 5, 0, 0, 0, 0, 0, 0, 8, 0, 0, 0, 0, 0, 0, 2, 0, 3};
     ruszvedok_view dots = ruszvedok_plain(".."), dot = ruszvedok_plain("."), none = ruszvedok_plain("");
     ruszvedok_view records = {BYTES("X"), numbers, COUNT(numbers), (const uint8_t *)"", 0};
     ruszvedok_view bad = {BYTES(""), beyond, COUNT(beyond), (const uint8_t *)"", 0};
-    ruszvedok_call_answer answers[10];
+    ruszvedok_call_answer answers[12];
     RUSZVEDOK_RECORDING(row, 32, 4, 8);
     RUSZVEDOK_RECORDING(other, 32, 4, 8);
     RUSZVEDOK_CALLS(list, COUNT(answers), 16, 8);
-    ruszvedok_string_to(&row, "red spruce");
+    ruszvedok_string_to(&row, "red\tspruce");
+    expect("list", ruszvedok_add_call(&list, RUSZVEDOK_CALL_EXPAND_TABS, 0, none)); /* refused */
+    expect("list", ruszvedok_add_call(&list, RUSZVEDOK_CALL_EXPAND_TABS, 4, none)); /* "red spruce" */
     expect("list", ruszvedok_add_call(&list, RUSZVEDOK_CALL_TRUNCATE_END, 8, dots)); /* "red sp.." */
     expect("list", ruszvedok_add_call(&list, RUSZVEDOK_CALL_TRUNCATE_START, 5, dots)); /* "..p.." */
     expect("list", ruszvedok_add_call(&list, RUSZVEDOK_CALL_PAD_START, 6, dot)); /* "...p.." */
@@ -198,7 +210,7 @@ static void lists(void)
     expect("list", ruszvedok_add_call(&list, RUSZVEDOK_CALL_REPLACE, 0, records)); /* "X...p....." */
     expect("list", ruszvedok_add_call(&list, RUSZVEDOK_CALL_INDENT, 0, ruszvedok_plain("> "))); /* "> X...p....." */
     expect("list", ruszvedok_add_call(&list, RUSZVEDOK_CALL_WRAP, 5, none)); /* ">", "X...p....." */
-    expect("list", !ruszvedok_add_call(&list, RUSZVEDOK_CALL_PAD_END, 5, ruszvedok_plain("too long for the pool")) && list.calls_len == 9);
+    expect("list", !ruszvedok_add_call(&list, RUSZVEDOK_CALL_PAD_END, 5, ruszvedok_plain("too long for the pool")) && list.calls_len == 11);
     expect("list", ruszvedok_add_call(&list, RUSZVEDOK_CALL_WRAP_BREAKING, 5, none)); /* ">", "X...p", "....." */
     expect("list", !ruszvedok_add_call(&list, RUSZVEDOK_CALL_WRAP, 5, none) && list.calls_len == COUNT(answers));
 
@@ -206,13 +218,13 @@ static void lists(void)
     memset(answers, 0xEE, sizeof answers);
     expect("answers", ruszvedok_run_calls_to(&row, &other, &list, lines, COUNT(lines), answers, COUNT(answers) - 1).refusal
             == RUSZVEDOK_ANSWER_LIST_TOO_SHORT);
-    expect("answers", row.data_len == 10 && memcmp(row.data, "red spruce", 10) == 0
+    expect("answers", row.data_len == 10 && memcmp(row.data, "red\tspruce", 10) == 0
             && answers[0].refusal == answers[COUNT(answers) - 1].number);
     other.data_room--;
     expect("sets", ruszvedok_run_calls_to(&row, &other, &list, lines, COUNT(lines), answers, COUNT(answers)).refusal == RUSZVEDOK_SETS_DIFFER);
     other.data_room++;
     holds("list, run", ruszvedok_run_calls_to(&row, &other, &list, lines, COUNT(lines), answers, COUNT(answers)), &row,
-        ">\nX...p\n.....", COUNT(answers) - 1);
+        ">\nX...p\n.....", COUNT(answers) - 2);
     answered("list, answers", answers, COUNT(answers), wanted);
 }
 
@@ -234,7 +246,7 @@ static void list_numbers(void)
     for (k = 0; k < RUSZVEDOK_CALL_SIZE; k++)
         if (k != 1) { /* any width will do */
             uint32_t kept = call[k];
-            call[k] = 9;
+            call[k] = 10;
             RUN(8, 0);
             refused("a kind or a range", RUSZVEDOK_CALL_NUMBERS);
             call[k] = kept;

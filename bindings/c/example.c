@@ -1,5 +1,6 @@
 /* A board row, recorded with its grades as labels, then truncated, padded and wrapped, by calls of their own and as a list of
- * calls; each result is printed with its labels, and the wrapped lines once more, right-aligned.
+ * calls; each result is printed with its labels, and the wrapped lines once more, right-aligned. Two rows of a ticket, whose tabs
+ * go to stops.
  * Plain C11, and C++ as well. */
 #include "ruszvedok.h"
 
@@ -50,6 +51,7 @@ int main(void)
 {
     RUSZVEDOK_RECORDING(row, 128, 8, 64);
     RUSZVEDOK_RECORDING(rest, 16, 2, 16);
+    RUSZVEDOK_RECORDING(ticket, 64, 4, 16);
     RUSZVEDOK_RECORDING(out, 256, 16, 128);
     RUSZVEDOK_RECORDING(other, 256, 16, 128);
     RUSZVEDOK_CALLS(list, 3, 16, 16);
@@ -87,6 +89,14 @@ int main(void)
     number(ruszvedok_replay_to(&out, content));
     answer = ruszvedok_run_calls_to(&out, &other, &list, lines, sizeof lines / sizeof lines[0], answers, 3);
     print("truncated, centered and wrapped, calls", number(answer), ruszvedok_view_of(&out));
+
+    /* Columns count widths, so the second row lines up with the first. */
+    number(ruszvedok_string_to(&ticket, "oak\t12 ft"));
+    number(ruszvedok_labeled_to(&ticket, "grade", "\tFAS"));
+    number(ruszvedok_string_to(&ticket, "\n\xE6\x9C\xA8\xE6\x9D\x90\t9 ft"));
+    number(ruszvedok_labeled_to(&ticket, "grade", "\tNo. 1"));
+    number(ruszvedok_write_tabs_expanded_to(&out, ruszvedok_view_of(&ticket), 8));
+    print("stops every", 8, ruszvedok_view_of(&out));
 
     /* Eight bytes are too few for the result: the call is refused and leaves them alone. */
     memset(few_data, 0xEE, sizeof few_data);

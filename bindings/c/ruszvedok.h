@@ -171,10 +171,10 @@ static inline bool ruszvedok_next(ruszvedok_view view, ruszvedok_cursor *at, rus
 }
 
 /* A layout call of a list, as its eight numbers: one of enum ruszvedok_call_kind, a width (max_width, min_width, or that of the
- * lines; not used by INDENT and REPLACE), and start and end of three ranges. `data` and `text` are ranges of the list's pool of
- * bytes, `entries` is one of its pool of numbers: together the ellipsis, fill or prefix. Of REPLACE, `data` is the new text and
- * `entries` the records, four numbers each. WRAP and WRAP_BREAKING use none; ranges that are not used have to be within their
- * pools too. */
+ * lines; of EXPAND_TABS its stop; not used by INDENT and REPLACE), and start and end of three ranges. `data` and `text` are ranges
+ * of the list's pool of bytes, `entries` is one of its pool of numbers: together the ellipsis, fill or prefix. Of REPLACE, `data`
+ * is the new text and `entries` the records, four numbers each. WRAP, WRAP_BREAKING and EXPAND_TABS use none; ranges that are not
+ * used have to be within their pools too. */
 typedef struct ruszvedok_call {
     uint32_t kind, width;
     uint32_t data_start, data_end;
@@ -249,8 +249,8 @@ enum ruszvedok_call_kind {
 };
 
 /* Refusals. The first cause in this order is given: 10; the content, then the second recording, each 1, 2, 5 for its lengths and
- * then entry by entry 3, 4, 5, 6; a pushed label (6), an appended raw sequence (3); 7; 8; 9; 21 to 24. Of a list of calls: 10;
- * 61; 62; 63. */
+ * then entry by entry 3, 4, 5, 6; a pushed label (6), an appended raw sequence (3); 7; 8; 31; 9; 21 to 24. Of a list of calls:
+ * 10; 61; 62; 63. */
 enum ruszvedok_refusal {
     RUSZVEDOK_DATA_TOO_LONG = 1,           /* Data over its limit. */
     RUSZVEDOK_ENTRY_NUMBERS = 2,           /* Entry numbers that are not four an entry, or over their limit. */
@@ -442,7 +442,8 @@ void ruszvedok_write_replaced(
     uint64_t res[5]);
 
 /* Writes the content with each byte 09 replaced by spaces up to the next of the stops, which are `stop` columns apart, from 1 to
- * 64; the spaces carry the tab's labels. */
+ * 64; the spaces carry the tab's labels. A tab becomes one space at least; its column is the width since the last 0A, with
+ * the spaces of tabs before it. Another `stop` is refused by 31. */
 void ruszvedok_write_tabs_expanded(
     const uint8_t *content, size_t content_len, const uint32_t *entries, size_t entries_len, const uint8_t *text, size_t text_len,
     uint32_t stop,
@@ -634,8 +635,8 @@ static inline ruszvedok_answer ruszvedok_raw_to(ruszvedok_recording *to, const u
 /* ======== end of the written part ======== */
 
 /* Adds a call to a list, and what it reads beside the content to the list's pools: the ellipsis, fill or prefix; of REPLACE a
- * view with the new text as data and the records as entries; of WRAP and WRAP_BREAKING ruszvedok_plain(""). False, and nothing is
- * added, if it does not fit. */
+ * view with the new text as data and the records as entries; of WRAP, WRAP_BREAKING and EXPAND_TABS ruszvedok_plain(""). False, and
+ * nothing is added, if it does not fit. */
 static inline bool ruszvedok_add_call(ruszvedok_calls *to, enum ruszvedok_call_kind kind, uint32_t width, ruszvedok_view second)
 {
     size_t data = to->pool_len, text = data + second.data_len, end = text + second.text_len;

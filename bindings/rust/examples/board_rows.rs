@@ -1,7 +1,8 @@
 //! A board row, recorded with its grades as labels, then truncated, padded and wrapped, by calls of their own and as a list of calls; each
-//! result is printed with its labels, and the wrapped lines once more, right-aligned. The same as `bindings/c/example.c`, which prints the same.
+//! result is printed with its labels, and the wrapped lines once more, right-aligned. Two rows of a ticket, whose tabs go to stops. The same
+//! as `bindings/c/example.c`, which prints the same.
 use ruszvedok::lent::{self, Buffers};
-use ruszvedok::{run_layouts, text_width, write_padded_centered, write_truncated_end, write_truncated_start, write_wrapped};
+use ruszvedok::{run_layouts, text_width, write_padded_centered, write_tabs_expanded, write_truncated_end, write_truncated_start, write_wrapped};
 use ruszvedok::{FormatOp, FormatRecorder, Layout, Refusal};
 
 /// Prints the data with {label:..} around what is labelled.
@@ -53,6 +54,14 @@ fn main() -> Result<(), Refusal> {
     ];
     let answers = run_layouts(&mut out, &row, &layouts)?;
     print("truncated, centered and wrapped, calls", answers.iter().flatten().count(), &out)?;
+
+    // Columns count widths, so the second row lines up with the first.
+    let mut ticket = FormatRecorder::with_data("oak\t12 ft")?;
+    ticket.write_labeled("grade", "\tFAS")?;
+    ticket.write_data("\n木材\t9 ft")?;
+    ticket.write_labeled("grade", "\tNo. 1")?;
+    write_tabs_expanded(&mut out, &ticket, 8)?;
+    print("stops every", 8, &out)?;
 
     // A recorder lengthens its buffers. Lent ones have the length they have: eight bytes are too few, and are left alone.
     let (mut few, mut entries, mut text) = ([0xEE; 8], [0; 64], [0; 128]);

@@ -62,6 +62,11 @@ pub enum Layout<'a> {
         /// The text that their `from` and `to` are of.
         text: &'a [u8],
     },
+    /// [`write_tabs_expanded`](crate::write_tabs_expanded).
+    ExpandTabs {
+        /// How many columns the stops are apart, 1 to 64.
+        stop: usize,
+    },
 }
 
 /// Calls as the library takes them, with their pools.
@@ -102,6 +107,7 @@ impl List {
             Layout::Wrap { width, break_words: false } => (Kind::Wrap, width, View::default()),
             Layout::Wrap { width, break_words: true } => (Kind::WrapBreaking, width, View::default()),
             Layout::Replace { text, .. } => (Kind::Replace, 0, View { data: text, ..View::default() }),
+            Layout::ExpandTabs { stop } => (Kind::ExpandTabs, stop, View::default()),
         };
         let data = put(&mut self.bytes, second.data.iter().copied())?;
         let entries = match *layout {

@@ -149,6 +149,7 @@ pub struct Replacement {
 /// | `Indent` | [`write_indented`] | not used | the prefix |
 /// | `Wrap`, `WrapBreaking` | [`write_wrapped`], without and with `break_words` | `width` | not used |
 /// | `Replace` | [`write_replaced`] | not used | `data` is the new text, `entries` the records, four numbers each; `text` is not used |
+/// | `ExpandTabs` | [`write_tabs_expanded`] | `stop` | not used |
 ///
 /// Ranges that are not used still have to be within their pools.
 #[derive(Clone, Copy, Debug, PartialEq, Eq, Hash)]
@@ -156,7 +157,7 @@ pub struct Replacement {
 pub struct Call {
     /// What it does.
     pub kind: Kind,
-    /// Its width.
+    /// Its width, or its stop.
     pub width: u32,
     /// A range of the pool of bytes.
     pub data: [u32; 2],
@@ -362,6 +363,17 @@ pub fn write_replaced(content: View, records: &[Replacement], new: &[u8], out: B
     // A record is four numbers in a row, which `repr(C)` makes it.
     let (numbers, count) = (records.as_ptr().cast::<u32>(), records.len() * 4);
     layout!(ruszvedok_write_replaced, [content], [numbers, count, new.as_ptr(), new.len()], out)
+}
+
+/// Each byte 09 by spaces up to the next stop, under the tab's labels. Stops are `stop` columns apart, from 1 to 64; a tab's column is the
+/// width since the last 0A, with the spaces of tabs before it.
+///
+/// # Errors
+///
+/// Refusals 1 to 6, 31, 9, 21 to 23.
+#[inline]
+pub fn write_tabs_expanded(content: View, stop: u32, out: Buffers) -> Result<Done, Refusal> {
+    layout!(ruszvedok_write_tabs_expanded, [content], [stop], out)
 }
 
 /// All calls of a list, each on what the last one not refused left; the number is how many were not refused. The content is what `used`

@@ -5,7 +5,7 @@ use std::io;
 
 // ---- written by tools/declarations from the library's sources ----
 
-/// Why a call was refused; the numbers are document 01's.
+/// Why a call was refused; the numbers are those of documents 01 and 02, and from 61 on the library's own.
 #[derive(Clone, Copy, Debug, PartialEq, Eq, Hash)]
 #[non_exhaustive]
 pub enum Refusal {

@@ -1,11 +1,12 @@
-//! The layout calls and the calls on plain texts, with the original's names and order of parameters.
+//! The layout calls and the calls on plain texts, with the original's names and order of parameters. `write_tabs_expanded` is the
+//! library's own.
 //!
 //! What a layout call leaves TAKES THE PLACE of what `out` held; the original appends. After a refusal `out` holds what it held.
 //!
 //! # Errors
 //!
-//! Of all refusals these can come: [`Refusal::ResultOverLimit`], [`Refusal::ReplacementRange`] (`write_replaced`) and, for texts that
-//! are no recordings, [`Refusal::DataTooLong`].
+//! Of all refusals these can come: [`Refusal::ResultOverLimit`], [`Refusal::ReplacementRange`] (`write_replaced`),
+//! [`Refusal::TabStop`] (`write_tabs_expanded`) and, for texts that are no recordings, [`Refusal::DataTooLong`].
 use std::borrow::Cow;
 
 use crate::lent::{self, Done, Lines, Replacement};
@@ -227,6 +228,30 @@ pub fn write_replaced(
     let mut least = content.used();
     least.data += text.len();
     out.lend(least, |out, _| lent::write_replaced(content, replacements, text, out)).map(drop)
+}
+
+/// Writes the content with each tab (byte 09) replaced by spaces up to the next stop, at least one, under the tab's labels. Stops are
+/// `stop` columns apart; a tab's column is the width since the last 0A, with the spaces of tabs before it. (The original has no such
+/// function.)
+///
+/// ```
+/// use ruszvedok::{write_tabs_expanded, FormatRecorder, Refusal};
+///
+/// let rows = FormatRecorder::with_data("oak\t12 ft\tFAS\n木材\t9 ft\tNo. 1")?;
+/// let mut out = FormatRecorder::new();
+/// write_tabs_expanded(&mut out, &rows, 8)?;
+/// assert_eq!(out.data(), "oak     12 ft   FAS\n木材    9 ft    No. 1".as_bytes());
+/// assert_eq!(write_tabs_expanded(&mut out, &rows, 65), Err(Refusal::TabStop));
+/// # Ok::<(), Refusal>(())
+/// ```
+///
+/// # Errors
+///
+/// [`Refusal::TabStop`] if `stop` is 0 or over 64, [`Refusal::ResultOverLimit`] if the result would be over a limit.
+pub fn write_tabs_expanded(out: &mut FormatRecorder, recorded_content: &FormatRecorder, stop: usize) -> Result<(), Refusal> {
+    let content = recorded_content.view();
+    // A stop over 32 bits becomes the largest, which is refused too.
+    out.lend(content.used(), |out, _| lent::write_tabs_expanded(content, columns(stop), out)).map(drop)
 }
 
 /// Wraps lines at the given width: the lines without their newlines, each a part of `text`, with its width. (The original gives no

@@ -80,6 +80,28 @@ fn c14_replacing() {
     assert_eq!(left(|out| write_replaced(out, &plain("abcdef"), &records, b"XY").map(|()| 0)), Ok(("aXdefY".into(), 0)));
 }
 
+/// Document 02, Q-2: at a stop, one before it, behind it; wide, zero-width and ill-formed characters; a line end.
+#[test]
+fn tab_stops() {
+    let expanded = |text: &str, stop| left(|out| write_tabs_expanded(out, &plain(text), stop).map(|()| 0)).unwrap().0;
+    assert_eq!(expanded("\ta\tbc\tdef\t", 1), " a bc def ");
+    assert_eq!(expanded("\ta\tbc\tdef\t", 2), "  a bc  def ");
+    assert_eq!(expanded("\ta\tbc\tdef\t", 4), "    a   bc  def ");
+    assert_eq!(expanded("a\tb", 64), format!("a{}b", " ".repeat(63)));
+    assert_eq!(expanded("木\ta\n\u{301}\tb\n\n\t", 4), "木  a\n\u{301}    b\n\n    ");
+    let mut out = FormatRecorder::new();
+    write_tabs_expanded(&mut out, &FormatRecorder::with_data(b"\xE6\x9C\t\xFF\t|").unwrap(), 3).unwrap();
+    assert_eq!(out.data(), b"\xE6\x9C  \xFF  |");
+    // The spaces stand behind the entries at the tab, and before those at the byte after it.
+    let mut row = plain("ab");
+    row.write_labeled("x", "\t").unwrap();
+    row.raw(b"\x1b[m").unwrap();
+    row.write_data(b"\tc").unwrap();
+    write_tabs_expanded(&mut out, &row, 4).unwrap();
+    assert_eq!(out.data(), b"ab      c");
+    assert!(out.ops().eq([(2, FormatOp::PushLabel("x")), (4, FormatOp::PopLabel), (4, FormatOp::RawEscapeSequence(b"\x1b[m"))]));
+}
+
 #[test]
 fn c15_plain_texts() {
     assert_eq!(elide_end("spruce", "..", 4), Ok(("sp..".into(), 4))); // C15

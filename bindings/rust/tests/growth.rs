@@ -67,6 +67,18 @@ fn results_up_to_the_limits() {
     assert_eq!(out.data(), vec![b'.'; MAX_DATA]);
 }
 
+/// Spaces up to the limit of data, and one more.
+#[test]
+fn spaces_up_to_the_limit() {
+    let mut row = FormatRecorder::with_data(vec![b'\t'; MAX_DATA / 64]).unwrap();
+    let mut out = FormatRecorder::new();
+    write_tabs_expanded(&mut out, &row, 64).unwrap();
+    assert_eq!(out.data(), vec![b' '; MAX_DATA]);
+    row.write_data(b"a").unwrap();
+    assert_eq!(write_tabs_expanded(&mut out, &row, 64), Err(Refusal::ResultOverLimit));
+    assert_eq!(out.data(), vec![b' '; MAX_DATA]);
+}
+
 /// As many lines as a text can have.
 #[test]
 fn lines_up_to_their_limit() {

@@ -90,6 +90,7 @@ fn one(call: &Call, pools: Pools, content: View, out: Buffers, lines: &mut [u32]
             let record = |at: &[u32]| Replacement { start: at[0], end: at[1], from: at[2], to: at[3] };
             lent::write_replaced(content, &entries.chunks_exact(4).map(record).collect::<Vec<_>>(), data, out)
         }
+        Kind::ExpandTabs => lent::write_tabs_expanded(content, call.width, out),
         _ => unreachable!(),
     }
 }
@@ -138,11 +139,12 @@ const RECORDS: [View; 6] = [
     View { data: b"X", entries: &[0, 0, 0, 1, 7], text: b"" },
 ];
 
-const CONTENTS: [View; 5] = [
+const CONTENTS: [View; 6] = [
     View { data: b"oak 12 ft\n\nspruce b", entries: &[0, 0, 0, 2, 3, 1, 0, 0, 11, 0, 2, 1, 19, 1, 0, 0], text: b"woodx" },
     View { data: b"fir", entries: &[1, 2, 0, 3], text: b"\x1B[m" },
     View { data: b"", entries: &[], text: b"" },
     View { data: b"\xCC\x81\xE6\x9C\xA8\xEF\xB8\x8F a\xE6", entries: &[], text: b"" },
+    View { data: b"\tb\xE6\t\n\t\t\xE6\x9C\xA8\t", entries: &[3, 0, 0, 1, 4, 1, 0, 0, 6, 2, 1, 2, 10, 0, 0, 1], text: b"x\x1B[" },
     View { data: b"ill", entries: &[4, 1, 0, 0], text: b"" },
 ];
 
@@ -156,6 +158,7 @@ const KINDS: &[Kind] = &[
     Kind::Wrap,
     Kind::WrapBreaking,
     Kind::Replace,
+    Kind::ExpandTabs,
 ];
 
 /// Puts a part at a pool's end.
@@ -199,7 +202,7 @@ fn lent_as_one_by_one() {
     }
     // Each kind was run and was refused, and each refusal that lists like these can have was there.
     assert!(seen.iter().flatten().all(|count| *count > 100), "{seen:?}");
-    assert!(refusals.iter().eq(&[0, 2, 3, 4, 5, 6, 8, 9, 21, 22, 23, 24]), "{refusals:?}");
+    assert!(refusals.iter().eq(&[0, 2, 3, 4, 5, 6, 8, 9, 21, 22, 23, 24, 31]), "{refusals:?}");
 }
 
 /// What refuses a whole list: its number, and nothing is touched.
@@ -259,6 +262,7 @@ fn layout(out: &mut FormatRecorder, content: &FormatRecorder, call: Layout) -> R
         Layout::Indent { prefix } => write_indented(out, content, prefix).map(|()| 0),
         Layout::Wrap { width, break_words } => write_wrapped(out, content, width, break_words).map(|lines| lines.len()),
         Layout::Replace { records, text } => write_replaced(out, content, records, text).map(|()| 0),
+        Layout::ExpandTabs { stop } => write_tabs_expanded(out, content, stop).map(|()| 0),
         _ => unreachable!(),
     }
 }
@@ -306,6 +310,7 @@ fn layouts_as_one_by_one() {
                     Kind::Wrap => Layout::Wrap { width, break_words: false },
                     Kind::WrapBreaking => Layout::Wrap { width, break_words: true },
                     Kind::Replace => Layout::Replace { records: &random.of(&records)[..], text: b"X\n" },
+                    Kind::ExpandTabs => Layout::ExpandTabs { stop: width },
                     _ => unreachable!(),
                 }
             })
@@ -318,7 +323,7 @@ fn layouts_as_one_by_one() {
             match answer {
                 Ok(_) => made += 1,
                 Err(refusal) => {
-                    assert!(matches!(refusal, Refusal::ResultOverLimit | Refusal::ReplacementRange));
+                    assert!(matches!(refusal, Refusal::ResultOverLimit | Refusal::ReplacementRange | Refusal::TabStop));
                     refused += 1;
                 }
             }

@@ -87,6 +87,32 @@ fn of_replacements() {
     }
 }
 
+/// 31 comes behind the content's own refusals and before 9 and those of the buffers.
+#[test]
+fn of_tab_stops() {
+    let of = |row, sizes, stop| refused(sizes, |out| lent::write_tabs_expanded(row, stop, out));
+    let row = View { data: b"a\tb", entries: &[1, 0, 0, 1, 2, 1, 0, 0], text: b"x" };
+    let ill_formed = View { text: b"\xFF", ..row };
+    let tabs = vec![b'\t'; MAX_DATA];
+    let page = View { data: &tabs, ..View::default() };
+    for stop in [0, 65, u32::MAX] {
+        assert_eq!(of(row, ENOUGH, stop), 31);
+        assert_eq!(of(row, (0, 0, 0), stop), 31);
+        assert_eq!(of(ill_formed, ENOUGH, stop), 6);
+        assert_eq!(of(page, ENOUGH, stop), 31);
+    }
+    assert_eq!((of(ill_formed, ENOUGH, 8), of(page, ENOUGH, 64), of(page, ENOUGH, 1)), (6, 9, 21));
+    for (sizes, number) in [((9, 8, 1), 0), ((8, 8, 1), 21), ((9, 7, 1), 22), ((9, 8, 0), 23)] {
+        assert_eq!(of(row, sizes, 8), number, "{sizes:?}");
+    }
+    // A stop over 32 bits, whose low 32 bits would do, is refused too.
+    for stop in [0, 65, (1 << 32) + 8] {
+        let mut out = FormatRecorder::with_data("held").unwrap();
+        assert_eq!(write_tabs_expanded(&mut out, &FormatRecorder::try_from(row).unwrap(), stop), Err(Refusal::TabStop));
+        assert_eq!(out.data(), b"held");
+    }
+}
+
 #[test]
 fn of_plain_texts() {
     let long = "a".repeat(MAX_DATA + 1);
@@ -104,7 +130,7 @@ fn of_plain_texts() {
 #[test]
 fn names_and_numbers() {
     let numbers: Vec<_> = Refusal::ALL.iter().map(|refusal| refusal.number()).collect();
-    assert_eq!(numbers, [1, 2, 3, 4, 5, 6, 7, 8, 9, 10, 21, 22, 23, 24, 61, 62, 63]);
+    assert_eq!(numbers, [1, 2, 3, 4, 5, 6, 7, 8, 9, 10, 21, 22, 23, 24, 31, 61, 62, 63]);
     assert!(Refusal::ALL.iter().all(|refusal| Refusal::from_number(refusal.number()) == Some(*refusal)));
     assert_eq!((Refusal::from_number(0), Refusal::from_number(11)), (None, Some(Refusal::Other(11))));
     assert_eq!(Refusal::ResultOverLimit.to_string(), "a result over a limit of the recording (refusal 9)");

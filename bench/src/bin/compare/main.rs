@@ -9,8 +9,10 @@ use std::fmt::Debug;
 use std::process::ExitCode;
 
 use bench::inputs::{Numbers, damaged};
+use bench::ours;
 use bench::recordings::{Answer, Expected, Left, at_a_limit, content, fault, listed, maybe_damaged, recording, scattered, view, with_added};
 use bench::room::{LIMITS, Room};
+use oracle::original::FormatRecorder;
 use oracle::{Lists, Recording};
 use ruszvedok::lent::{self, Buffers, Place, Replacement, Used, View};
 
@@ -36,6 +38,7 @@ const CALLS: &[(&str, Call)] = &[
     ("wrap_bytes", wrap_bytes),
     ("write_wrapped", write_wrapped),
     ("write_replaced", write_replaced),
+    ("write_tabs_expanded", write_tabs_expanded),
     ("elide_start", |n| elide(n, oracle::elide_start, lent::elide_start)),
     ("elide_end", |n| elide(n, oracle::elide_end, lent::elide_end)),
     ("complete_newline", complete_newline),
@@ -311,6 +314,31 @@ fn write_replaced_of((lists, fault, content): (&Lists, u64, &Recording), records
     let result = if (fault, due) == (0, 0) { oracle::write_replaced(content, &theirs, text) } else { Default::default() };
     let expected = Expected { faults: vec![fault, due], result: result.to_lists(), lines: vec![], number: 0 };
     lend(numbers, expected, |room, _| lent::write_replaced(view(lists), records, text, room.lent()), &(lists, records, text))
+}
+
+/// Against a function of ours: the original has none. One byte in four is made a tab.
+fn write_tabs_expanded(numbers: &mut Numbers) -> Result<(), String> {
+    let (mut lists, _, _) = input(numbers, 8);
+    lists.data.iter_mut().filter(|_| numbers.within(0, 3) == 0).for_each(|b| *b = b'\t');
+    let mut stop = match numbers.within(0, 19) {
+        0 => [0, 65, u32::MAX][numbers.within(0, 2) as usize],
+        1..12 => numbers.within(1, 9) as u32,
+        _ => numbers.within(1, 64) as u32,
+    };
+    if numbers.within(0, 2999) == 0 {
+        // Results about the limit of data.
+        stop = 64;
+        let tabs = LIMITS.0 / 64 - 1;
+        lists = Recording::plain(&[vec![b'\t'; tabs], vec![b'a'; numbers.within(63, 65) as usize]].concat()).to_lists();
+    }
+    let faults = vec![fault(&lists), if (1..=64).contains(&stop) { 0 } else { 31 }];
+    let mut out = FormatRecorder::new(false);
+    if faults == [0, 0] {
+        let content = Recording::from_lists(&lists.data, &lists.entries, &lists.text).unwrap();
+        ours::write_tabs_expanded(&mut out, &content.to_recorder(), stop as usize).unwrap();
+    }
+    let expected = Expected { faults, result: Recording::from_recorder(&out).to_lists(), lines: vec![], number: 0 };
+    lend(numbers, expected, |room, _| lent::write_tabs_expanded(view(&lists), stop, room.lent()), &(&lists, stop))
 }
 
 /// A text that is well-formed, mostly.
