@@ -54,6 +54,14 @@ printable-width a p q = simp (above 0x00 0x1F a p) (before-all 127 a (tail range
 pub plain : (s : List ℕ) (at : ℕ) → 32 ≤ getD s at 0 → getD s at 0 ≤ 126 → (length (charIn at s .text) ≡ 1) × (wide (charIn at s) ≡ 1)
 plain s at p q = (ascii-len s at (omega arith), ap charWidth (ascii-code s at (omega arith)) ∙ printable-width (getD s at 0) p q)
 
+-- a control character below 20 is one byte and has no width
+control-width : (a : ℕ) → a < 32 → charWidth a ≡ 0
+unfolding charWidth ranges
+control-width a h = simp (in-span 0x00 0x1F a (omega arith) (omega arith))
+
+pub control : (s : List ℕ) (at : ℕ) → getD s at 0 < 32 → (length (charIn at s .text) ≡ 1) × (wide (charIn at s) ≡ 0)
+control s at h = (ascii-len s at (omega arith), ap charWidth (ascii-code s at (omega arith)) ∙ control-width (getD s at 0) h)
+
 -- ── the character at `at`, of which n is the length and w the width
 module _ (s : List ℕ) (at n w : ℕ) (more : at < length s) (e : n ≡ length (charIn at s .text)) (f : w ≡ wide (charIn at s)) where
   next : chars (drop at s) ≡ charIn at s ∷ chars (drop (at + n) s)

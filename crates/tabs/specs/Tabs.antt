@@ -3,6 +3,7 @@ use Prim.Native.Nat.{ℕ, suc, _+_, _-_, _*_, _≤_, _<_}
 use mathlib.Core.Bool.{cond}
 use mathlib.Core.Path.{_≡_}
 use mathlib.Core.List.{List, [], _∷_}
+use lib.Dec.{eqb}
 use lib.ListN.{length, drop, getD}
 use Rattle.chars.specs.Chars.{Character, chars}
 use Rattle.layout.specs.declared.Replacement.{Replacement}
@@ -45,3 +46,11 @@ pub record Reached (d : List ℕ) (at c : ℕ) (r : Place) : Type 0 where
 abbrev pub growth : List Replacement → ℕ
 growth [] = 0
 growth (x ∷ xs) = (x .to - 1) + growth xs
+
+-- how many bytes 09 there are
+abbrev pub oneTab : ℕ → ℕ
+oneTab b = cond (eqb b 0x09) 1 0
+
+abbrev pub tabCount : List ℕ → ℕ
+tabCount [] = 0
+tabCount (b ∷ d) = oneTab b + tabCount d

@@ -1,21 +1,15 @@
--- How many data bytes a wrapped content has: those that the lines show and a 0A between neighbours; and sizes that have room.
+-- How many data bytes a wrapped content has: those that the lines show and a 0A between neighbours.
 -- The idea: the lines are in order and within the data, so that each keep of the plan is as long as its line.
 use Prim.Native.Nat.{ℕ, suc, _+_, _-_, _≤_, _<_}
 use native.Mathlib.Omega.{arith}
-use mathlib.Core.Bool.{Bool, true, false, cond, _||_}
+use mathlib.Core.Bool.{Bool, true, false, cond}
 use mathlib.Core.Path.{_≡_, refl, sym, ap, _∙_}
 use mathlib.Core.List.{List, [], _∷_}
-use lib.Dec.{ltb, eqb}
+use lib.Dec.{eqb}
 use lib.ListN.{length, take, drop, length-append, length-drop}
 use lib.Seq.{length-take-le}
-use borrow.Author.Tests.{ltb-false}
 use Rattle.recording.specs.Edit.{editData}
-use Rattle.recording.specs.Refusals.{firstOf, refuseIf, dataLimit, entryLimit, textLimit}
-use Rattle.recording.specs.Outcome.{Room}
-use Rattle.recording.proofs.Lists.{AllOf, all-append, or-left, or-right}
-use Rattle.recording.proofs.FaultLaws.{firstOf-zero, refuseIf-zero}
-use Rattle.writer.specs.Sizes.{sizesFault}
-use Rattle.writer.proofs.Sizes.{all-fit}
+use Rattle.recording.proofs.Lists.{AllOf, all-append}
 use Rattle.layout.specs.Wrap.{ontoFirst, splitLines, Word, Line, wholeLen, groupLines, wrappedLine, linesFrom, wrapLines}
 use Rattle.layout.specs.Layout.{wrapOps, writeWrapped, singleOps}
 use Rattle.layout.proofs.StepLaws.{Ordered}
@@ -92,46 +86,3 @@ lines-data n (l ∷ ls) d e s o h = omega (arith, plan-data n 0 l ls d (omega (a
 
 pub data-size : (w : ℕ) (b : Bool) (d : List ℕ) → joinedLen (wrapLines w b d) ≡ length (editData (singleOps (writeWrapped w b) d) d)
 data-size w b d = let o = wrap-ordered w b d in sym (lines-data (length d) (wrapLines w b d) d refl (o .1) (o .0) (line-ends w b d))
-
--- ── sizes that nothing refuses
-pub record Within (d e t l : ℕ) (o : Room) : Type 0 where
-  pub data-limit : d ≤ dataLimit
-  pub entry-limit : e ≤ entryLimit
-  pub text-limit : t ≤ textLimit
-  pub data-room : d ≤ o .dataBytes
-  pub entry-room : e ≤ o .entryNumbers
-  pub text-room : t ≤ o .text
-  pub line-room : l ≤ o .lines
-
-pub within : (d e t l : ℕ) (o : Room) → sizesFault d e t l o ≡ 0 → Within d e t l o
-unfolding sizesFault
-within d e t l o h =
-    let n₉ : Bool = ltb dataLimit d || ltb entryLimit e || ltb textLimit t in
-    let n₂₄ : ℕ = refuseIf (ltb (o .lines) l) 24 in
-    let n₂₃ : ℕ = refuseIf (ltb (o .text) t) 23 in
-    let n₂₂ : ℕ = refuseIf (ltb (o .entryNumbers) e) 22 in
-    let n₂₁ : ℕ = refuseIf (ltb (o .dataBytes) d) 21 in
-    let a = firstOf-zero (refuseIf n₉ 9) (firstOf (n₂₁ ∷ n₂₂ ∷ n₂₃ ∷ n₂₄ ∷ []) ∷ []) h in
-    let b = firstOf-zero (firstOf (n₂₁ ∷ n₂₂ ∷ n₂₃ ∷ n₂₄ ∷ [])) [] (a .1) in
-    let c = firstOf-zero n₂₁ (n₂₂ ∷ n₂₃ ∷ n₂₄ ∷ []) (b .0) in
-    let f = firstOf-zero n₂₂ (n₂₃ ∷ n₂₄ ∷ []) (c .1) in
-    let g = firstOf-zero n₂₃ (n₂₄ ∷ []) (f .1) in
-    let k = firstOf-zero n₂₄ [] (g .1) in
-    let z = refuseIf-zero n₉ 8 (a .0) in
-    let y = or-left (ltb dataLimit d || ltb entryLimit e) (ltb textLimit t) z in
-    record {
-      data-limit = ltb-false dataLimit d (or-left (ltb dataLimit d) (ltb entryLimit e) y);
-      entry-limit = ltb-false entryLimit e (or-right (ltb dataLimit d) (ltb entryLimit e) y);
-      text-limit = ltb-false textLimit t (or-right (ltb dataLimit d || ltb entryLimit e) (ltb textLimit t) z);
-      data-room = ltb-false (o .dataBytes) d (refuseIf-zero (ltb (o .dataBytes) d) 20 (c .0));
-      entry-room = ltb-false (o .entryNumbers) e (refuseIf-zero (ltb (o .entryNumbers) e) 21 (f .0));
-      text-room = ltb-false (o .text) t (refuseIf-zero (ltb (o .text) t) 22 (g .0));
-      line-room = ltb-false (o .lines) l (refuseIf-zero (ltb (o .lines) l) 23 (k .0));
-    }
-
--- where a larger result has room, so has a smaller one
-pub smaller-fits : (d d′ e t l l′ : ℕ) (o : Room) → sizesFault d′ e t l′ o ≡ 0 → d ≤ d′ → l ≤ l′ → sizesFault d e t l o ≡ 0
-smaller-fits d d′ e t l l′ o h p q =
-    let w = within d′ e t l′ o h in
-    all-fit d e t l o (omega (arith, w .data-limit)) (omega (arith, w .entry-limit)) (omega (arith, w .text-limit)) (omega (arith, w .data-room)) (w .entry-room) (w .text-room)
-    (omega (arith, w .line-room))

@@ -1,17 +1,20 @@
 -- Refusals 9 and 21 to 24 from sizes: the tests in order, what is known when none refuses, and that they are `overLimit` and `noRoom` of a result with these lengths.
 -- Also the sizes of a content, for the sums that callers take.
 use mathlib.Core.Path.{_≡_, refl, sym, ap, _∙_}
+use mathlib.Core.Bool.{Bool, _||_}
 use mathlib.Core.List.{List, [], _∷_}
 use Prim.Native.Nat.{ℕ, _-_, _*_, _%_, _≤_, _<_}
 use native.Mathlib.Omega.{arith}
+use lib.Dec.{ltb}
 use lib.ListN.{length, take, drop}
 use borrow.Author.Tests.{ltb-false, lt-ltb, le-ltb, eqb-true}
 use Rattle.recording.specs.declared.Refusal.{Refusal}
 use Rattle.recording.specs.declared.Entry.{Entry}
 use Rattle.recording.specs.Recording.{recording, entriesOf, numbersOf, partOf, Item, itemOf, itemsFrom, items, entriesFrom, encode}
-use Rattle.recording.specs.Refusals.{numberOf, firstOf, recordingFault}
+use Rattle.recording.specs.Refusals.{numberOf, firstOf, refuseIf, recordingFault, dataLimit, entryLimit, textLimit}
 use Rattle.recording.specs.Outcome.{Room, Result, overLimit, noRoom}
-use Rattle.recording.proofs.FaultLaws.{firstOf-zero, no-fault, roomy, in-limits}
+use Rattle.recording.proofs.FaultLaws.{firstOf-zero, refuseIf-zero, no-fault, roomy, in-limits}
+use Rattle.recording.proofs.Lists.{or-left, or-right}
 use Rattle.recording.proofs.SizeLaws.{entryCount, count-append, count-numbers}
 use Rattle.writer.specs.declared.Settled.{Settled}
 use Rattle.writer.specs.declared.Settled.the-variants as S
@@ -138,3 +141,46 @@ numbers-items ds ns ts h =
 
 pub quads-of : (ds ns ts : List ℕ) → recordingFault (recording ds ns ts) ≡ 0 → length ns % 4 ≡ 0
 quads-of ds ns ts h = eqb-true (length ns % 4) 0 (no-fault (recording ds ns ts) h .quads)
+
+-- ── sizes that nothing refuses
+pub record Within (d e t l : ℕ) (o : Room) : Type 0 where
+  pub data-limit : d ≤ dataLimit
+  pub entry-limit : e ≤ entryLimit
+  pub text-limit : t ≤ textLimit
+  pub data-room : d ≤ o .dataBytes
+  pub entry-room : e ≤ o .entryNumbers
+  pub text-room : t ≤ o .text
+  pub line-room : l ≤ o .lines
+
+pub within : (d e t l : ℕ) (o : Room) → sizesFault d e t l o ≡ 0 → Within d e t l o
+unfolding sizesFault
+within d e t l o h =
+    let n₉ : Bool = ltb dataLimit d || ltb entryLimit e || ltb textLimit t in
+    let n₂₄ : ℕ = refuseIf (ltb (o .lines) l) 24 in
+    let n₂₃ : ℕ = refuseIf (ltb (o .text) t) 23 in
+    let n₂₂ : ℕ = refuseIf (ltb (o .entryNumbers) e) 22 in
+    let n₂₁ : ℕ = refuseIf (ltb (o .dataBytes) d) 21 in
+    let a = firstOf-zero (refuseIf n₉ 9) (firstOf (n₂₁ ∷ n₂₂ ∷ n₂₃ ∷ n₂₄ ∷ []) ∷ []) h in
+    let b = firstOf-zero (firstOf (n₂₁ ∷ n₂₂ ∷ n₂₃ ∷ n₂₄ ∷ [])) [] (a .1) in
+    let c = firstOf-zero n₂₁ (n₂₂ ∷ n₂₃ ∷ n₂₄ ∷ []) (b .0) in
+    let f = firstOf-zero n₂₂ (n₂₃ ∷ n₂₄ ∷ []) (c .1) in
+    let g = firstOf-zero n₂₃ (n₂₄ ∷ []) (f .1) in
+    let k = firstOf-zero n₂₄ [] (g .1) in
+    let z = refuseIf-zero n₉ 8 (a .0) in
+    let y = or-left (ltb dataLimit d || ltb entryLimit e) (ltb textLimit t) z in
+    record {
+      data-limit = ltb-false dataLimit d (or-left (ltb dataLimit d) (ltb entryLimit e) y);
+      entry-limit = ltb-false entryLimit e (or-right (ltb dataLimit d) (ltb entryLimit e) y);
+      text-limit = ltb-false textLimit t (or-right (ltb dataLimit d || ltb entryLimit e) (ltb textLimit t) z);
+      data-room = ltb-false (o .dataBytes) d (refuseIf-zero (ltb (o .dataBytes) d) 20 (c .0));
+      entry-room = ltb-false (o .entryNumbers) e (refuseIf-zero (ltb (o .entryNumbers) e) 21 (f .0));
+      text-room = ltb-false (o .text) t (refuseIf-zero (ltb (o .text) t) 22 (g .0));
+      line-room = ltb-false (o .lines) l (refuseIf-zero (ltb (o .lines) l) 23 (k .0));
+    }
+
+-- where a larger result has room, so has a smaller one
+pub smaller-fits : (d d′ e t l l′ : ℕ) (o : Room) → sizesFault d′ e t l′ o ≡ 0 → d ≤ d′ → l ≤ l′ → sizesFault d e t l o ≡ 0
+smaller-fits d d′ e t l l′ o h p q =
+    let w = within d′ e t l′ o h in
+    all-fit d e t l o (omega (arith, w .data-limit)) (omega (arith, w .entry-limit)) (omega (arith, w .text-limit)) (omega (arith, w .data-room)) (w .entry-room) (w .text-room)
+    (omega (arith, w .line-room))

@@ -5,11 +5,11 @@ use mathlib.Core.Path.{sym, ap, _∙_}
 use Prim.Native.Nat.{_+_, _-_, _*_}
 use Rattle.layout.specs.Wrap.{wrapLines}
 use Rattle.writer.specs.Sizes.{sizesFault, settledFault, roomOf}
+use Rattle.writer.proofs.Sizes.{smaller-fits}
 use Rattle.wrap_lines.specs.declared.Lines.{Lines}
 use Rattle.wrap_lines.specs.WrapBytes.{lineSize, linesOf}
 use Rattle.wrap_lines.proofs.WrapLaws.{numbers-length}
 use Rattle.wrap_lines.proofs.BoundLaws.{lines-few}
-use Rattle.wrap.proofs.SizeLaws.{smaller-fits}
 use Rattle.wrap.proofs.settle_wrapped.Statement.{statement}
 use Rattle.wrap.proofs.settle_wrapped.Tie as tie
 use Rattle.wrap.proofs.settle_wrapped.Reads as reads

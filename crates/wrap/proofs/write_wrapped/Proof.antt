@@ -11,7 +11,8 @@ use Rattle.layout.specs.Layout.{Single, writeWrapped, number, resultItems}
 use Rattle.layout.specs.Lent.{lentLined}
 use Rattle.outcomes.proofs.SecondLaws.{Fine}
 use Rattle.outcomes.proofs.AloneLaws.{content-refused, content-fine, sizes-refused, has-room, written}
-use Rattle.wrap.proofs.SizeLaws.{data-size, within}
+use Rattle.wrap.proofs.SizeLaws.{data-size}
+use Rattle.writer.proofs.Sizes.{within}
 use Rattle.wrap.proofs.write_wrapped.Statement.{statement}
 use Rattle.wrap.proofs.write_wrapped.Tie as tie
 use Rattle.wrap.proofs.write_wrapped.Reads as reads
