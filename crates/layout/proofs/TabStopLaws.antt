@@ -1,26 +1,26 @@
 -- Where tabs land, said of the result's own bytes (`tabs-land`, the statement of `specs/TabStops.antt`).
 -- The idea: the line that the result has so far is carried along with the characters (`Closed` of TabLaws.antt), and the definition's column is its width at every character.
-use Prim.Native.Nat.{ℕ, zero, suc, _+_, _*_, _/_, _%_, _≤_, _<_}
-use native.Mathlib.Nat.{mod-lt, div-add-mod', lt-of-mul-lt-mul-right, mul-le-mul-right, suc-mul, mul-comm, lt-of-le-of-lt}
+use Prim.Native.Nat.{ℕ, suc, _+_, _*_, _/_, _%_, _≤_, _<_}
+use native.Mathlib.Nat.{mod-lt, div-add-mod', lt-of-mul-lt-mul-right, mul-le-mul-right, suc-mul}
 use native.Mathlib.Omega.{arith}
 use mathlib.Core.Bool.{Bool, true, false, cond}
 use mathlib.Core.Path.{_≡_, refl, sym, ap, _∙_}
 use mathlib.Core.List.{List, [], _∷_, _++_, append-assoc, append-nil}
 use lib.Dec.{eqb}
-use lib.ListN.{length, take, drop, getD}
+use lib.ListN.{length, getD}
 use lib.Seq.{take-append-seam, drop-append-seam}
-use borrow.Author.Tests.{ne-eqb, eq-eqb, eqb-true}
+use borrow.Author.Tests.{ne-eqb, eq-eqb}
 use Rattle.chars.specs.Utf8.{table37, rowOf, tailLen, complete}
 use Rattle.chars.specs.Chars.{Character, charAt, chars, bytesOf, wide, textWidth}
 use Rattle.chars.proofs.CharsLaws.{bytes-chars, Read, Valid, valid-chars}
 use Rattle.chars.proofs.SeamLaws.{width-none, chars-low}
-use Rattle.recording.specs.Recording.{Bytes, Recording, Item, byteItems, items, dataOf, encode}
+use Rattle.recording.specs.Recording.{Bytes, Recording, Item, byteItems, items, encode}
 use Rattle.recording.specs.Edit.{Op, keep, skip, put, front, back, edit, editData}
 use Rattle.recording.specs.Outcome.{Room}
 use Rattle.recording.proofs.EditLaws.{front-with-back}
 use Rattle.recording.proofs.ItemsLaws.{data-bytes, items-encode}
 use Rattle.layout.specs.Tabs.{spacesAt, spaces, leadsWith, columnAfter, charOps, tabOps, columnBehind}
-use Rattle.layout.specs.TabStops.{LeastMultipleAbove, lastOf, lastLine, NoTab, expandedFrom, expanded, tabsCall, TabLands, TabStops, TabsLand}
+use Rattle.layout.specs.TabStops.{LeastMultipleAbove, lastOf, lastLine, NoTab, expanded, tabsCall, TabLands, TabStops, TabsLand}
 use Rattle.layout.specs.Layout.{expandTabs, resultItems, refusal, after}
 use Rattle.layout.specs.Wrap.{ontoFirst, splitLines}
 use Rattle.layout.proofs.ListLaws.{after-done, after-refused}

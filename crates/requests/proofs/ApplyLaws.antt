@@ -1,6 +1,6 @@
 -- A call that leaves no lines, made without a line list, is the same call with one that it leaves as it is (`unlined`).
 -- The idea: only refusal 24 asks for the room of the line list, and for no lines there is always room.
-use Prim.Native.Nat.{ℕ, _≤_, _<_}
+use Prim.Native.Nat.{ℕ, _<_}
 use native.Mathlib.Omega.{arith}
 use mathlib.Core.Bool.{Bool, true, false, cond}
 use mathlib.Core.Path.{_≡_, refl, sym, ap, subst, _∙_}

@@ -1,34 +1,36 @@
 -- The tabs as replacement records: their edit is the edit of the definition (`as-replaced`), none of them is bad (`tabs-good`), and how much longer the result is (`expanded-size`).
 -- From place to place: a character that is no tab changes nothing (`char-passed`), a tab is the next record (`tab-next`), and at the end there is none (`tab-end`).
 use Prim.Native.Nat.{ℕ, zero, suc, _+_, _-_, _*_, _≤_, _<_}
+use native.Mathlib.Nat.{add-mul, one-mul, mul-le-mul}
 use native.Mathlib.Numerals.{add-one}
 use native.Mathlib.Omega.{arith}
-use mathlib.Core.Bool.{Bool, true, false, cond, _||_}
+use mathlib.Core.Bool.{Bool, true, false, cond}
 use mathlib.Core.Path.{_≡_, refl, sym, ap, subst, _∙_}
 use mathlib.Core.List.{List, [], _∷_, _++_, append-assoc}
 use lib.Dec.{eqb}
-use lib.ListN.{length, take, drop, getD, length-append, length-drop}
+use lib.ListN.{length, take, drop, getD, length-append, length-drop, drop-of-length-le}
 use lib.Seq.{drop-cons}
 use borrow.Author.Tests.{ne-eqb, lt-ltb, le-ltb}
 use Rattle.chars.specs.Utf8.{table37, rowOf, tailLen, complete}
 use Rattle.chars.specs.Chars.{Character, charAt, charIn, chars, bytesOf, wide}
 use Rattle.chars.proofs.CharsLaws.{bytes-chars, Valid, valid-chars, char-next, chars-end, char-some, char-inside}
+use Rattle.chars.proofs.FoldLaws.{plain}
 use Rattle.buffer.specs.Place.{part}
 use Rattle.recording.specs.Recording.{recording, Item, byteItems, items, dataOf}
 use Rattle.recording.specs.declared.Refusal.the-variants.{TabStop}
 use Rattle.recording.specs.Refusals.{numberOf}
-use Rattle.recording.specs.Edit.{keep, skip, put, front, back, entriesOnly, edit, editData}
+use Rattle.recording.specs.Edit.{keep, skip, put, front, back, edit, editData}
 use Rattle.recording.proofs.EditLaws.{edit-data, front-back, back-back, front-with-back, front-add, back-add}
 use Rattle.recording.proofs.ItemsLaws.{data-bytes}
 use Rattle.layout.specs.declared.Replacement.{Replacement}
 use Rattle.layout.specs.Tabs.{spacesAt, spaces, leadsWith, columnAfter, tabOps}
 use Rattle.layout.specs.Layout.{replaceOps, badRecord, recordsFault, stopFault}
-use Rattle.layout.proofs.TabLaws.{some-spaces, Sort, tab, newline, other, sort}
+use Rattle.layout.proofs.TabLaws.{some-spaces, Plain, Sort, tab, newline, other, sort}
 use Rattle.replace.specs.Records.{replacement, capped}
-use Rattle.replace.proofs.RecordLaws.{Good, good, no-eight, capped-over, capped-in}
+use Rattle.replace.proofs.RecordLaws.{good, no-eight, capped-over, capped-in}
 use Rattle.replace.proofs.ScanLaws.{size-next}
 use Rattle.tabs.specs.declared.Place.{Place}
-use Rattle.tabs.specs.Tabs.{tabRecords, tabsFrom, place, Onward, Passed, Reached, growth}
+use Rattle.tabs.specs.Tabs.{tabRecords, tabsFrom, place, Onward, Passed, Reached, growth, oneTab, tabCount}
 
 -- ── the edit
 part-spaces : (n m : ℕ) → n ≤ m → part 0 n (spaces m) ≡ spaces n
@@ -187,6 +189,15 @@ onward-start ds at c h b = record { forward = omega arith; within = h; bounded =
 pub onward-then : (ds : List ℕ) (at c : ℕ) (p r : Place) → Onward ds at c p → Onward ds (p .at) (p .column) r → Onward ds at c r
 onward-then ds at c p r o q = record { forward = omega (arith, o .forward, q .forward); within = q .within; bounded = q .bounded; same = λ s. o .same s ∙ q .same s }
 
+-- one printable ASCII byte more
+pub printable-passed : (ds : List ℕ) (from c i : ℕ) → i < length ds → 0x20 ≤ getD ds i 0 → getD ds i 0 < 0x7F → Onward ds from c (place i (c + (i - from)))
+    → Onward ds from c (place (i + 1) (c + (i + 1 - from)))
+printable-passed ds from c i more p q o =
+    let w : ℕ = c + (i - from) in
+    let k = plain ds i p (omega (arith, q)) in
+    let next = char-passed ds i w 1 (w + 1) more (λ z. omega (arith, z, p)) (sym (k .0)) (rw (ne-eqb (getD ds i 0) 0x0A (λ z. omega (arith, z, p)), k .1)) (omega (arith, o .bounded)) in
+    subst (λ (v : ℕ). Onward ds from c (place (i + 1) v)) (omega (arith, o .forward)) (onward-then ds from c (place i w) (place (i + 1) (w + 1)) o (next .onward))
+
 chars-tab : (y : List ℕ) → chars (0x09 ∷ y) ≡ record { text = 0x09 ∷ []; code = 0x09; ok = true } ∷ chars y
 unfolding chars charAt tailLen rowOf table37 complete
 chars-tab y = refl
@@ -256,6 +267,59 @@ module _ (s : ℕ) (low : 1 ≤ s) (high : s ≤ 64) (ds : List ℕ) where
           let g : growth (tabsFrom s ds p) ≡ (spacesAt s (p .column) - 1) + growth (tabsFrom s ds (place (p .at + 1) (p .column + spacesAt s (p .column)))) =
           ap growth (tab-next s ds p more (m .here .stands more)) in
           sym (capped-over whole (omega (arith, whole-is, m .total, g, e, h)))
+
+-- ── the largest size: no tab becomes more than s spaces
+one-le : (b : ℕ) → oneTab b ≤ 1
+one-le b = go (eqb b 0x09)
+  where
+    go : (t : Bool) → cond t 1 0 ≤ 1
+    go true = omega arith
+    go false = omega arith
+
+pub count-next : (ds : List ℕ) (i : ℕ) → i < length ds → (tabCount (drop i ds) ≡ oneTab (getD ds i 0) + tabCount (drop (i + 1) ds)) × (oneTab (getD ds i 0) ≤ 1)
+count-next ds i h = (rw (drop-cons ds i 0 h, add-one), one-le (getD ds i 0))
+
+pub count-end : (ds : List ℕ) (i : ℕ) → length ds ≤ i → tabCount (drop i ds) ≡ 0
+count-end ds i h = rw (drop-of-length-le ds {i = i} h)
+
+count-plain : (t d : List ℕ) → Plain t → tabCount (t ++ d) ≡ tabCount d
+count-plain [] d h = refl
+count-plain (b ∷ t) d h = rw (ne-eqb b 0x09 (h .0)) (omega (arith, count-plain t d (h .2)))
+
+module _ (s : ℕ) (low : 1 ≤ s) where
+  growth-most : (c at : ℕ) (cs : List Character) → Valid cs → growth (tabRecords s c at cs) ≤ tabCount (bytesOf cs) * (s - 1)
+  growth-most c at [] v = omega arith
+  growth-most c at (ch ∷ cs) v =
+      go (sort ch (bytesOf cs) (v .0)) (growth-most (columnAfter s c ch) (suc at) cs (v .1)) (growth-most (columnAfter s c ch) (at + length (ch .text)) cs (v .1))
+    where
+      m : ℕ
+      m = tabCount (bytesOf cs)
+
+      Later : ℕ → Type 0
+      Later a = growth (tabRecords s (columnAfter s c ch) a cs) ≤ m * (s - 1)
+
+      split : (t : Bool) → leadsWith 0x09 ch ≡ t → growth (tabRecords s c at (ch ∷ cs))
+          ≡ growth (cond t (replacement at (suc at) 0 (spacesAt s c) ∷ tabRecords s (columnAfter s c ch) (suc at) cs) (tabRecords s (columnAfter s c ch) (at + length (ch .text)) cs))
+      split t e = ap (λ (b : Bool). growth (cond b (replacement at (suc at) 0 (spacesAt s c) ∷ tabRecords s (columnAfter s c ch) (suc at) cs) (tabRecords s (columnAfter s c ch) (at + length (ch .text)) cs))) e
+
+      most : (n : ℕ) → tabCount (ch .text ++ bytesOf cs) ≡ n → growth (tabRecords s c at (ch ∷ cs)) ≤ n * (s - 1) → growth (tabRecords s c at (ch ∷ cs)) ≤ tabCount (ch .text ++ bytesOf cs) * (s - 1)
+      most n e h = subst (λ (k : ℕ). growth (tabRecords s c at (ch ∷ cs)) ≤ k * (s - 1)) (sym e) h
+
+      counted : (t : List ℕ) → ch .text ≡ t → tabCount (ch .text ++ bytesOf cs) ≡ tabCount (t ++ bytesOf cs)
+      counted t x = ap (λ (b : List ℕ). tabCount (b ++ bytesOf cs)) x
+
+      go : Sort ch → Later (suc at) → Later (at + length (ch .text)) → growth (tabRecords s c at (ch ∷ cs)) ≤ tabCount (ch .text ++ bytesOf cs) * (s - 1)
+      go (tab t x) f g = most (1 + m) (counted (0x09 ∷ []) x) (omega (arith, split true t, f, add-mul 1 m (s - 1), one-mul (s - 1), some-spaces s c low .1))
+      go (newline t u x) f g = most m (counted (0x0A ∷ []) x ∙ omega arith) (omega (arith, split false t, g))
+      go (other t u x) f g = most m (count-plain (ch .text) (bytesOf cs) x) (omega (arith, split false t, g))
+
+module _ (s : ℕ) (low : 1 ≤ s) (high : s ≤ 64) (ds : List ℕ) where
+  pub size-most : length (editData (tabOps s 0 (chars ds)) ds) ≤ length ds + tabCount ds * (s - 1)
+  size-most = omega (arith, expanded-size s low high ds, rw (bytes-chars ds) at (growth-most s low 0 0 (chars ds) (valid-chars ds)))
+
+  -- and it is a number that fits
+  pub most-small : (n : ℕ) → n ≤ 1048576 → n * (s - 1) ≤ 66060288
+  most-small n h = let k : s - 1 ≤ 63 = omega (arith, high) in omega (arith, mul-le-mul h k)
 
 -- ── writing: the records and the definition
 module _ (s : ℕ) (low : 1 ≤ s) (high : s ≤ 64) (ds ns ts new : List ℕ) (blanks : new ≡ spaces 64) where

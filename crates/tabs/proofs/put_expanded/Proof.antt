@@ -3,8 +3,10 @@ use native.Mathlib.Omega.{arith}
 use borrow.Author.Needs.{needs}
 use mathlib.Core.Path.{_≡_, refl, sym, ap, subst, _∙_}
 use mathlib.Core.List.{List, _∷_}
-use Prim.Native.Nat.{ℕ, _+_, _-_, _≤_, _<_}
+use Prim.Native.Nat.{ℕ, _+_, _-_, _*_, _≤_, _<_}
 use lib.ListN.{length}
+use Rattle.buffer.specs.Place.{part}
+use Rattle.buffer.proofs.Laws.{length-part}
 use Rattle.recording.specs.Recording.{recording, Item, items}
 use Rattle.recording.specs.Edit.{edit}
 use Rattle.writer.specs.Write.{out, add, blank, Fits}
@@ -13,6 +15,9 @@ use Rattle.layout.specs.declared.Replacement.{Replacement}
 use Rattle.layout.specs.Tabs.{spacesAt}
 use Rattle.layout.specs.Layout.{replaceOps}
 use Rattle.replace.specs.Records.{replacement}
+use Rattle.replace.specs.Turn.{Turn}
+use Rattle.replace.proofs.RecordLaws.{Good}
+use Rattle.replace.proofs.TurnLaws.{is-good, room-keep, room-put, room-skip, ready-skip, turned, bytes-room, part-wrote}
 use Rattle.replace.proofs.PlanLaws.{State, state-first, long-now, may-turn, state-next, within, room-last, finish}
 use Rattle.tabs.specs.Tabs.{tabsFrom, place}
 use Rattle.tabs.proofs.RecordLaws.{AtTab, at-tab, tab-next, tab-then, tab-end, records-whole, records-good}
@@ -20,10 +25,11 @@ use Rattle.tabs.proofs.put_expanded.Statement.{statement}
 use Rattle.tabs.proofs.put_expanded.Tie as tie
 use Rattle.tabs.proofs.put_expanded.Reads as reads
 use Rattle.tabs.proofs.put_expanded.Lts as lts
-use Rattle.replace.proofs.write_step.Reads as write-step-reads
 use Rattle.tabs.proofs.next_tab.Reads as next-tab-reads
 use Rattle.tabs.proofs.spaces_at.Reads as spaces-at-reads
 use Rattle.writer.proofs.keep.Reads as keep-reads
+use Rattle.writer.proofs.put_bytes.Reads as put-bytes-reads
+use Rattle.writer.proofs.skip.Reads as skip-reads
 
 abbrev Inv-loop : tie.InvT-loop
 Inv-loop t content entries text stop blanks bytes₀ numbers₀ texts₀ c₀ p₀ bytes numbers texts c p =
@@ -71,66 +77,138 @@ loop-holds c =
 spaces-at-requires : tie.Need-spaces-at-requires Inv-loop μ-loop
 spaces-at-requires c κs = start (c .before .before) .pre .1 .0 .0
 
--- at a tab: its record is the next one
+-- ── at a tab: one turn of a replacement record
+abbrev tab-record : tie.At-loop Inv-loop μ-loop → ℕ → Replacement
+tab-record l n = replacement (l .loop .p .at) (l .loop .p .at + 1) 0 n
+
+-- its record is the next one
 first-tab : (l : tie.At-loop Inv-loop μ-loop) → l .loop .p .at < length (start l .args .content .now) → (n : ℕ) → n ≡ spacesAt (start l .args .stop) (l .loop .p .column)
-    → tabsFrom (start l .args .stop) (start l .args .content .now) (l .loop .p) ≡ replacement (l .loop .p .at) (l .loop .p .at + 1) 0 n
-    ∷ tabsFrom (start l .args .stop) (start l .args .content .now) (place (l .loop .p .at + 1) (l .loop .p .column + n))
+    → tabsFrom (start l .args .stop) (start l .args .content .now) (l .loop .p)
+    ≡ tab-record l n ∷ tabsFrom (start l .args .stop) (start l .args .content .now) (place (l .loop .p .at + 1) (l .loop .p .column + n))
 first-tab l h n e =
     let a = start l .args in
     let p = l .loop .p in
     tab-next (a .stop) (a .content .now) p h (l .loop .inv .0 .stands h)
     ∙ (λ i. replacement (p .at) (p .at + 1) 0 (sym e i) ∷ tabsFrom (a .stop) (a .content .now) (place (p .at + 1) (p .column + sym e i)))
 
-cast-next-tab : tie.Need-cast-next-tab Inv-loop μ-loop
-cast-next-tab c = omega (arith, limit (start (c .before .before .before .before)), c .before .before .before .before .loop .inv .0 .within)
-
-cast-t16 : tie.Need-cast-t16 Inv-loop μ-loop
-cast-t16 c = omega (arith, limit (start (c .before .before .before .before .before)), c .before .before .before .before .before .loop .inv .0 .within)
-
-add-t17 : tie.Need-add-t17 Inv-loop μ-loop
-add-t17 c = omega (arith, limit (start (c .before .before .before .before .before)), c .before .before .before .before .before .loop .inv .0 .within)
-
-write-step-requires : tie.Need-write-step-requires Inv-loop μ-loop
-write-step-requires c κs =
-    let l = c .before .before .before .before .before .before .before .before in
+-- and there is room for its turn
+turn : (l : tie.At-loop Inv-loop μ-loop) → l .loop .p .at < length (start l .args .content .now) → (n : ℕ) → n ≡ spacesAt (start l .args .stop) (l .loop .p .column)
+    → Turn (start l .args .content .now) (start l .args .entries .now) (start l .args .text .now) (start l .args .blanks .now) (tab-record l n) (l .loop .c)
+    (out (l .loop .bytes) (l .loop .numbers) (l .loop .texts) (l .loop .c))
+turn l h n e =
     let a = start l .args in
-    let n = c .before .before .before .before .before .spaces-at in
-    let p = l .loop .p in
-    may-turn (a .content .now) (a .entries .now) (a .text .now) (a .blanks .now) (tabsFrom (a .stop) (a .content .now) (place 0 0)) _ _ _ _ (l .loop .inv .1) (room (start l))
-    (replacement (p .at) (p .at + 1) 0 (n .result)) _ (first-tab l (omega (arith, c .before .before .before .before .before .before .if1 .taken)) (n .result) (n .ensures .0))
+    may-turn (a .content .now) (a .entries .now) (a .text .now) (a .blanks .now) (tabsFrom (a .stop) (a .content .now) (place 0 0)) _ _ _ _ (l .loop .inv .1) (room (start l)) (tab-record l n) _ (first-tab l h n e)
 
-add-next-tab : tie.Need-add-next-tab Inv-loop μ-loop
-add-next-tab c = omega (arith, limit (start (c .before .before .before .before .before .before .before .before .before .before .before .before .before .before .before .before)), c .before .before .before .before .before .before .before .before .before .before .before .before .before .before .before .before .loop .inv .0 .within)
+-- the places of its three steps: the content up to the tab is kept, the spaces are in, the tab is passed
+abbrev head : tie.After-keep Inv-loop μ-loop → tie.At-loop Inv-loop μ-loop
+head c = c .before .before .before .before .before .before .before
 
-add-next-tab-2 : tie.Need-add-next-tab-2 Inv-loop μ-loop
-add-next-tab-2 c =
-    let s = start (c .before .before .before .before .before .before .before .before .before .before .before .before .before .before .before .before .before) in
-    omega (arith, limit s, c .before .before .before .before .before .before .before .before .before .before .before .before .before .before .before .before .before .loop .inv .0 .within, c .before .before .before .before .before .before .before .before .before .before .before .before .before .before .before .before .before .loop .inv .0 .bounded, s .pre .1 .0 .1, c .before .before .before .before .before .before .before .before .before .before .before .before .before .before .spaces-at .ensures .2)
+abbrev many : tie.After-keep Inv-loop μ-loop → ℕ
+many c = c .before .before .before .before .spaces-at .result
 
-next-tab-requires-2 : tie.Need-next-tab-requires-2 Inv-loop μ-loop
-next-tab-requires-2 c κs =
-    let l = c .before .before .before .before .before .before .before .before .before .before .before .before .before .before .before .before .before in
-    let s = start l in
-    (s .pre .0 .0, (omega (arith, c .before .before .before .before .before .before .before .before .before .before .before .before .before .before .before .if1 .taken), limit s, omega (arith, l .loop .inv .0 .bounded, s .pre .1 .0 .1, c .before .before .before .before .before .before .before .before .before .before .before .before .before .before .spaces-at .ensures .2)))
+abbrev kept : tie.After-put-bytes Inv-loop μ-loop → tie.After-keep Inv-loop μ-loop
+kept c = c .before .before .before .before .before .before .before .before
 
-loop-less : tie.Need-loop-less Inv-loop μ-loop
-loop-less c = omega (arith, c .next-tab2 .ensures .onward .forward, c .before .before .before .before .before .before .before .before .before .before .before .before .before .before .before .before .if1 .taken)
+abbrev put-in : tie.After-skip Inv-loop μ-loop → tie.After-put-bytes Inv-loop μ-loop
+put-in c = c .before .before .before .before .before .before .before
 
-loop-again : tie.Need-loop-again Inv-loop μ-loop
-loop-again c =
-    let l = c .before .before .before .before .before .before .before .before .before .before .before .before .before .before .before .before .before .before in
-    let a = start l .args in
-    let n = c .before .before .before .before .before .before .before .before .before .before .before .before .before .before .before .spaces-at in
-    let p = l .loop .p in
-    let r = c .next-tab2 in (
-      at-tab (a .content .now) (p .at + 1) (p .column + n .result) (r .result) (r .ensures),
-      state-next (a .content .now) (a .entries .now) (a .text .now) (a .blanks .now) (tabsFrom (a .stop) (a .content .now) (place 0 0)) _ _ _ _ (l .loop .inv .1) (room (start l))
-          (replacement (p .at) (p .at + 1) 0 (n .result)) _
-          (tab-then (a .stop) (a .content .now) p (r .result) (n .result) (l .loop .inv .0) (omega (arith, c .before .before .before .before .before .before .before .before .before .before .before .before .before .before .before .before .if1 .taken)) (n .ensures .0) (r .ensures)) _ _ (c .before .before .before .before .before .before .before .before .before .write-step .ensures),
-    )
+inside : (k : tie.After-keep Inv-loop μ-loop) → head k .loop .p .at < length (start (head k) .args .content .now)
+inside k = omega (arith, k .before .before .before .before .before .if1 .taken)
+
+the-turn : (k : tie.After-keep Inv-loop μ-loop) → Turn (start (head k) .args .content .now) (start (head k) .args .entries .now) (start (head k) .args .text .now)
+    (start (head k) .args .blanks .now) (tab-record (head k) (many k)) (head k .loop .c) (out (head k .loop .bytes) (head k .loop .numbers) (head k .loop .texts) (head k .loop .c))
+the-turn k = turn (head k) (inside k) (many k) (k .before .before .before .before .spaces-at .ensures .0)
+
+good-tab : (k : tie.After-keep Inv-loop μ-loop) → Good (head k .loop .c .at) (length (start (head k) .args .content .now)) (length (start (head k) .args .blanks .now)) (tab-record (head k) (many k))
+good-tab k =
+    let a = start (head k) .args in
+    is-good (a .content .now) (a .entries .now) (a .text .now) (a .blanks .now) (tab-record (head k) (many k)) (head k .loop .c) _ (the-turn k)
 
 keep-requires : tie.Need-keep-requires Inv-loop μ-loop
 keep-requires c κs =
+    let l = c .before .before .before .before .before .before in
+    let a = start l .args in
+    let n = c .before .before .before .spaces-at in
+    let h : l .loop .p .at < length (a .content .now) = omega (arith, c .before .before .before .before .if1 .taken) in
+    let t = turn l h (n .result) (n .ensures .0) in
+    let x = tab-record l (n .result) in
+    (t .ready, ((is-good (a .content .now) (a .entries .now) (a .text .now) (a .blanks .now) x (l .loop .c) _ t .low, omega (arith, h)), room-keep (a .content .now) (a .entries .now) (a .text .now) (a .blanks .now) x (l .loop .c) _ t))
+
+cast-put-bytes : tie.Need-cast-put-bytes Inv-loop μ-loop
+cast-put-bytes c = search needs
+
+put-bytes-requires : tie.Need-put-bytes-requires Inv-loop μ-loop
+put-bytes-requires c κs =
+    let k = c .before .before .before .before .before .before .before in
+    let a = start (head k) .args in
+    let g = good-tab k in
+    let f = room-put (a .content .now) (a .entries .now) (a .text .now) (a .blanks .now) (tab-record (head k) (many k)) (head k .loop .c) _ (the-turn k) _ (k .keep .ensures .0) in
+    (g .part, g .within, bytes-room _ _ _ (part 0 (many k) (a .blanks .now)) (k .keep .result) _ (length-part 0 (many k) (a .blanks .now) (g .within)) f)
+
+add-skip : tie.Need-add-skip Inv-loop μ-loop
+add-skip c = let k = kept (c .before .before .before .before .before .before) in omega (arith, inside k, limit (start (head k)))
+
+skip-requires : tie.Need-skip-requires Inv-loop μ-loop
+skip-requires c κs =
+    let q = c .before .before .before .before .before .before in
+    let k = kept q in
+    let a = start (head k) .args in
+    let x = tab-record (head k) (many k) in
+    let b = q .put-bytes in
+    let r = k .keep in
+    let g = good-tab k in
+    let wrote = part-wrote _ _ _ _ (a .blanks .now) (k .keep .result) (b .result) 0 (many k) (good-tab k .within) (b .ensures .1) (b .ensures .0) in (
+      ready-skip (a .content .now) (a .entries .now) (a .text .now) (a .blanks .now) x (head k .loop .c) _ (the-turn k) _ (r .ensures .0) _ wrote (r .result) (b .result) (b .ensures .0 .0) (b .ensures .0 .1)
+          (r .ensures .1 .1 .1) (r .ensures .1 .0) (r .ensures .1 .1 .0),
+      (
+        (omega (arith, b .ensures .0 .0, r .ensures .1 .1 .1, g .order), g .high),
+        room-skip (a .content .now) (a .entries .now) (a .text .now) (a .blanks .now) x (head k .loop .c) _ (the-turn k) _ (r .ensures .0) _ wrote (r .result) (b .result) (b .ensures .0 .0) (b .ensures .0 .1)
+            (r .ensures .1 .1 .1) (r .ensures .1 .0),
+      ),
+    )
+
+add-next-tab : tie.Need-add-next-tab Inv-loop μ-loop
+add-next-tab c = let k = kept (put-in (c .before .before .before .before .before .before .before)) in omega (arith, inside k, limit (start (head k)))
+
+-- the column behind the spaces is within the bound
+column-in : (k : tie.After-keep Inv-loop μ-loop) → head k .loop .p .column + many k ≤ 64 * (head k .loop .p .at + 1)
+column-in k =
+    omega (arith, head k .loop .inv .0 .bounded, start (head k) .pre .1 .0 .1, k .before .before .before .before .spaces-at .ensures .2)
+
+add-next-tab-2 : tie.Need-add-next-tab-2 Inv-loop μ-loop
+add-next-tab-2 c = let k = kept (put-in (c .before .before .before .before .before .before .before .before)) in omega (arith, column-in k, inside k, limit (start (head k)))
+
+next-tab-requires-2 : tie.Need-next-tab-requires-2 Inv-loop μ-loop
+next-tab-requires-2 c κs =
+    let k = kept (put-in (c .before .before .before .before .before .before .before .before)) in
+    let s = start (head k) in
+    (s .pre .0 .0, (omega (arith, inside k), limit s, column-in k))
+
+loop-less : tie.Need-loop-less Inv-loop μ-loop
+loop-less c = let k = kept (put-in (c .before .before .before .before .before .before .before .before .before)) in omega (arith, c .next-tab2 .ensures .onward .forward, inside k)
+
+loop-again : tie.Need-loop-again Inv-loop μ-loop
+loop-again c =
+    let w = c .before .before .before .before .before .before .before .before .before in
+    let q = put-in w in
+    let k = kept q in
+    let l = head k in
+    let a = start l .args in
+    let p = l .loop .p in
+    let n = many k in
+    let r = c .next-tab2 in
+    let b = q .put-bytes in
+    let wrote = part-wrote _ _ _ _ (a .blanks .now) (k .keep .result) (b .result) 0 (many k) (good-tab k .within) (b .ensures .1) (b .ensures .0) in
+    let t = turned (a .content .now) (a .entries .now) (a .text .now) (a .blanks .now) (tab-record l n) (l .loop .c) _ (the-turn k) _ (k .keep .ensures .0) _ wrote (k .keep .result) (b .result) (b .ensures .0 .0) (b .ensures .0 .1)
+    (k .keep .ensures .1 .1 .1) (k .keep .ensures .1 .0) _ _ (w .skip .ensures .0) (w .skip .ensures .1 .0) (w .skip .ensures .1 .1 .0) (w .skip .ensures .1 .1 .1) in (
+      at-tab (a .content .now) (p .at + 1) (p .column + n) (r .result) (r .ensures),
+      state-next (a .content .now) (a .entries .now) (a .text .now) (a .blanks .now) (tabsFrom (a .stop) (a .content .now) (place 0 0)) _ _ _ _ (l .loop .inv .1) (room (start l)) (tab-record l n) _
+          (tab-then (a .stop) (a .content .now) p (r .result) n (l .loop .inv .0) (inside k) (k .before .before .before .before .spaces-at .ensures .0) (r .ensures)) _ _ t,
+    )
+
+-- ── behind the last tab
+keep-requires-2 : tie.Need-keep-requires-2 Inv-loop μ-loop
+keep-requires-2 c κs =
     let l = c .before .before .before .before .before in
     let a = start l .args in
     let s = l .loop .inv .1 in
@@ -145,15 +223,15 @@ longer l =
 
 same-length : tie.Need-same-length Inv-loop μ-loop
 unfolding out
-same-length c = c .before .before .before .before .before .before .keep .kept .0 ∙ longer (c .before .before .before .before .before .before .before .before .before .before .before .before) .dataBytes
+same-length c = c .before .before .before .before .before .before .keep2 .kept .0 ∙ longer (c .before .before .before .before .before .before .before .before .before .before .before .before) .dataBytes
 
 same-length-2 : tie.Need-same-length-2 Inv-loop μ-loop
 unfolding out
-same-length-2 c = c .before .before .before .before .before .before .keep .kept .1 .0 ∙ longer (c .before .before .before .before .before .before .before .before .before .before .before .before) .entryNumbers
+same-length-2 c = c .before .before .before .before .before .before .keep2 .kept .1 .0 ∙ longer (c .before .before .before .before .before .before .before .before .before .before .before .before) .entryNumbers
 
 same-length-3 : tie.Need-same-length-3 Inv-loop μ-loop
 unfolding out
-same-length-3 c = c .before .before .before .before .before .before .keep .kept .1 .1 .0 ∙ longer (c .before .before .before .before .before .before .before .before .before .before .before .before) .text
+same-length-3 c = c .before .before .before .before .before .before .keep2 .kept .1 .1 .0 ∙ longer (c .before .before .before .before .before .before .before .before .before .before .before .before) .text
 
 returns : tie.Need-returns Inv-loop μ-loop
 returns c =
@@ -162,7 +240,7 @@ returns c =
     let a = s .args in
     let p = s .pre in
     let e = tab-end (a .stop) (a .content .now) (l .loop .p) (omega (arith, c .before .before .before .before .before .before .before .before .before .before .if1 .left)) in
-    finish (a .content .now) (a .entries .now) (a .text .now) (a .blanks .now) (tabsFrom (a .stop) (a .content .now) (place 0 0)) _ _ _ _ (l .loop .inv .1) (room s) e _ (c .before .before .before .before .before .before .keep .ensures .0)
+    finish (a .content .now) (a .entries .now) (a .text .now) (a .blanks .now) (tabsFrom (a .stop) (a .content .now) (place 0 0)) _ _ _ _ (l .loop .inv .1) (room s) e _ (c .before .before .before .before .before .before .keep2 .ensures .0)
     ∙ ap (λ (is : List Item). add is (blank (a .bytes .now) (a .numbers .now) (a .texts .now)))
     (sym (records-whole (a .stop) (p .1 .0 .0) (p .1 .0 .1) (a .content .now) (a .entries .now) (a .text .now) (a .blanks .now) (p .0 .1)))
 
@@ -175,16 +253,17 @@ put-expanded-spec =
     next-tab-requires
     loop-holds
     spaces-at-requires
-    cast-next-tab
-    cast-t16
-    add-t17
-    write-step-requires
+    keep-requires
+    cast-put-bytes
+    put-bytes-requires
+    add-skip
+    skip-requires
     add-next-tab
     add-next-tab-2
     next-tab-requires-2
     loop-less
     loop-again
-    keep-requires
+    keep-requires-2
     same-length
     same-length-2
     same-length-3

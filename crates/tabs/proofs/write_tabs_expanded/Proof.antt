@@ -1,31 +1,25 @@
 -- The promise of `expandTabs`: each refusal is found in its order, and what is sized and written is the call's edit of the content (`AloneLaws` of `outcomes`).
 use native.Mathlib.Omega.{arith}
 use borrow.Author.Needs.{needs}
-use mathlib.Core.Path.{_≡_, refl, ap, _∙_}
+use mathlib.Core.Path.{_≡_, refl}
 use mathlib.Core.List.{List}
 use Prim.Native.Nat.{ℕ, _≤_}
-use lib.ListN.{length}
 use Rattle.buffer.specs.Place.{over}
 use Rattle.chars.specs.Leads.{leadTable}
 use Rattle.recording.specs.declared.Refusal.the-variants.{TabStop}
-use Rattle.recording.specs.Edit.{editData}
-use Rattle.recording.specs.Outcome.{Lent, roomIn}
-use Rattle.recording.specs.Refusals.{numberOf}
-use Rattle.writer.specs.Sizes.{sizesFault, settledFault}
-use Rattle.layout.specs.Layout.{Single, writeTabsExpanded, singleOps, singleFault, number}
+use Rattle.recording.specs.Outcome.{Lent}
+use Rattle.layout.specs.Layout.{Single, writeTabsExpanded, singleFault, number}
 use Rattle.layout.specs.Lent.{lentOf}
 use Rattle.outcomes.proofs.SecondLaws.{Fine}
 use Rattle.outcomes.proofs.AloneLaws.{content-refused, content-fine, own-refused, sizes-refused, has-room, written}
-use Rattle.replace.proofs.ScanLaws.{capped-fault}
 use Rattle.tabs.proofs.RecordLaws.{stop-zero, stop-over, stop-fine}
 use Rattle.tabs.proofs.write_tabs_expanded.Statement.{statement}
 use Rattle.tabs.proofs.write_tabs_expanded.Tie as tie
 use Rattle.tabs.proofs.write_tabs_expanded.Reads as reads
 use Rattle.tabs.proofs.write_tabs_expanded.Lts as lts
 use Rattle.recording_check.proofs.check.Reads as check-reads
-use Rattle.tabs.proofs.expanded_len.Reads as expanded-len-reads
 use Rattle.tabs.proofs.put_expanded.Reads as put-expanded-reads
-use Rattle.writer.proofs.settle.Reads as settle-reads
+use Rattle.tabs.proofs.settle_expanded.Reads as settle-expanded-reads
 
 -- ── the places on the way, and what is known there
 -- what the call was given
@@ -69,17 +63,8 @@ good c =
     (low, high, stop-fine n low high)
 
 -- once the sizes are settled
-abbrev tested : tie.After-settle → tie.Else2
-tested c = c .before .before .before
-
-sized : (c : tie.After-settle) → settledFault (c .settle .result)
-    ≡ sizesFault (length (editData (singleOps (call (start (checked (tested c)))) (ds (start (checked (tested c))))) (ds (start (checked (tested c))))))
-    (length (ns (start (checked (tested c))))) (size (checked (tested c))) 0 (roomIn (lent (start (checked (tested c)))))
-sized c =
-    let k = checked (tested c) in
-    let s = start k in
-    let d = length (editData (singleOps (call s) (ds s)) (ds s)) in
-    c .settle .ensures ∙ ap (λ (m : ℕ). sizesFault m (length (ns s)) (size k) 0 (roomIn (lent s))) (c .before .expanded-len .ensures) ∙ capped-fault d (length (ns s)) (size k) 0 (roomIn (lent s))
+abbrev tested : tie.After-settle-expanded → tie.Else2
+tested c = c .before .before
 
 -- ── what is asked on the way
 check-requires : tie.Need-check-requires
@@ -109,15 +94,12 @@ returns-3 c =
     let s = start k in
     own-refused (call s) (ds s) (ns s) (ts s) (lent s) (size k) (fine k .passed) (fine k .text-size) TabStop (stop-over (s .args .stop) (omega (arith, c .if2 .taken)))
 
-expanded-len-requires : tie.Need-expanded-len-requires
+settle-expanded-requires : tie.Need-settle-expanded-requires
 unfolding leadTable
-expanded-len-requires c κs =
+settle-expanded-requires c κs =
     let k = checked (c .before) in
     let g = good (c .before) in
     (refl, (g .0, g .1, fine k .whole .short))
-
-settle-requires : tie.Need-settle-requires
-settle-requires c κs = search needs
 
 enum-known-verdict : tie.Need-enum-known-verdict
 enum-known-verdict c = search needs
@@ -127,7 +109,7 @@ returns-4 c =
     let p = c .before .before .before in
     let k = checked (tested p) in
     let s = start k in
-    sizes-refused (call s) (ds s) (ns s) (ts s) (lent s) (size k) (fine k .passed) (fine k .text-size) (good (tested p) .2) _ 0 refl refl (p .settle .result) (sized p)
+    sizes-refused (call s) (ds s) (ns s) (ts s) (lent s) (size k) (fine k .passed) (fine k .text-size) (good (tested p) .2) _ 0 refl refl (p .settle-expanded .result) (p .settle-expanded .ensures)
     (c .before .verdict .given .0 .0) (c .before .verdict .given .1)
 
 enum-told : tie.Need-enum-told
@@ -149,7 +131,7 @@ put-expanded-requires c κs =
     let k = checked (tested p) in
     let s = start k in
     let g = good (tested p) in
-    let room = has-room (call s) (ds s) (ns s) (ts s) (lent s) (size k) (fine k .passed) (fine k .text-size) (good (tested p) .2) _ 0 refl refl (p .settle .result) (sized p)
+    let room = has-room (call s) (ds s) (ns s) (ts s) (lent s) (size k) (fine k .passed) (fine k .text-size) (good (tested p) .2) _ 0 refl refl (p .settle-expanded .result) (p .settle-expanded .ensures)
     (c .before .before .before .before .before .before .enum-told .given .1) in
     ((refl, refl, fine k .whole), ((g .0, g .1), room))
 
@@ -169,7 +151,7 @@ returns-5 c =
     let p = c .before .before .before .before .before .before .before .before .before .before .before .before .before .before .before in
     let k = checked (tested p) in
     let s = start k in
-    written (call s) (ds s) (ns s) (ts s) (lent s) (size k) (fine k .passed) (fine k .text-size) (good (tested p) .2) _ 0 refl refl (p .settle .result) (sized p)
+    written (call s) (ds s) (ns s) (ts s) (lent s) (size k) (fine k .passed) (fine k .text-size) (good (tested p) .2) _ 0 refl refl (p .settle-expanded .result) (p .settle-expanded .ensures)
     (c .before .before .before .before .before .before .before .before .before .before .before .before .before .enum-told .given .1)
     0 _ _ _ _ (w .result) refl (w .ensures) refl
 
@@ -183,8 +165,7 @@ write-tabs-expanded-spec =
     enum-known-checked-2
     returns-2
     returns-3
-    expanded-len-requires
-    settle-requires
+    settle-expanded-requires
     enum-known-verdict
     returns-4
     enum-told
