@@ -55,8 +55,9 @@ add-next-tab c = omega (arith, c .before .before .before .before .before .loop .
 
 add-next-tab-2 : tie.Need-add-next-tab-2 Inv-loop μ-loop
 add-next-tab-2 c =
-    let s = start (c .before .before .before .before .before .before) in
-    omega (arith, c .before .before .before .before .before .before .loop .inv .here .within, c .before .before .before .before .before .before .loop .inv .here .bounded, s .pre .1 .1, s .pre .1 .2, c .before .before .before .spaces-at .ensures .2)
+    let l = c .before .before .before .before .before .before in
+    let s = start l in
+    omega (arith, l .loop .inv .here .within, l .loop .inv .here .bounded, s .pre .1 .1, s .pre .1 .2, c .before .before .before .spaces-at .ensures .2)
 
 next-tab-requires-2 : tie.Need-next-tab-requires-2 Inv-loop μ-loop
 next-tab-requires-2 c κs =

@@ -1,7 +1,7 @@
 -- Invariant: each byte so far was a character of width 1 and no tab (`printable-passed`).
 use native.Mathlib.Omega.{arith}
 use borrow.Author.Needs.{needs}
-use Prim.Native.Nat.{ℕ, _+_, _-_}
+use Prim.Native.Nat.{ℕ, _+_, _-_, _<_}
 use mathlib.Core.Path.{subst}
 use lib.ListN.{length}
 use Rattle.tabs.specs.Tabs.{place, Onward}
@@ -36,8 +36,10 @@ loop-less c = omega (arith, c .before .before .before .before .loop-test)
 
 loop-again : tie.Need-loop-again Inv-loop μ-loop
 loop-again c =
-    let a = c .before .before .before .before .before .before .args in
-    printable-passed (a .s .now) (a .from) (a .column) (c .before .before .before .before .before .loop .i) (omega (arith, c .before .before .before .before .loop-test)) (omega (arith, c .before .before .if1 .left)) (omega (arith, c .if2 .left)) (c .before .before .before .before .before .loop .inv)
+    let l = c .before .before .before .before .before in
+    let a = l .before .args in
+    let more : l .loop .i < length (a .s .now) = omega (arith, c .before .before .before .before .loop-test) in
+    printable-passed (a .s .now) (a .from) (a .column) (l .loop .i) more (omega (arith, c .before .before .if1 .left)) (omega (arith, c .if2 .left)) (l .loop .inv)
 
 sub-t10 : tie.Need-sub-t10 Inv-loop μ-loop
 sub-t10 c = c .before .loop .inv .forward

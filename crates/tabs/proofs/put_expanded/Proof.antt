@@ -43,7 +43,23 @@ abbrev μ-loop : tie.MeasureT-loop
 abbrev start : tie.At-loop Inv-loop μ-loop → tie.Start Inv-loop μ-loop
 start c = c .before .before .before .before .before .before .before .before .before
 
--- what the function was given: the data is within its limit, and there is room for the records' edit
+-- what the function was given
+abbrev ds : tie.Start Inv-loop μ-loop → List ℕ
+ds s = s .args .content .now
+
+abbrev ns : tie.Start Inv-loop μ-loop → List ℕ
+ns s = s .args .entries .now
+
+abbrev ts : tie.Start Inv-loop μ-loop → List ℕ
+ts s = s .args .text .now
+
+abbrev new : tie.Start Inv-loop μ-loop → List ℕ
+new s = s .args .blanks .now
+
+abbrev all : tie.Start Inv-loop μ-loop → List Replacement
+all s = tabsFrom (s .args .stop) (ds s) (place 0 0)
+
+-- the data is within its limit, and there is room for the records' edit
 limit : (s : tie.Start Inv-loop μ-loop) → length (s .args .content .now) ≤ 1048576
 limit s = s .pre .0 .2 .short
 
@@ -82,22 +98,22 @@ abbrev tab-record : tie.At-loop Inv-loop μ-loop → ℕ → Replacement
 tab-record l n = replacement (l .loop .p .at) (l .loop .p .at + 1) 0 n
 
 -- its record is the next one
-first-tab : (l : tie.At-loop Inv-loop μ-loop) → l .loop .p .at < length (start l .args .content .now) → (n : ℕ) → n ≡ spacesAt (start l .args .stop) (l .loop .p .column)
-    → tabsFrom (start l .args .stop) (start l .args .content .now) (l .loop .p)
-    ≡ tab-record l n ∷ tabsFrom (start l .args .stop) (start l .args .content .now) (place (l .loop .p .at + 1) (l .loop .p .column + n))
+first-tab : (l : tie.At-loop Inv-loop μ-loop) → l .loop .p .at < length (ds (start l)) → (n : ℕ) → n ≡ spacesAt (start l .args .stop) (l .loop .p .column)
+    → tabsFrom (start l .args .stop) (ds (start l)) (l .loop .p)
+    ≡ tab-record l n ∷ tabsFrom (start l .args .stop) (ds (start l)) (place (l .loop .p .at + 1) (l .loop .p .column + n))
 first-tab l h n e =
-    let a = start l .args in
+    let s = start l in
     let p = l .loop .p in
-    tab-next (a .stop) (a .content .now) p h (l .loop .inv .0 .stands h)
-    ∙ (λ i. replacement (p .at) (p .at + 1) 0 (sym e i) ∷ tabsFrom (a .stop) (a .content .now) (place (p .at + 1) (p .column + sym e i)))
+    tab-next (s .args .stop) (ds s) p h (l .loop .inv .0 .stands h)
+    ∙ (λ i. replacement (p .at) (p .at + 1) 0 (sym e i) ∷ tabsFrom (s .args .stop) (ds s) (place (p .at + 1) (p .column + sym e i)))
 
 -- and there is room for its turn
-turn : (l : tie.At-loop Inv-loop μ-loop) → l .loop .p .at < length (start l .args .content .now) → (n : ℕ) → n ≡ spacesAt (start l .args .stop) (l .loop .p .column)
-    → Turn (start l .args .content .now) (start l .args .entries .now) (start l .args .text .now) (start l .args .blanks .now) (tab-record l n) (l .loop .c)
+turn : (l : tie.At-loop Inv-loop μ-loop) → l .loop .p .at < length (ds (start l)) → (n : ℕ) → n ≡ spacesAt (start l .args .stop) (l .loop .p .column)
+    → Turn (ds (start l)) (ns (start l)) (ts (start l)) (new (start l)) (tab-record l n) (l .loop .c)
     (out (l .loop .bytes) (l .loop .numbers) (l .loop .texts) (l .loop .c))
 turn l h n e =
-    let a = start l .args in
-    may-turn (a .content .now) (a .entries .now) (a .text .now) (a .blanks .now) (tabsFrom (a .stop) (a .content .now) (place 0 0)) _ _ _ _ (l .loop .inv .1) (room (start l)) (tab-record l n) _ (first-tab l h n e)
+    let s = start l in
+    may-turn (ds s) (ns s) (ts s) (new s) (all s) _ _ _ _ (l .loop .inv .1) (room s) (tab-record l n) _ (first-tab l h n e)
 
 -- the places of its three steps: the content up to the tab is kept, the spaces are in, the tab is passed
 abbrev head : tie.After-keep Inv-loop μ-loop → tie.At-loop Inv-loop μ-loop
@@ -112,27 +128,28 @@ kept c = c .before .before .before .before .before .before .before .before
 abbrev put-in : tie.After-skip Inv-loop μ-loop → tie.After-put-bytes Inv-loop μ-loop
 put-in c = c .before .before .before .before .before .before .before
 
-inside : (k : tie.After-keep Inv-loop μ-loop) → head k .loop .p .at < length (start (head k) .args .content .now)
+inside : (k : tie.After-keep Inv-loop μ-loop) → head k .loop .p .at < length (ds (start (head k)))
 inside k = omega (arith, k .before .before .before .before .before .if1 .taken)
 
-the-turn : (k : tie.After-keep Inv-loop μ-loop) → Turn (start (head k) .args .content .now) (start (head k) .args .entries .now) (start (head k) .args .text .now)
-    (start (head k) .args .blanks .now) (tab-record (head k) (many k)) (head k .loop .c) (out (head k .loop .bytes) (head k .loop .numbers) (head k .loop .texts) (head k .loop .c))
+the-turn : (k : tie.After-keep Inv-loop μ-loop) → Turn (ds (start (head k))) (ns (start (head k))) (ts (start (head k)))
+    (new (start (head k))) (tab-record (head k) (many k)) (head k .loop .c) (out (head k .loop .bytes) (head k .loop .numbers) (head k .loop .texts) (head k .loop .c))
 the-turn k = turn (head k) (inside k) (many k) (k .before .before .before .before .spaces-at .ensures .0)
 
-good-tab : (k : tie.After-keep Inv-loop μ-loop) → Good (head k .loop .c .at) (length (start (head k) .args .content .now)) (length (start (head k) .args .blanks .now)) (tab-record (head k) (many k))
+good-tab : (k : tie.After-keep Inv-loop μ-loop) → Good (head k .loop .c .at) (length (ds (start (head k)))) (length (new (start (head k)))) (tab-record (head k) (many k))
 good-tab k =
-    let a = start (head k) .args in
-    is-good (a .content .now) (a .entries .now) (a .text .now) (a .blanks .now) (tab-record (head k) (many k)) (head k .loop .c) _ (the-turn k)
+    let s = start (head k) in
+    is-good (ds s) (ns s) (ts s) (new s) (tab-record (head k) (many k)) (head k .loop .c) _ (the-turn k)
 
 keep-requires : tie.Need-keep-requires Inv-loop μ-loop
 keep-requires c κs =
     let l = c .before .before .before .before .before .before in
-    let a = start l .args in
+    let s = start l in
     let n = c .before .before .before .spaces-at in
-    let h : l .loop .p .at < length (a .content .now) = omega (arith, c .before .before .before .before .if1 .taken) in
+    let h : l .loop .p .at < length (ds s) = omega (arith, c .before .before .before .before .if1 .taken) in
     let t = turn l h (n .result) (n .ensures .0) in
     let x = tab-record l (n .result) in
-    (t .ready, ((is-good (a .content .now) (a .entries .now) (a .text .now) (a .blanks .now) x (l .loop .c) _ t .low, omega (arith, h)), room-keep (a .content .now) (a .entries .now) (a .text .now) (a .blanks .now) x (l .loop .c) _ t))
+    let g = is-good (ds s) (ns s) (ts s) (new s) x (l .loop .c) _ t in
+    (t .ready, ((g .low, omega (arith, h)), room-keep (ds s) (ns s) (ts s) (new s) x (l .loop .c) _ t))
 
 cast-put-bytes : tie.Need-cast-put-bytes Inv-loop μ-loop
 cast-put-bytes c = search needs
@@ -140,10 +157,10 @@ cast-put-bytes c = search needs
 put-bytes-requires : tie.Need-put-bytes-requires Inv-loop μ-loop
 put-bytes-requires c κs =
     let k = c .before .before .before .before .before .before .before in
-    let a = start (head k) .args in
+    let s = start (head k) in
     let g = good-tab k in
-    let f = room-put (a .content .now) (a .entries .now) (a .text .now) (a .blanks .now) (tab-record (head k) (many k)) (head k .loop .c) _ (the-turn k) _ (k .keep .ensures .0) in
-    (g .part, g .within, bytes-room _ _ _ (part 0 (many k) (a .blanks .now)) (k .keep .result) _ (length-part 0 (many k) (a .blanks .now) (g .within)) f)
+    let f = room-put (ds s) (ns s) (ts s) (new s) (tab-record (head k) (many k)) (head k .loop .c) _ (the-turn k) _ (k .keep .ensures .0) in
+    (g .part, g .within, bytes-room _ _ _ (part 0 (many k) (new s)) (k .keep .result) _ (length-part 0 (many k) (new s) (g .within)) f)
 
 add-skip : tie.Need-add-skip Inv-loop μ-loop
 add-skip c = let k = kept (c .before .before .before .before .before .before) in omega (arith, inside k, limit (start (head k)))
@@ -152,17 +169,17 @@ skip-requires : tie.Need-skip-requires Inv-loop μ-loop
 skip-requires c κs =
     let q = c .before .before .before .before .before .before in
     let k = kept q in
-    let a = start (head k) .args in
+    let s = start (head k) in
     let x = tab-record (head k) (many k) in
     let b = q .put-bytes in
     let r = k .keep in
     let g = good-tab k in
-    let wrote = part-wrote _ _ _ _ (a .blanks .now) (k .keep .result) (b .result) 0 (many k) (good-tab k .within) (b .ensures .1) (b .ensures .0) in (
-      ready-skip (a .content .now) (a .entries .now) (a .text .now) (a .blanks .now) x (head k .loop .c) _ (the-turn k) _ (r .ensures .0) _ wrote (r .result) (b .result) (b .ensures .0 .0) (b .ensures .0 .1)
+    let wrote = part-wrote _ _ _ _ (new s) (k .keep .result) (b .result) 0 (many k) (good-tab k .within) (b .ensures .1) (b .ensures .0) in (
+      ready-skip (ds s) (ns s) (ts s) (new s) x (head k .loop .c) _ (the-turn k) _ (r .ensures .0) _ wrote (r .result) (b .result) (b .ensures .0 .0) (b .ensures .0 .1)
           (r .ensures .1 .1 .1) (r .ensures .1 .0) (r .ensures .1 .1 .0),
       (
         (omega (arith, b .ensures .0 .0, r .ensures .1 .1 .1, g .order), g .high),
-        room-skip (a .content .now) (a .entries .now) (a .text .now) (a .blanks .now) x (head k .loop .c) _ (the-turn k) _ (r .ensures .0) _ wrote (r .result) (b .result) (b .ensures .0 .0) (b .ensures .0 .1)
+        room-skip (ds s) (ns s) (ts s) (new s) x (head k .loop .c) _ (the-turn k) _ (r .ensures .0) _ wrote (r .result) (b .result) (b .ensures .0 .0) (b .ensures .0 .1)
             (r .ensures .1 .1 .1) (r .ensures .1 .0),
       ),
     )
@@ -193,56 +210,60 @@ loop-again c =
     let q = put-in w in
     let k = kept q in
     let l = head k in
-    let a = start l .args in
+    let s = start l in
     let p = l .loop .p in
     let n = many k in
     let r = c .next-tab2 in
     let b = q .put-bytes in
-    let wrote = part-wrote _ _ _ _ (a .blanks .now) (k .keep .result) (b .result) 0 (many k) (good-tab k .within) (b .ensures .1) (b .ensures .0) in
-    let t = turned (a .content .now) (a .entries .now) (a .text .now) (a .blanks .now) (tab-record l n) (l .loop .c) _ (the-turn k) _ (k .keep .ensures .0) _ wrote (k .keep .result) (b .result) (b .ensures .0 .0) (b .ensures .0 .1)
+    let wrote = part-wrote _ _ _ _ (new s) (k .keep .result) (b .result) 0 (many k) (good-tab k .within) (b .ensures .1) (b .ensures .0) in
+    let t = turned (ds s) (ns s) (ts s) (new s) (tab-record l n) (l .loop .c) _ (the-turn k) _ (k .keep .ensures .0) _ wrote (k .keep .result) (b .result) (b .ensures .0 .0) (b .ensures .0 .1)
     (k .keep .ensures .1 .1 .1) (k .keep .ensures .1 .0) _ _ (w .skip .ensures .0) (w .skip .ensures .1 .0) (w .skip .ensures .1 .1 .0) (w .skip .ensures .1 .1 .1) in (
-      at-tab (a .content .now) (p .at + 1) (p .column + n) (r .result) (r .ensures),
-      state-next (a .content .now) (a .entries .now) (a .text .now) (a .blanks .now) (tabsFrom (a .stop) (a .content .now) (place 0 0)) _ _ _ _ (l .loop .inv .1) (room (start l)) (tab-record l n) _
-          (tab-then (a .stop) (a .content .now) p (r .result) n (l .loop .inv .0) (inside k) (k .before .before .before .before .spaces-at .ensures .0) (r .ensures)) _ _ t,
+      at-tab (ds s) (p .at + 1) (p .column + n) (r .result) (r .ensures),
+      state-next (ds s) (ns s) (ts s) (new s) (all s) _ _ _ _ (l .loop .inv .1) (room s) (tab-record l n) _
+          (tab-then (s .args .stop) (ds s) p (r .result) n (l .loop .inv .0) (inside k) (k .before .before .before .before .spaces-at .ensures .0) (r .ensures)) _ _ t,
     )
 
 -- ── behind the last tab
 keep-requires-2 : tie.Need-keep-requires-2 Inv-loop μ-loop
 keep-requires-2 c κs =
     let l = c .before .before .before .before .before in
-    let a = start l .args in
-    let s = l .loop .inv .1 in
-    let e = tab-end (a .stop) (a .content .now) (l .loop .p) (omega (arith, c .before .before .before .if1 .left)) in
-    (s .ready, ((within (a .content .now) (a .entries .now) (a .text .now) (a .blanks .now) (tabsFrom (a .stop) (a .content .now) (place 0 0)) _ _ _ _ s (room (start l)) e, omega arith), room-last (a .content .now) (a .entries .now) (a .text .now) (a .blanks .now) (tabsFrom (a .stop) (a .content .now) (place 0 0)) _ _ _ _ s (room (start l)) e))
+    let s = start l in
+    let st = l .loop .inv .1 in
+    let e = tab-end (s .args .stop) (ds s) (l .loop .p) (omega (arith, c .before .before .before .if1 .left)) in
+    (st .ready, ((within (ds s) (ns s) (ts s) (new s) (all s) _ _ _ _ st (room s) e, omega arith), room-last (ds s) (ns s) (ts s) (new s) (all s) _ _ _ _ st (room s) e))
+
+-- the loop's head
+abbrev over : tie.After-keep2 Inv-loop μ-loop → tie.At-loop Inv-loop μ-loop
+over c = c .before .before .before .before .before .before
 
 -- the buffers are as long as they were
 longer : (l : tie.At-loop Inv-loop μ-loop) → Long (out (l .loop .bytes) (l .loop .numbers) (l .loop .texts) (l .loop .c)) (blank (start l .args .bytes .now) (start l .args .numbers .now) (start l .args .texts .now))
 longer l =
-    let a = start l .args in
-    long-now (a .content .now) (a .entries .now) (a .text .now) (a .blanks .now) (tabsFrom (a .stop) (a .content .now) (place 0 0)) _ _ _ _ (l .loop .inv .1) (room (start l))
+    let s = start l in
+    long-now (ds s) (ns s) (ts s) (new s) (all s) _ _ _ _ (l .loop .inv .1) (room s)
 
 same-length : tie.Need-same-length Inv-loop μ-loop
 unfolding out
-same-length c = c .before .before .before .before .before .before .keep2 .kept .0 ∙ longer (c .before .before .before .before .before .before .before .before .before .before .before .before) .dataBytes
+same-length c = let w = c .before .before .before .before .before .before in w .keep2 .kept .0 ∙ longer (over w) .dataBytes
 
 same-length-2 : tie.Need-same-length-2 Inv-loop μ-loop
 unfolding out
-same-length-2 c = c .before .before .before .before .before .before .keep2 .kept .1 .0 ∙ longer (c .before .before .before .before .before .before .before .before .before .before .before .before) .entryNumbers
+same-length-2 c = let w = c .before .before .before .before .before .before in w .keep2 .kept .1 .0 ∙ longer (over w) .entryNumbers
 
 same-length-3 : tie.Need-same-length-3 Inv-loop μ-loop
 unfolding out
-same-length-3 c = c .before .before .before .before .before .before .keep2 .kept .1 .1 .0 ∙ longer (c .before .before .before .before .before .before .before .before .before .before .before .before) .text
+same-length-3 c = let w = c .before .before .before .before .before .before in w .keep2 .kept .1 .1 .0 ∙ longer (over w) .text
 
 returns : tie.Need-returns Inv-loop μ-loop
 returns c =
-    let l = c .before .before .before .before .before .before .before .before .before .before .before .before in
+    let w = c .before .before .before .before .before .before in
+    let l = over w in
     let s = start l in
-    let a = s .args in
     let p = s .pre in
-    let e = tab-end (a .stop) (a .content .now) (l .loop .p) (omega (arith, c .before .before .before .before .before .before .before .before .before .before .if1 .left)) in
-    finish (a .content .now) (a .entries .now) (a .text .now) (a .blanks .now) (tabsFrom (a .stop) (a .content .now) (place 0 0)) _ _ _ _ (l .loop .inv .1) (room s) e _ (c .before .before .before .before .before .before .keep2 .ensures .0)
-    ∙ ap (λ (is : List Item). add is (blank (a .bytes .now) (a .numbers .now) (a .texts .now)))
-    (sym (records-whole (a .stop) (p .1 .0 .0) (p .1 .0 .1) (a .content .now) (a .entries .now) (a .text .now) (a .blanks .now) (p .0 .1)))
+    let e = tab-end (s .args .stop) (ds s) (l .loop .p) (omega (arith, w .before .before .before .before .if1 .left)) in
+    finish (ds s) (ns s) (ts s) (new s) (all s) _ _ _ _ (l .loop .inv .1) (room s) e _ (w .keep2 .ensures .0)
+    ∙ ap (λ (is : List Item). add is (blank (s .args .bytes .now) (s .args .numbers .now) (s .args .texts .now)))
+    (sym (records-whole (s .args .stop) (p .1 .0 .0) (p .1 .0 .1) (ds s) (ns s) (ts s) (new s) (p .0 .1)))
 
 pub put-expanded-spec : {M : Type 1} → statement M
 put-expanded-spec =

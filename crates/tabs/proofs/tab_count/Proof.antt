@@ -28,7 +28,11 @@ one-tab-requires : tie.Need-one-tab-requires Inv-loop μ-loop
 one-tab-requires c κs = search needs
 
 add-n : tie.Need-add-n Inv-loop μ-loop
-add-n c = omega (arith, c .before .before .before .loop .inv .0, c .before .before .before .loop .inv .1, c .one-tab .ensures, count-next (c .before .before .before .before .before .args .s .now) (c .before .before .before .loop .i) (omega (arith, c .before .before .loop-test)) .1, c .before .before .before .before .before .good)
+add-n c =
+    let l = c .before .before .before in
+    let s = l .before .before in
+    let k = count-next (s .args .s .now) (l .loop .i) (omega (arith, c .before .before .loop-test)) in
+    omega (arith, l .loop .inv .0, l .loop .inv .1, c .one-tab .ensures, k .1, s .good)
 
 add-i : tie.Need-add-i Inv-loop μ-loop
 add-i c = search needs
@@ -39,7 +43,7 @@ loop-less c = search needs
 loop-again : tie.Need-loop-again Inv-loop μ-loop
 loop-again c =
     let l = c .before .before .before in
-    let k = count-next (c .before .before .before .before .before .args .s .now) (l .loop .i) (omega (arith, c .before .before .loop-test)) in
+    let k = count-next (l .before .before .args .s .now) (l .loop .i) (omega (arith, c .before .before .loop-test)) in
     (omega (arith, c .before .before .loop-test), omega (arith, l .loop .inv .1, k .1, c .one-tab .ensures), omega (arith, l .loop .inv .2, k .0, c .one-tab .ensures))
 
 returns : tie.Need-returns Inv-loop μ-loop
