@@ -1,26 +1,22 @@
 -- What a call leaves is a recording: a call that is not refused leaves nothing that refusals 1 to 6 would refuse (`left-valid`).
 -- The idea: every call makes its items from the content's and the second recording's by edits, and those keep what a recording can hold.
 use Prim.Native.Nat.{ℕ, zero, suc, _+_, _-_, _/_}
-use mathlib.Core.Bool.{Bool, true, false, cond, _&&_, not}
+use mathlib.Core.Bool.{Bool, true, false, cond}
 use mathlib.Core.Path.{_≡_}
 use mathlib.Core.List.{List, [], _∷_, _++_}
-use lib.Dec.{ltb, eqb}
-use lib.ListN.{length}
+use lib.Dec.{ltb}
 use borrow.Author.Tests.{eq-eqb}
-use Rattle.chars.specs.Chars.{Character, chars, textWidth}
+use Rattle.chars.specs.Chars.{textWidth}
 use Rattle.chars.specs.Cut.{truncateEndPos, zeroWidthLen}
-use Rattle.buffer.specs.Place.{part}
-use Rattle.recording.specs.Edit.{keep, skip, put, edit}
+use Rattle.recording.specs.Edit.{edit}
 use Rattle.recording.specs.Recording.{Bytes, Recording, Item, byte, push, pop, raw, byteItems, items}
 use Rattle.recording.specs.Refusals.{recordingFault}
-use Rattle.recording.proofs.FaultLaws.{Ok, ItemOk, ok-bytes, ok-edit, OkPuts, ok-recording, encoded}
+use Rattle.recording.proofs.FaultLaws.{Ok, ItemOk, ok-bytes, ok-edit, ok-recording, encoded}
 use Rattle.recording.proofs.Lists.{all-append}
-use Rattle.layout.specs.Layout.{trimmedStartPos, cutEnd, cutStart, copies, repeatPieces, padding, fillCount, indentOps, wrapOps, replaceOps, Kind, writeTruncatedStart}
-use Rattle.layout.specs.Layout.{writeTruncatedEnd, writePaddedStart, writePaddedEnd, writePaddedCentered, writeIndented, Single, writeWrapped, writeReplaced, writeTabsExpanded, Job, withSecond}
+use Rattle.layout.specs.Layout.{trimmedStartPos, cutEnd, cutStart, copies, repeatPieces, padding, fillCount, indentOps, writeTruncatedStart}
+use Rattle.layout.specs.Layout.{writeTruncatedEnd, writePaddedStart, writePaddedEnd, writePaddedCentered, writeIndented, Job, withSecond}
 use Rattle.layout.specs.Layout.{alone, singleOps, Call, resultItems, secondFault, refusal, after, faultsOf, resultOf}
-use Rattle.layout.specs.Tabs.{spacesAt, spaces, leadsWith, columnAfter, tabOps}
-use Rattle.layout.specs.Wrap.{Line, wrapLines}
-use Rattle.layout.specs.declared.Replacement.{Replacement}
+use Rattle.layout.proofs.PutLaws.{puts-indent, puts-single}
 use Rattle.layout.proofs.ListLaws.{after-done, GrantedCall, granted-call}
 
 ok-copies : (n : ℕ) (d : Bytes) → Ok (copies n d)
@@ -41,37 +37,6 @@ ok-padding (suc n) is h = ok-repeat (suc n) [] is h
 ok-cond : (t : Bool) (a b : List Item) → Ok a → Ok b → Ok (cond t a b)
 ok-cond true a b h g = h
 ok-cond false a b h g = g
-
-ok-indent : (p : List Item) (start : Bool) (d : Bytes) → Ok p → OkPuts (indentOps p start d)
-ok-indent p start [] h = tt
-ok-indent p start (b ∷ d) h = go (start && not (eqb b 0x0A)) (ok-indent p (eqb b 0x0A) d h)
-  where
-    go : (t : Bool) → OkPuts (indentOps p (eqb b 0x0A) d) → OkPuts (cond t (put p ∷ []) [] ++ keep 1 ∷ indentOps p (eqb b 0x0A) d)
-    go true q = (h, q)
-    go false q = q
-
-ok-replace : (t : Bytes) (at : ℕ) (xs : List Replacement) → OkPuts (replaceOps t at xs)
-ok-replace t at [] = tt
-ok-replace t at (x ∷ xs) = (ok-bytes (part (x .from) (x .to) t), ok-replace t (x .end) xs)
-
-ok-wrap : (n at : ℕ) (ls : List Line) → OkPuts (wrapOps n at ls)
-ok-wrap n at [] = tt
-ok-wrap n at (l ∷ []) = tt
-ok-wrap n at (l ∷ m ∷ ls) = ((tt, tt), ok-wrap n (l .end) (m ∷ ls))
-
-ok-tabs : (s c : ℕ) (cs : List Character) → OkPuts (tabOps s c cs)
-ok-tabs s c [] = tt
-ok-tabs s c (ch ∷ cs) = go (leadsWith 0x09 ch) (ok-tabs s (columnAfter s c ch) cs)
-  where
-    go : (t : Bool) → OkPuts (tabOps s (columnAfter s c ch) cs)
-        → OkPuts (cond t (put (byteItems (spaces (spacesAt s c))) ∷ skip 1 ∷ []) (keep (length (ch .text)) ∷ []) ++ tabOps s (columnAfter s c ch) cs)
-    go true q = (ok-bytes (spaces (spacesAt s c)), q)
-    go false q = q
-
-ok-single : (s : Single) (d : Bytes) → OkPuts (singleOps s d)
-ok-single (writeWrapped w b) d = ok-wrap (length d) 0 (wrapLines w b d)
-ok-single (writeReplaced xs t) d = ok-replace t 0 xs
-ok-single (writeTabsExpanded s) d = ok-tabs s 0 (chars d)
 
 ok-result : (j : Job) (r : Recording) → recordingFault r ≡ 0 → secondFault j ≡ 0 → Ok (resultItems j r)
 unfolding resultItems secondFault
@@ -97,8 +62,8 @@ ok-result (withSecond writePaddedCentered m f) r h g =
     let n : ℕ = fillCount m (r .dataBytes) in
     all-append ItemOk (padding (n / 2) (items f)) (items r ++ padding (n - n / 2) (items f)) (ok-padding (n / 2) (items f) (ok-recording f g))
     (all-append ItemOk (items r) (padding (n - n / 2) (items f)) (ok-recording r h) (ok-padding (n - n / 2) (items f) (ok-recording f g)))
-ok-result (withSecond writeIndented m p) r h g = ok-edit (indentOps (items p) true (r .dataBytes)) (items r) (ok-indent (items p) true (r .dataBytes) (ok-recording p g)) (ok-recording r h)
-ok-result (alone s) r h g = ok-edit (singleOps s (r .dataBytes)) (items r) (ok-single s (r .dataBytes)) (ok-recording r h)
+ok-result (withSecond writeIndented m p) r h g = ok-edit (indentOps (items p) true (r .dataBytes)) (items r) (puts-indent Ok (items p) true (r .dataBytes) (ok-recording p g)) (ok-recording r h)
+ok-result (alone s) r h g = ok-edit (singleOps s (r .dataBytes)) (items r) (puts-single Ok ok-bytes s (r .dataBytes)) (ok-recording r h)
 
 pub left-valid : (c : Call) (r : Recording) → refusal c r ≡ 0 → recordingFault (after c r) ≡ 0
 unfolding faultsOf resultOf

@@ -1,3 +1,4 @@
+pub mod PutLaws
 pub mod PadLaws
 pub mod PieceLaws
 pub mod TabLaws

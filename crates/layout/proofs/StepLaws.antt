@@ -14,20 +14,21 @@ use Rattle.chars.proofs.SeamLaws.{width-none}
 use Rattle.chars.specs.Cut.{truncateEndPos, zeroWidthLen}
 use Rattle.buffer.specs.Place.{part}
 use Rattle.recording.specs.Coloured.{Coloured, colouredFrom, coloured, balancedFrom, balanced, noneInside, values}
-use Rattle.recording.specs.Edit.{keep, skip, put, edit, labelsAt, under, editColoured}
+use Rattle.recording.specs.Edit.{keep, put, edit, labelsAt, under, editColoured}
 use Rattle.recording.specs.Recording.{Bytes, Recording, Item, byteItems, items}
-use Rattle.recording.proofs.EditLaws.{PutsBal, coloured-append, open-under, edit-law, edit-bal, bal-append}
+use Rattle.recording.proofs.EditLaws.{Balanced, coloured-append, open-under, edit-law, edit-bal, bal-append}
 use Rattle.recording.proofs.ItemsLaws.{values-of, values-take, values-drop}
 use Rattle.recording.proofs.Lists.{or-left, or-right}
-use Rattle.layout.specs.Layout.{ownFault, singleOps, trimmedStartPos, cutEnd, cutStart, padding, fillCount, indentOps, wrapOps, replaceOps, Kind, writeTruncatedStart}
-use Rattle.layout.specs.Layout.{writeTruncatedEnd, writePaddedStart, writePaddedEnd, writePaddedCentered, writeIndented, Single, writeWrapped, writeReplaced, writeTabsExpanded, Job, withSecond}
+use Rattle.layout.specs.Layout.{ownFault, singleOps, trimmedStartPos, cutEnd, cutStart, padding, fillCount, indentOps, wrapOps, replaceOps, writeTruncatedStart}
+use Rattle.layout.specs.Layout.{writeTruncatedEnd, writePaddedStart, writePaddedEnd, writePaddedCentered, writeIndented, writeWrapped, writeReplaced, writeTabsExpanded, Job, withSecond}
 use Rattle.layout.specs.Layout.{alone, truncateStart, truncateEnd, padStart, padEnd, padCentered, wrap, replace, expandTabs, resultItems, recordsFault, stopFault}
 use Rattle.layout.specs.Plain.{times, withLabels, indented, wrapped, replaced, tabbed, step, toldOf}
-use Rattle.layout.specs.Tabs.{spacesAt, spaces, leadsWith, columnAfter, tabOps}
+use Rattle.layout.specs.Tabs.{spacesAt, spaces, columnAfter, charOps, tabOps}
 use Rattle.layout.specs.Theorem.{SecondOk}
 use Rattle.layout.specs.Wrap.{Line, wrapLines}
 use Rattle.layout.specs.declared.Replacement.{Replacement}
-use Rattle.layout.proofs.TabLaws.{some-spaces, Plain, Sort, tab, newline, other, sort, width-line, Closed, closed-start, closed-more, closed-new, closed-spaces}
+use Rattle.layout.proofs.TabLaws.{some-spaces, Plain, Sort, tab, newline, other, sort, Closed, closed-start, closed-more, closed-new, closed-spaces, column-tab, column-new, column-more}
+use Rattle.layout.proofs.PutLaws.{puts-indent, puts-wrap, puts-single}
 use Rattle.layout.proofs.PadLaws.{flat, coloured-padding, bal-padding}
 
 -- ── lists
@@ -64,14 +65,6 @@ upTo-law : (k : ℕ) (d : Bytes) (is : List Item) → balancedFrom 0 is ≡ true
 upTo-law k d is h e = edit-law (cutEnd k d) [] is h tt ∙ rw (drop-rest (length d) k (colouredFrom [] is) e) (append-nil _)
 
 -- ── indenting
-indent-puts : (p : List Item) (start : Bool) (d : Bytes) → balancedFrom 0 p ≡ true → PutsBal (indentOps p start d)
-indent-puts p start [] h = tt
-indent-puts p start (b ∷ d) h = go (start && not (eqb b 0x0A)) (indent-puts p (eqb b 0x0A) d h)
-  where
-    go : (t : Bool) → PutsBal (indentOps p (eqb b 0x0A) d) → PutsBal (cond t (put p ∷ []) [] ++ keep 1 ∷ indentOps p (eqb b 0x0A) d)
-    go true q = (h, q)
-    go false q = q
-
 pub indent-law : (p : List Item) (start : Bool) (cs : List Coloured) → editColoured (indentOps p start (values cs)) cs ≡ indented (colouredFrom [] p) start cs
 indent-law p start [] = refl
 indent-law p start (c ∷ cs) = go (start && not (eqb (c .val) 0x0A)) (indent-law p (eqb (c .val) 0x0A) cs)
@@ -90,10 +83,6 @@ bal-bytes (b ∷ d) = bal-bytes d
 under-bytes : (ls : List Bytes) (d : Bytes) → under ls (colouredFrom [] (byteItems d)) ≡ withLabels ls d
 under-bytes ls [] = refl
 under-bytes ls (b ∷ d) = rw (append-nil ls, under-bytes ls d)
-
-replace-puts : (t : Bytes) (at : ℕ) (xs : List Replacement) → PutsBal (replaceOps t at xs)
-replace-puts t at [] = tt
-replace-puts t at (x ∷ xs) = (bal-bytes (part (x .from) (x .to) t), replace-puts t (x .end) xs)
 
 abbrev pub Sorted : ℕ → List Replacement → Type 0
 Sorted at [] = Unit {0}
@@ -127,11 +116,6 @@ abbrev pub Ordered : ℕ → List Line → Type 0
 Ordered at [] = Unit {0}
 Ordered at (l ∷ ls) = (at ≤ l .first) × (l .first ≤ l .end) × Ordered (l .end) ls
 
-pub wrap-puts : (n at : ℕ) (ls : List Line) → PutsBal (wrapOps n at ls)
-wrap-puts n at [] = tt
-wrap-puts n at (l ∷ []) = tt
-wrap-puts n at (l ∷ m ∷ ls) = (refl, wrap-puts n (l .end) (m ∷ ls))
-
 pub wrap-law : (n at : ℕ) (l : Line) (ls : List Line) (cs : List Coloured) → length cs ≡ n → Ordered at (l ∷ ls) → editColoured (wrapOps n at (l ∷ ls)) (drop at cs) ≡ wrapped (l ∷ ls) cs
 wrap-law n at l [] cs e h =
     rw (drop-on at (l .first) cs (h .0), drop-on (l .first) (l .end) cs (h .1), drop-rest n (l .end) cs e) (append-nil _)
@@ -139,15 +123,6 @@ wrap-law n at l (m ∷ ls) cs e h =
     rw (drop-on at (l .first) cs (h .0), drop-on (l .first) (l .end) cs (h .1), wrap-law n (l .end) m ls cs e (h .2), append-nil (labelsAt (drop (l .end) cs)))
 
 -- ── tabs
-tab-puts : (s c : ℕ) (cs : List Character) → PutsBal (tabOps s c cs)
-tab-puts s c [] = tt
-tab-puts s c (ch ∷ cs) = go (leadsWith 0x09 ch) (tab-puts s (columnAfter s c ch) cs)
-  where
-    go : (t : Bool) → PutsBal (tabOps s (columnAfter s c ch) cs)
-        → PutsBal (cond t (put (byteItems (spaces (spacesAt s c))) ∷ skip 1 ∷ []) (keep (length (ch .text)) ∷ []) ++ tabOps s (columnAfter s c ch) cs)
-    go true q = (bal-bytes (spaces (spacesAt s c)), q)
-    go false q = q
-
 -- a stop that is not refused is not 0
 some-stop : (s : ℕ) → stopFault s ≡ 0 → 1 ≤ s
 some-stop zero z = absurd (omega (arith, z))
@@ -186,33 +161,31 @@ tab-law s h line (ch ∷ chs) v k cs e = go (sort ch (bytesOf chs) (v .0)) (λ l
     Later : Type 0
     Later = (l : Bytes) → Closed l chs → (ds : List Coloured) → values ds ≡ bytesOf chs → editColoured (tabOps s (textWidth l) chs) ds ≡ tabbed s l ds
 
+    -- the line so far becomes l
+    moved : (l : Bytes) → columnAfter s (textWidth line) ch ≡ textWidth l → editColoured (tabOps s (textWidth line) (ch ∷ chs)) cs ≡ editColoured (charOps s (textWidth line) ch ++ tabOps s (textWidth l) chs) cs
+    moved l q = ap (λ (m : ℕ). editColoured (charOps s (textWidth line) ch ++ tabOps s m chs) cs) q
+
     go : Sort ch → Later → editColoured (tabOps s (textWidth line) (ch ∷ chs)) cs ≡ tabbed s line cs
     go (tab t x) f =
         let F : First 0x09 (bytesOf chs) cs = first-of 0x09 (bytesOf chs) cs (e ∙ rw x) in
-        let one : 1 ≤ n = some-spaces s (textWidth line) h .0 in
-        let g = f (line ++ spaces n) (closed-spaces line ch chs k n one) (F .rest) (F .follow) in
-        rw (t, F .here, under-bytes (F .labels) (spaces n), ← width-line line n one) (ap (λ (l : List Coloured). withLabels (F .labels) (spaces n) ++ l) g)
+        let g = f (line ++ spaces n) (closed-spaces line ch chs k n (some-spaces s (textWidth line) h .0)) (F .rest) (F .follow) in
+        moved (line ++ spaces n) (column-tab s line ch h t)
+        ∙ rw (t, F .here, under-bytes (F .labels) (spaces n)) (ap (λ (l : List Coloured). withLabels (F .labels) (spaces n) ++ l) g)
     go (newline t u x) f =
         let F : First 0x0A (bytesOf chs) cs = first-of 0x0A (bytesOf chs) cs (e ∙ rw x) in
         let g = f [] (closed-new line ch chs k) (F .rest) (F .follow) in
-        rw (t, u, x, F .here) (ap (λ (l : List Coloured). record { val = 0x0A; labels = F .labels } ∷ l) (rw width-none at g))
+        moved [] (column-new s line ch t u) ∙ rw (t, x, F .here) (ap (λ (l : List Coloured). record { val = 0x0A; labels = F .labels } ∷ l) g)
     go (other t u x) f =
-        let K = closed-more line ch chs k in
         let m : ℕ = length (ch .text) in
         let a : values (take m cs) ≡ ch .text = values-take m cs ∙ rw e (take-append-seam (ch .text) (bytesOf chs)) in
         let b : values (drop m cs) ≡ bytesOf chs = values-drop m cs ∙ rw e (drop-append-seam (ch .text) (bytesOf chs)) in
-        let g = f (line ++ ch .text) (K .0) (drop m cs) b in
-        rw (t, u, ← K .1) (ap (λ (l : List Coloured). take m cs ++ l) g ∙ sym (plain-law s m line cs (rw a x) ∙ rw a))
+        let g = f (line ++ ch .text) (closed-more line ch chs k) (drop m cs) b in
+        moved (line ++ ch .text) (column-more s line ch chs k t u) ∙ rw t (ap (λ (l : List Coloured). take m cs ++ l) g ∙ sym (plain-law s m line cs (rw a x) ∙ rw a))
 
 -- ── each call
 pub length-coloured : (r : Recording) → length (colouredFrom [] (items r)) ≡ length (r .dataBytes)
 unfolding coloured
 length-coloured r = sym (length-values (coloured r)) ∙ ap length (values-of r)
-
-single-puts : (s : Single) (d : Bytes) → PutsBal (singleOps s d)
-single-puts (writeWrapped w b) d = wrap-puts (length d) 0 (wrapLines w b d)
-single-puts (writeReplaced xs t) d = replace-puts t 0 xs
-single-puts (writeTabsExpanded s) d = tab-puts s 0 (chars d)
 
 module _ (r : Recording) (h : balanced r ≡ true) where
   here : balancedFrom 0 (items r) ≡ true
@@ -281,17 +254,17 @@ module _ (r : Recording) (h : balanced r ≡ true) where
       → colouredFrom [] (resultItems (withSecond writeIndented m p) r) ≡ step (toldOf (withSecond writeIndented m p)) (coloured r)
   unfolding resultItems step toldOf coloured balanced
   indented-law m p g =
-      edit-law (indentOps (items p) true (r .dataBytes)) [] (items r) h (indent-puts (items p) true (r .dataBytes) g)
+      edit-law (indentOps (items p) true (r .dataBytes)) [] (items r) h (puts-indent Balanced (items p) true (r .dataBytes) g)
       ∙ (rw (values-of r) at (indent-law (items p) true (coloured r)))
 
   replaced-law : (xs : List Replacement) (t : Bytes) → Sorted 0 xs → colouredFrom [] (resultItems (replace xs t) r) ≡ step (toldOf (replace xs t)) (coloured r)
   unfolding resultItems step toldOf coloured balanced
-  replaced-law xs t o = edit-law (replaceOps t 0 xs) [] (items r) h (replace-puts t 0 xs) ∙ replace-law t 0 xs (coloured r) o
+  replaced-law xs t o = edit-law (replaceOps t 0 xs) [] (items r) h (puts-single Balanced bal-bytes (writeReplaced xs t) (r .dataBytes)) ∙ replace-law t 0 xs (coloured r) o
 
   expanded-law : (s : ℕ) → 1 ≤ s → colouredFrom [] (resultItems (expandTabs s) r) ≡ step (toldOf (expandTabs s)) (coloured r)
   unfolding resultItems step toldOf coloured balanced
   expanded-law s g =
-      edit-law (tabOps s 0 (chars (r .dataBytes))) [] (items r) h (tab-puts s 0 (chars (r .dataBytes)))
+      edit-law (tabOps s 0 (chars (r .dataBytes))) [] (items r) h (puts-single Balanced bal-bytes (writeTabsExpanded s) (r .dataBytes))
       ∙ (rw width-none at (tab-law s g [] (chars (r .dataBytes)) (valid-chars (r .dataBytes)) (closed-start (r .dataBytes)) (coloured r) (values-of r ∙ sym (bytes-chars (r .dataBytes)))))
 
   wrapped-law : (w : ℕ) (b : Bool) (ls : List Line) → wrapLines w b (r .dataBytes) ≡ ls → Ordered 0 ls → (0 < length ls)
@@ -299,7 +272,7 @@ module _ (r : Recording) (h : balanced r ≡ true) where
   unfolding resultItems step toldOf coloured balanced
   wrapped-law w b [] q o z = absurd (omega arith)
   wrapped-law w b (l ∷ ls) q o z =
-      rw (values-of r, q) (edit-law (wrapOps (length (r .dataBytes)) 0 (l ∷ ls)) [] (items r) h (wrap-puts (length (r .dataBytes)) 0 (l ∷ ls))
+      rw (values-of r, q) (edit-law (wrapOps (length (r .dataBytes)) 0 (l ∷ ls)) [] (items r) h (puts-wrap Balanced bal-bytes (length (r .dataBytes)) 0 (l ∷ ls))
       ∙ wrap-law (length (r .dataBytes)) 0 l ls (coloured r) long o)
 
   -- balance is kept
@@ -325,8 +298,8 @@ module _ (r : Recording) (h : balanced r ≡ true) where
       let n : ℕ = fillCount m (r .dataBytes) in
       bal-join (padding (n / 2) (items f)) (items r ++ padding (n - n / 2) (items f)) (pads-bal f (g .0) (g .1 refl) (n / 2))
       (bal-join (items r) (padding (n - n / 2) (items f)) h (pads-bal f (g .0) (g .1 refl) (n - n / 2)))
-  bal-law (withSecond writeIndented m p) g = edit-bal (indentOps (items p) true (r .dataBytes)) 0 (items r) (indent-puts (items p) true (r .dataBytes) (g .0)) h
-  bal-law (alone s) g = edit-bal (singleOps s (r .dataBytes)) 0 (items r) (single-puts s (r .dataBytes)) h
+  bal-law (withSecond writeIndented m p) g = edit-bal (indentOps (items p) true (r .dataBytes)) 0 (items r) (puts-indent Balanced (items p) true (r .dataBytes) (g .0)) h
+  bal-law (alone s) g = edit-bal (singleOps s (r .dataBytes)) 0 (items r) (puts-single Balanced bal-bytes s (r .dataBytes)) h
 
   -- the plain step
   pub step-law : ((w : ℕ) (b : Bool) (d : Bytes) → Ordered 0 (wrapLines w b d) × (0 < length (wrapLines w b d)))

@@ -4,27 +4,25 @@ use mathlib.Core.Bool.{Bool, true, false, cond, _&&_, not}
 use mathlib.Core.Path.{_≡_, refl, sym, ap, _∙_}
 use mathlib.Core.List.{List, [], _∷_, _++_, append-nil}
 use lib.Dec.{ltb, eqb}
-use lib.ListN.{length, drop}
+use lib.ListN.{drop}
 use borrow.Author.Tests.{eqb-true, eq-eqb}
-use Rattle.chars.specs.Chars.{Character, chars, textWidth}
+use Rattle.chars.specs.Chars.{textWidth}
 use Rattle.chars.specs.Cut.{truncateEndPos, zeroWidthLen}
-use Rattle.buffer.specs.Place.{part}
 use Rattle.recording.specs.Coloured.{balancedFrom, balanced, noneInside}
 use Rattle.recording.specs.Edit.{Op, keep, skip, put, front, back, entriesOnly, edit, editData}
 use Rattle.recording.specs.Outcome.{Room, overLimit, noRoom, Result}
 use Rattle.recording.specs.Recording.{Bytes, Recording, Item, byte, push, pop, raw, byteItems, items, dataOf, textOf, entriesFrom, encode, strip, numbersOf}
 use Rattle.recording.specs.Refusals.{recordingFault}
-use Rattle.recording.proofs.EditLaws.{data-append, edit-data}
+use Rattle.recording.proofs.EditLaws.{AllPuts, data-append, edit-data}
 use Rattle.recording.proofs.FaultLaws.{no-fault, in-limits, Roomy, roomy}
 use Rattle.recording.proofs.ItemsLaws.{data-items, data-bytes}
-use Rattle.layout.specs.Layout.{trimmedStartPos, cutEnd, cutStart, copies, repeatPieces, padding, fillCount, indentOps, wrapOps, replaceOps, Kind, writeTruncatedStart}
-use Rattle.layout.specs.Layout.{writeTruncatedEnd, writePaddedStart, writePaddedEnd, writePaddedCentered, writeIndented, Single, writeWrapped, writeReplaced, writeTabsExpanded, Job, withSecond}
+use Rattle.layout.specs.Layout.{trimmedStartPos, cutEnd, cutStart, copies, repeatPieces, padding, fillCount, indentOps, Kind, writeTruncatedStart}
+use Rattle.layout.specs.Layout.{writeTruncatedEnd, writePaddedStart, writePaddedEnd, writePaddedCentered, writeIndented, Single, Job, withSecond}
 use Rattle.layout.specs.Layout.{alone, singleOps, Call, resultItems, linesLeft, secondFault, refusal, after, run, ownFault, faultsOf, resultOf}
-use Rattle.layout.specs.Tabs.{spacesAt, spaces, leadsWith, columnAfter, tabOps}
 use Rattle.layout.specs.Theorem.{SecondOk, Proper, strippedJob, stripped, again, NoneRefused}
-use Rattle.layout.specs.Wrap.{Line, wrapLines, lineNumbers}
-use Rattle.layout.specs.declared.Replacement.{Replacement}
+use Rattle.layout.specs.Wrap.{lineNumbers}
 use Rattle.layout.proofs.ListLaws.{after-done, after-refused, GrantedCall, grant-call, granted-call}
+use Rattle.layout.proofs.PutLaws.{puts-indent, puts-single}
 use Rattle.layout.proofs.PadLaws.{NoBytes, Flat, flat, repeat-flat}
 
 -- ── the data of a result, from the data of the content and of the second recording
@@ -144,10 +142,7 @@ Bare (pop ∷ is) = ⊥
 Bare (raw t ∷ is) = ⊥
 
 abbrev pub BarePuts : List Op → Type 0
-BarePuts [] = Unit {0}
-BarePuts (keep n ∷ ops) = BarePuts ops
-BarePuts (skip n ∷ ops) = BarePuts ops
-BarePuts (put p ∷ ops) = Bare p × BarePuts ops
+BarePuts ops = AllPuts Bare ops
 
 bare-bytes : (d : Bytes) → Bare (byteItems d)
 bare-bytes [] = tt
@@ -210,32 +205,6 @@ bare-padding : (n : ℕ) (is : List Item) → Bare is → Bare (padding n is)
 bare-padding zero is h = tt
 bare-padding (suc n) is h = bare-repeat (suc n) [] is h
 
-bare-indent : (p : List Item) (start : Bool) (d : Bytes) → Bare p → BarePuts (indentOps p start d)
-bare-indent p start [] h = tt
-bare-indent p start (b ∷ d) h = go (start && not (eqb b 0x0A)) (bare-indent p (eqb b 0x0A) d h)
-  where
-    go : (t : Bool) → BarePuts (indentOps p (eqb b 0x0A) d) → BarePuts (cond t (put p ∷ []) [] ++ keep 1 ∷ indentOps p (eqb b 0x0A) d)
-    go true q = (h, q)
-    go false q = q
-
-bare-replace : (t : Bytes) (at : ℕ) (xs : List Replacement) → BarePuts (replaceOps t at xs)
-bare-replace t at [] = tt
-bare-replace t at (x ∷ xs) = (bare-bytes (part (x .from) (x .to) t), bare-replace t (x .end) xs)
-
-bare-wrap : (n at : ℕ) (ls : List Line) → BarePuts (wrapOps n at ls)
-bare-wrap n at [] = tt
-bare-wrap n at (l ∷ []) = tt
-bare-wrap n at (l ∷ m ∷ ls) = (tt, bare-wrap n (l .end) (m ∷ ls))
-
-bare-tabs : (s c : ℕ) (cs : List Character) → BarePuts (tabOps s c cs)
-bare-tabs s c [] = tt
-bare-tabs s c (ch ∷ cs) = go (leadsWith 0x09 ch) (bare-tabs s (columnAfter s c ch) cs)
-  where
-    go : (t : Bool) → BarePuts (tabOps s (columnAfter s c ch) cs)
-        → BarePuts (cond t (put (byteItems (spaces (spacesAt s c))) ∷ skip 1 ∷ []) (keep (length (ch .text)) ∷ []) ++ tabOps s (columnAfter s c ch) cs)
-    go true q = (bare-bytes (spaces (spacesAt s c)), q)
-    go false q = q
-
 bare-strip : (f : Recording) → Bare (items (strip f))
 unfolding items strip
 bare-strip f = bare-bytes (f .dataBytes)
@@ -245,9 +214,7 @@ unfolding items
 bare-items r e = rw e (bare-bytes (r .dataBytes))
 
 pub bare-single : (s : Single) (d : Bytes) → BarePuts (singleOps s d)
-bare-single (writeWrapped w b) d = bare-wrap (length d) 0 (wrapLines w b d)
-bare-single (writeReplaced xs t) d = bare-replace t 0 xs
-bare-single (writeTabsExpanded s) d = bare-tabs s 0 (chars d)
+bare-single s d = puts-single Bare bare-bytes s d
 
 pub bare-result : (j : Job) (r : Recording) → Bare (items r) → Bare (resultItems (strippedJob j) r)
 unfolding resultItems
@@ -273,7 +240,7 @@ bare-result (withSecond writePaddedCentered m f) r h =
     let n : ℕ = fillCount m (r .dataBytes) in
     bare-append (padding (n / 2) (items (strip f))) (items r ++ padding (n - n / 2) (items (strip f))) (bare-padding (n / 2) (items (strip f)) (bare-strip f))
     (bare-append (items r) (padding (n - n / 2) (items (strip f))) h (bare-padding (n - n / 2) (items (strip f)) (bare-strip f)))
-bare-result (withSecond writeIndented m p) r h = bare-edit (indentOps (items (strip p)) true (r .dataBytes)) (items r) (bare-indent (items (strip p)) true (r .dataBytes) (bare-strip p)) h
+bare-result (withSecond writeIndented m p) r h = bare-edit (indentOps (items (strip p)) true (r .dataBytes)) (items r) (puts-indent Bare (items (strip p)) true (r .dataBytes) (bare-strip p)) h
 bare-result (alone s) r h = bare-edit (singleOps s (r .dataBytes)) (items r) (bare-single s (r .dataBytes)) h
 
 bare-entries : (at used : ℕ) (is : List Item) → Bare is → entriesFrom at used is ≡ []

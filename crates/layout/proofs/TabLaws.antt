@@ -3,17 +3,18 @@
 use Prim.Native.Nat.{ℕ, zero, suc, _+_, _-_, _%_, _≤_, _<_}
 use native.Mathlib.Nat.{mod-lt}
 use native.Mathlib.Omega.{arith}
-use mathlib.Core.Bool.{Bool, true, false}
+use mathlib.Core.Bool.{Bool, true, false, cond}
 use mathlib.Core.Path.{_≡_, refl, sym, ap, _∙_}
 use mathlib.Core.List.{List, [], _∷_, _++_, append-assoc, append-nil}
 use mathlib.Core.Logic.{_≢_}
 use lib.ListN.{getD}
 use borrow.Author.Tests.{eqb-true, eqb-false}
-use Rattle.chars.specs.Chars.{Character, chars, bytesOf, wide, widthOf, textWidth}
+use Rattle.chars.specs.Utf8.{table37, rowOf, tailLen, complete}
+use Rattle.chars.specs.Chars.{Character, charAt, chars, bytesOf, wide, widthOf, textWidth}
 use Rattle.chars.proofs.CharsLaws.{bytes-chars, bytes-append, Read, chars-beginning, chars-rest, width-append}
 use Rattle.chars.proofs.SeamLaws.{High, more-high, low-alone, Low, chars-low, width-none, blank, chars-blank, width-blank}
 use Rattle.recording.specs.Recording.{Bytes}
-use Rattle.layout.specs.Tabs.{spacesAt, spaces, leadsWith}
+use Rattle.layout.specs.Tabs.{spacesAt, spaces, leadsWith, columnAfter}
 
 -- a tab gives at least one space, and at most as many as there are columns between stops
 pub some-spaces : (s c : ℕ) → 1 ≤ s → (1 ≤ spacesAt s c) × (spacesAt s c ≤ s)
@@ -99,12 +100,12 @@ module _ (line : Bytes) (ch : Character) (cs : List Character) (k : Closed line 
   chars-after = chars-rest (line ++ (ch .text ++ bytesOf cs)) (chars line ++ (ch ∷ [])) cs parted
 
   -- with the next character
-  pub closed-more : Closed (line ++ ch .text) cs × (textWidth (line ++ ch .text) ≡ textWidth line + wide ch)
+  pub closed-more : Closed (line ++ ch .text) cs
+  closed-more = ap chars (append-assoc line (ch .text) (bytesOf cs)) ∙ parted ∙ ap (λ (l : List Character). l ++ cs) (sym chars-more)
+
+  width-more : textWidth (line ++ ch .text) ≡ textWidth line + wide ch
   unfolding textWidth
-  closed-more = (
-    ap chars (append-assoc line (ch .text) (bytesOf cs)) ∙ parted ∙ ap (λ (l : List Character). l ++ cs) (sym chars-more),
-    ap widthOf chars-more ∙ omega (arith, width-append (chars line) (ch ∷ [])),
-  )
+  width-more = ap widthOf chars-more ∙ omega (arith, width-append (chars line) (ch ∷ []))
 
   -- with a new line
   pub closed-new : Closed [] cs
@@ -117,3 +118,27 @@ module _ (line : Bytes) (ch : Character) (cs : List Character) (k : Closed line 
       let f : chars (line ++ (spaces n ++ bytesOf cs)) ≡ chars line ++ (chars (spaces n) ++ cs) =
       chars-low line (spaces n ++ bytesOf cs) (low-spaces n (bytesOf cs) h) ∙ ap (λ (l : List Character). chars line ++ l) (chars-spaces n (bytesOf cs) ∙ rw chars-after) in
       ap chars (append-assoc line (spaces n) (bytesOf cs)) ∙ f ∙ sym (append-assoc (chars line) (chars (spaces n)) cs) ∙ ap (λ (l : List Character). l ++ cs) (sym (chars-line line n h))
+
+-- ── the definition's column, from the width of the line so far, is the width of the line after the character
+column-of : (s c : ℕ) (ch : Character) (t u : Bool) → leadsWith 0x09 ch ≡ t → leadsWith 0x0A ch ≡ u → columnAfter s c ch ≡ cond t (c + spacesAt s c) (cond u 0 (c + wide ch))
+column-of s c ch t u p q = rw (p, q)
+
+module _ (s : ℕ) (line : Bytes) (ch : Character) where
+  pub column-tab : 1 ≤ s → leadsWith 0x09 ch ≡ true → columnAfter s (textWidth line) ch ≡ textWidth (line ++ spaces (spacesAt s (textWidth line)))
+  column-tab h t =
+      let n : ℕ = spacesAt s (textWidth line) in
+      omega (arith, column-of s (textWidth line) ch true (leadsWith 0x0A ch) t refl, width-line line n (some-spaces s (textWidth line) h .0))
+
+  pub column-new : leadsWith 0x09 ch ≡ false → leadsWith 0x0A ch ≡ true → columnAfter s (textWidth line) ch ≡ textWidth []
+  column-new t u = omega (arith, column-of s (textWidth line) ch false true t u, width-none)
+
+  pub column-more : (cs : List Character) → Closed line (ch ∷ cs) → leadsWith 0x09 ch ≡ false → leadsWith 0x0A ch ≡ false → columnAfter s (textWidth line) ch ≡ textWidth (line ++ ch .text)
+  column-more cs k t u = omega (arith, column-of s (textWidth line) ch false false t u, width-more line ch cs k)
+
+-- ── a tab is read as one character, whatever follows
+abbrev pub tab-char : Character
+tab-char = record { text = 0x09 ∷ []; code = 0x09; ok = true }
+
+pub chars-tab : (y : Bytes) → chars (0x09 ∷ y) ≡ tab-char ∷ chars y
+unfolding chars charAt tailLen rowOf table37 complete
+chars-tab y = refl

@@ -10,8 +10,7 @@ use lib.Dec.{eqb}
 use lib.ListN.{length, getD}
 use lib.Seq.{take-append-seam, drop-append-seam}
 use borrow.Author.Tests.{ne-eqb, eq-eqb}
-use Rattle.chars.specs.Utf8.{table37, rowOf, tailLen, complete}
-use Rattle.chars.specs.Chars.{Character, charAt, chars, bytesOf, wide, textWidth}
+use Rattle.chars.specs.Chars.{Character, chars, bytesOf, wide, textWidth}
 use Rattle.chars.proofs.CharsLaws.{bytes-chars, Read, Valid, valid-chars}
 use Rattle.chars.proofs.SeamLaws.{width-none, chars-low}
 use Rattle.recording.specs.Recording.{Bytes, Recording, Item, byteItems, items, encode}
@@ -26,7 +25,7 @@ use Rattle.layout.specs.Wrap.{ontoFirst, splitLines}
 use Rattle.layout.proofs.ListLaws.{after-done, after-refused}
 use Rattle.layout.proofs.StripLaws.{result-data, resultData}
 use Rattle.layout.proofs.WordLaws.{some-lines}
-use Rattle.layout.proofs.TabLaws.{some-spaces, Plain, spaces-plain, Sort, tab, newline, other, sort, width-line, Closed, closed-start, closed-more, closed-new, closed-spaces}
+use Rattle.layout.proofs.TabLaws.{some-spaces, Plain, spaces-plain, Sort, tab, newline, other, sort, width-line, Closed, closed-start, closed-more, closed-new, closed-spaces, column-tab, column-new, column-more, tab-char, chars-tab}
 
 -- ── the least multiple above a column
 pub least-stop : (s c : ℕ) → 1 ≤ s → LeastMultipleAbove s c (c + spacesAt s c)
@@ -165,12 +164,10 @@ column-law s h line (ch ∷ cs) v k = go (sort ch (bytesOf cs) (v .0)) (λ l j. 
     go : Sort ch → Later → columnBehind s c (ch ∷ cs) ≡ textWidth (lineFrom line (editData (tabOps s c (ch ∷ cs)) (bytesOf (ch ∷ cs))))
     go (tab t x) f =
         let n : ℕ = spacesAt s c in
-        let one : 1 ≤ n = some-spaces s c h .0 in
-        join (line ++ spaces n) (tab t x) (rw t (sym (width-line line n one))) (rw t (line-plain line (spaces n) (spaces-plain n))) (closed-spaces line ch cs k n one) f
-    go (newline t u x) f = join [] (newline t u x) (rw (t, u) (sym width-none)) (rw (t, x)) (closed-new line ch cs k) f
+        join (line ++ spaces n) (tab t x) (column-tab s line ch h t) (rw t (line-plain line (spaces n) (spaces-plain n))) (closed-spaces line ch cs k n (some-spaces s c h .0)) f
+    go (newline t u x) f = join [] (newline t u x) (column-new s line ch t u) (rw (t, x)) (closed-new line ch cs k) f
     go (other t u x) f =
-        let K = closed-more line ch cs k in
-        join (line ++ ch .text) (other t u x) (rw (t, u) (sym (K .1))) (rw t (line-plain line (ch .text) x)) (K .0) f
+        join (line ++ ch .text) (other t u x) (column-more s line ch cs k t u) (rw t (line-plain line (ch .text) x)) (closed-more line ch cs k) f
 
 pub column-is : (s : ℕ) → 1 ≤ s → (x : Bytes) → columnBehind s 0 (chars x) ≡ textWidth (lastLine (expanded s x))
 column-is s h x =
@@ -194,13 +191,6 @@ edit-append s c (ch ∷ xs) ops d v =
     ∙ ap (λ (l : Bytes). a ++ l) (edit-append s (columnAfter s c ch) xs ops d (v .1))
     ∙ sym (append-assoc a (editData later (bytesOf xs)) (editData ops d))
     ∙ ap (λ (l : Bytes). l ++ editData ops d) (sym (left-char s c ch later (bytesOf xs) S)))
-
-abbrev tab-char : Character
-tab-char = record { text = 0x09 ∷ []; code = 0x09; ok = true }
-
-chars-tab : (y : Bytes) → chars (0x09 ∷ y) ≡ tab-char ∷ chars y
-unfolding chars charAt tailLen rowOf table37 complete
-chars-tab y = refl
 
 pub tab-lands : (s : ℕ) → 1 ≤ s → (x y : Bytes) → TabLands s x y
 tab-lands s h x y =

@@ -1,4 +1,4 @@
--- Where tabs land (document 02, Q-2): what the request asks to be shown, for every s from 1 on together. `proofs/TabLaws.antt` shows it.
+-- Where tabs land (document 02, Q-2): what the request asks to be shown, for every s from 1 on together. `proofs/TabStopLaws.antt` shows it.
 use Prim.Native.Nat.{ℕ, _+_, _*_, _≤_, _<_}
 use mathlib.Core.Path.{_≡_}
 use mathlib.Core.List.{List, [], _∷_, _++_}

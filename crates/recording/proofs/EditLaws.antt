@@ -21,11 +21,18 @@ openAfter s (raw t ∷ is) = openAfter s is
 abbrev pub Bal : List Bytes → List Item → Type 0
 Bal s is = balancedFrom (length s) is ≡ true
 
+-- P holds of all that an edit puts in
+abbrev pub AllPuts : (List Item → Type 0) → List Op → Type 0
+AllPuts P [] = Unit {0}
+AllPuts P (keep n ∷ ops) = AllPuts P ops
+AllPuts P (skip n ∷ ops) = AllPuts P ops
+AllPuts P (put p ∷ ops) = P p × AllPuts P ops
+
+abbrev pub Balanced : List Item → Type 0
+Balanced p = balancedFrom 0 p ≡ true
+
 abbrev pub PutsBal : List Op → Type 0
-PutsBal [] = Unit {0}
-PutsBal (keep n ∷ ops) = PutsBal ops
-PutsBal (skip n ∷ ops) = PutsBal ops
-PutsBal (put p ∷ ops) = (balancedFrom 0 p ≡ true) × PutsBal ops
+PutsBal ops = AllPuts Balanced ops
 
 pub coloured-append : (s : List Bytes) (a b : List Item) → colouredFrom s (a ++ b) ≡ colouredFrom s a ++ colouredFrom (openAfter s a) b
 coloured-append s [] b = refl

@@ -15,6 +15,7 @@ use Rattle.recording.specs.Recording.{Bytes, Recording, isNil, entriesOf
 use Rattle.recording.specs.Edit.{Op, keep, skip, put, front, back, entriesOnly, edit}
 use Rattle.recording.specs.Refusals.{firstOf, refuseIf, badShape, entryFault, entriesFault, recordingFault, dataLimit, entryLimit, textLimit}
 use Rattle.recording.specs.Outcome.{Room, Result, Faults, Outcome, done, overLimit, noRoom, refusalOf, Lent, lentAfter, returned}
+use Rattle.recording.proofs.EditLaws.{AllPuts}
 use Rattle.recording.proofs.Lists.{AllOf, all-append, or-left, or-right, not-false}
 use Rattle.recording.proofs.ItemsLaws.{part-at, entries-numbers}
 use Rattle.recording.proofs.SizeLaws.{entryCount, count-numbers}
@@ -229,10 +230,7 @@ ok-only (pop ∷ is) h = (tt, ok-only is (h .1))
 ok-only (raw t ∷ is) h = (h .0, ok-only is (h .1))
 
 abbrev pub OkPuts : List Op → Type 0
-OkPuts [] = Unit {0}
-OkPuts (keep n ∷ ops) = OkPuts ops
-OkPuts (skip n ∷ ops) = OkPuts ops
-OkPuts (put p ∷ ops) = Ok p × OkPuts ops
+OkPuts ops = AllPuts Ok ops
 
 pub ok-edit : (ops : List Op) (is : List Item) → OkPuts ops → Ok is → Ok (edit ops is)
 ok-edit [] is q h = h

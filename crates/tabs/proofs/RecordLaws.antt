@@ -11,7 +11,6 @@ use lib.Dec.{eqb}
 use lib.ListN.{length, take, drop, getD, length-append, length-drop, drop-of-length-le}
 use lib.Seq.{drop-cons}
 use borrow.Author.Tests.{ne-eqb, lt-ltb, le-ltb}
-use Rattle.chars.specs.Utf8.{table37, rowOf, tailLen, complete}
 use Rattle.chars.specs.Chars.{Character, charAt, charIn, chars, bytesOf, wide}
 use Rattle.chars.proofs.CharsLaws.{bytes-chars, Valid, valid-chars, char-next, chars-end, char-some, char-inside}
 use Rattle.chars.proofs.FoldLaws.{plain}
@@ -25,7 +24,7 @@ use Rattle.recording.proofs.ItemsLaws.{data-bytes}
 use Rattle.layout.specs.declared.Replacement.{Replacement}
 use Rattle.layout.specs.Tabs.{spacesAt, spaces, leadsWith, columnAfter, tabOps}
 use Rattle.layout.specs.Layout.{replaceOps, badRecord, recordsFault, stopFault}
-use Rattle.layout.proofs.TabLaws.{some-spaces, Plain, Sort, tab, newline, other, sort}
+use Rattle.layout.proofs.TabLaws.{some-spaces, Plain, Sort, tab, newline, other, sort, chars-tab}
 use Rattle.replace.specs.Records.{replacement, capped}
 use Rattle.replace.proofs.RecordLaws.{good, no-eight, capped-over, capped-in}
 use Rattle.replace.proofs.ScanLaws.{size-next}
@@ -62,6 +61,20 @@ kept-none s c (ch ∷ cs) is = go (leadsWith 0x09 ch)
         let z : 0 + n ≡ n = omega arith in
         sym (append-assoc (front 0 is) (front n (back 0 is)) (later (back n (back 0 is))))
         ∙ (λ i. sym (front-add 0 n is) i ++ later (sym (back-add 0 n is) i)) ∙ ap (λ (m : ℕ). front m is ++ later (back m is)) z
+
+-- ── the records from a character on: its own, if it is a tab, and those of the characters after it
+module _ (s c at : ℕ) (ch : Character) (cs : List Character) where
+  abbrev own : List Replacement
+  own = replacement at (suc at) 0 (spacesAt s c) ∷ tabRecords s (columnAfter s c ch) (suc at) cs
+
+  abbrev none-own : List Replacement
+  none-own = tabRecords s (columnAfter s c ch) (at + length (ch .text)) cs
+
+  records-tab : leadsWith 0x09 ch ≡ true → tabRecords s c at (ch ∷ cs) ≡ own
+  records-tab t = ap (λ (b : Bool). cond b own none-own) t
+
+  records-other : leadsWith 0x09 ch ≡ false → tabRecords s c at (ch ∷ cs) ≡ none-own
+  records-other t = ap (λ (b : Bool). cond b own none-own) t
 
 module _ (s : ℕ) (low : 1 ≤ s) (high : s ≤ 64) where
   -- `at` is the last record's end, `here` the place of the characters cs
@@ -121,17 +134,14 @@ module _ (s : ℕ) (low : 1 ≤ s) (high : s ≤ 64) where
       Later = (l a : ℕ) → l ≤ a → a + length (bytesOf cs) ≡ n → recordsFault l n 64 (tabRecords s c′ a cs) ≡ 0
 
       kept : leadsWith 0x09 ch ≡ false → Later → recordsFault last n 64 (tabRecords s c at (ch ∷ cs)) ≡ 0
-      kept t f =
-          let g : recordsFault last n 64 (tabRecords s c′ (at + length (ch .text)) cs) ≡ 0 = f last (at + length (ch .text)) (omega (arith, h)) (omega (arith, e, long)) in
-          ap (λ (b : Bool). recordsFault last n 64 (cond b (replacement at (suc at) 0 (spacesAt s c) ∷ tabRecords s c′ (suc at) cs) (tabRecords s c′ (at + length (ch .text)) cs))) t ∙ g
+      kept t f = ap (λ (xs : List Replacement). recordsFault last n 64 xs) (records-other s c at ch cs t) ∙ f last (at + length (ch .text)) (omega (arith, h)) (omega (arith, e, long))
 
       go : Sort ch → Later → recordsFault last n 64 (tabRecords s c at (ch ∷ cs)) ≡ 0
       go (tab t x) f =
           let one : length (ch .text) ≡ 1 = ap length x in
-          let g : recordsFault (suc at) n 64 (tabRecords s c′ (suc at) cs) ≡ 0 = f (suc at) (suc at) (omega arith) (omega (arith, e, long, one)) in
           let b = good-record last at n (spacesAt s c) h (omega (arith, e, long, one)) (omega (arith, some-spaces s c low .1, high)) in
-          ap (λ (u : Bool). recordsFault last n 64 (cond u (replacement at (suc at) 0 (spacesAt s c) ∷ tabRecords s c′ (suc at) cs) (tabRecords s c′ (at + length (ch .text)) cs))) t
-          ∙ ap (λ (u : Bool). cond u 8 (recordsFault (suc at) n 64 (tabRecords s c′ (suc at) cs))) b ∙ g
+          ap (λ (xs : List Replacement). recordsFault last n 64 xs) (records-tab s c at ch cs t)
+          ∙ ap (λ (u : Bool). cond u 8 (recordsFault (suc at) n 64 (tabRecords s c′ (suc at) cs))) b ∙ f (suc at) (suc at) (omega arith) (omega (arith, e, long, one))
       go (newline t u x) f = kept t f
       go (other t u x) f = kept t f
 
@@ -197,10 +207,6 @@ printable-passed ds from c i more p q o =
     let k = plain ds i p (omega (arith, q)) in
     let next = char-passed ds i w 1 (w + 1) more (λ z. omega (arith, z, p)) (sym (k .0)) (rw (ne-eqb (getD ds i 0) 0x0A (λ z. omega (arith, z, p)), k .1)) (omega (arith, o .bounded)) in
     subst (λ (v : ℕ). Onward ds from c (place (i + 1) v)) (omega (arith, o .forward)) (onward-then ds from c (place i w) (place (i + 1) (w + 1)) o (next .onward))
-
-chars-tab : (y : List ℕ) → chars (0x09 ∷ y) ≡ record { text = 0x09 ∷ []; code = 0x09; ok = true } ∷ chars y
-unfolding chars charAt tailLen rowOf table37 complete
-chars-tab y = refl
 
 -- at a tab: its record, and the tabs from behind it on
 pub tab-next : (s : ℕ) (ds : List ℕ) (p : Place) → p .at < length ds → getD ds (p .at) 0 ≡ 0x09
@@ -298,10 +304,6 @@ module _ (s : ℕ) (low : 1 ≤ s) where
       Later : ℕ → Type 0
       Later a = growth (tabRecords s (columnAfter s c ch) a cs) ≤ m * (s - 1)
 
-      split : (t : Bool) → leadsWith 0x09 ch ≡ t → growth (tabRecords s c at (ch ∷ cs))
-          ≡ growth (cond t (replacement at (suc at) 0 (spacesAt s c) ∷ tabRecords s (columnAfter s c ch) (suc at) cs) (tabRecords s (columnAfter s c ch) (at + length (ch .text)) cs))
-      split t e = ap (λ (b : Bool). growth (cond b (replacement at (suc at) 0 (spacesAt s c) ∷ tabRecords s (columnAfter s c ch) (suc at) cs) (tabRecords s (columnAfter s c ch) (at + length (ch .text)) cs))) e
-
       most : (n : ℕ) → tabCount (ch .text ++ bytesOf cs) ≡ n → growth (tabRecords s c at (ch ∷ cs)) ≤ n * (s - 1) → growth (tabRecords s c at (ch ∷ cs)) ≤ tabCount (ch .text ++ bytesOf cs) * (s - 1)
       most n e h = subst (λ (k : ℕ). growth (tabRecords s c at (ch ∷ cs)) ≤ k * (s - 1)) (sym e) h
 
@@ -309,9 +311,9 @@ module _ (s : ℕ) (low : 1 ≤ s) where
       counted t x = ap (λ (b : List ℕ). tabCount (b ++ bytesOf cs)) x
 
       go : Sort ch → Later (suc at) → Later (at + length (ch .text)) → growth (tabRecords s c at (ch ∷ cs)) ≤ tabCount (ch .text ++ bytesOf cs) * (s - 1)
-      go (tab t x) f g = most (1 + m) (counted (0x09 ∷ []) x) (omega (arith, split true t, f, add-mul 1 m (s - 1), one-mul (s - 1), some-spaces s c low .1))
-      go (newline t u x) f g = most m (counted (0x0A ∷ []) x ∙ omega arith) (omega (arith, split false t, g))
-      go (other t u x) f g = most m (count-plain (ch .text) (bytesOf cs) x) (omega (arith, split false t, g))
+      go (tab t x) f g = most (1 + m) (counted (0x09 ∷ []) x) (omega (arith, ap growth (records-tab s c at ch cs t), f, add-mul 1 m (s - 1), one-mul (s - 1), some-spaces s c low .1))
+      go (newline t u x) f g = most m (counted (0x0A ∷ []) x ∙ omega arith) (omega (arith, ap growth (records-other s c at ch cs t), g))
+      go (other t u x) f g = most m (count-plain (ch .text) (bytesOf cs) x) (omega (arith, ap growth (records-other s c at ch cs t), g))
 
 module _ (s : ℕ) (low : 1 ≤ s) (high : s ≤ 64) (ds : List ℕ) where
   pub size-most : length (editData (tabOps s 0 (chars ds)) ds) ≤ length ds + tabCount ds * (s - 1)

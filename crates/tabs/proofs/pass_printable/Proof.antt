@@ -1,6 +1,5 @@
 -- Invariant: each byte so far was a character of width 1 and no tab (`printable-passed`).
 use native.Mathlib.Omega.{arith}
-use borrow.Author.Needs.{needs}
 use Prim.Native.Nat.{ℕ, _+_, _-_, _<_}
 use mathlib.Core.Path.{subst}
 use lib.ListN.{length}

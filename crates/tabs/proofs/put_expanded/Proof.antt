@@ -160,7 +160,8 @@ put-bytes-requires c κs =
     let s = start (head k) in
     let g = good-tab k in
     let f = room-put (ds s) (ns s) (ts s) (new s) (tab-record (head k) (many k)) (head k .loop .c) _ (the-turn k) _ (k .keep .ensures .0) in
-    (g .part, g .within, bytes-room _ _ _ (part 0 (many k) (new s)) (k .keep .result) _ (length-part 0 (many k) (new s) (g .within)) f)
+    let room-here = bytes-room _ _ _ (part 0 (many k) (new s)) (k .keep .result) _ (length-part 0 (many k) (new s) (g .within)) f in
+    (omega (arith, k .before .before .before .before .spaces-at .ensures .1), g .within, omega (arith, room-here))
 
 add-skip : tie.Need-add-skip Inv-loop μ-loop
 add-skip c = let k = kept (c .before .before .before .before .before .before) in omega (arith, inside k, limit (start (head k)))
