@@ -3,7 +3,7 @@
 use Prim.Native.Nat.{ℕ, zero, suc, _+_, _-_, _%_, _≤_, _<_}
 use native.Mathlib.Nat.{mod-lt}
 use native.Mathlib.Omega.{arith}
-use mathlib.Core.Bool.{Bool, true, false, cond}
+use mathlib.Core.Bool.{Bool, true, false}
 use mathlib.Core.Path.{_≡_, refl, sym, ap, _∙_}
 use mathlib.Core.List.{List, [], _∷_, _++_, append-assoc, append-nil}
 use mathlib.Core.Logic.{_≢_}
@@ -120,20 +120,15 @@ module _ (line : Bytes) (ch : Character) (cs : List Character) (k : Closed line 
       ap chars (append-assoc line (spaces n) (bytesOf cs)) ∙ f ∙ sym (append-assoc (chars line) (chars (spaces n)) cs) ∙ ap (λ (l : List Character). l ++ cs) (sym (chars-line line n h))
 
 -- ── the definition's column, from the width of the line so far, is the width of the line after the character
-column-of : (s c : ℕ) (ch : Character) (t u : Bool) → leadsWith 0x09 ch ≡ t → leadsWith 0x0A ch ≡ u → columnAfter s c ch ≡ cond t (c + spacesAt s c) (cond u 0 (c + wide ch))
-column-of s c ch t u p q = rw (p, q)
-
 module _ (s : ℕ) (line : Bytes) (ch : Character) where
   pub column-tab : 1 ≤ s → leadsWith 0x09 ch ≡ true → columnAfter s (textWidth line) ch ≡ textWidth (line ++ spaces (spacesAt s (textWidth line)))
-  column-tab h t =
-      let n : ℕ = spacesAt s (textWidth line) in
-      omega (arith, column-of s (textWidth line) ch true (leadsWith 0x0A ch) t refl, width-line line n (some-spaces s (textWidth line) h .0))
+  column-tab h t = rw t (omega (arith, width-line line (spacesAt s (textWidth line)) (some-spaces s (textWidth line) h .0)))
 
   pub column-new : leadsWith 0x09 ch ≡ false → leadsWith 0x0A ch ≡ true → columnAfter s (textWidth line) ch ≡ textWidth []
-  column-new t u = omega (arith, column-of s (textWidth line) ch false true t u, width-none)
+  column-new t u = rw (t, u) (omega (arith, width-none))
 
   pub column-more : (cs : List Character) → Closed line (ch ∷ cs) → leadsWith 0x09 ch ≡ false → leadsWith 0x0A ch ≡ false → columnAfter s (textWidth line) ch ≡ textWidth (line ++ ch .text)
-  column-more cs k t u = omega (arith, column-of s (textWidth line) ch false false t u, width-more line ch cs k)
+  column-more cs k t u = rw (t, u) (omega (arith, width-more line ch cs k))
 
 -- ── a tab is read as one character, whatever follows
 abbrev pub tab-char : Character
