@@ -29,11 +29,11 @@ module _ (P : List Item → Type 0) where
     puts-wrap n at (l ∷ []) = tt
     puts-wrap n at (l ∷ m ∷ ls) = (bytes (0x0A ∷ []), puts-wrap n (l .end) (m ∷ ls))
 
-    puts-replace : (t : Bytes) (at : ℕ) (xs : List Replacement) → AllPuts P (replaceOps t at xs)
+    pub puts-replace : (t : Bytes) (at : ℕ) (xs : List Replacement) → AllPuts P (replaceOps t at xs)
     puts-replace t at [] = tt
     puts-replace t at (x ∷ xs) = (bytes (part (x .from) (x .to) t), puts-replace t (x .end) xs)
 
-    puts-tabs : (s c : ℕ) (cs : List Character) → AllPuts P (tabOps s c cs)
+    pub puts-tabs : (s c : ℕ) (cs : List Character) → AllPuts P (tabOps s c cs)
     puts-tabs s c [] = tt
     puts-tabs s c (ch ∷ cs) = go (leadsWith 0x09 ch) (puts-tabs s (columnAfter s c ch) cs)
       where

@@ -28,7 +28,7 @@ use Rattle.layout.specs.Theorem.{SecondOk}
 use Rattle.layout.specs.Wrap.{Line, wrapLines}
 use Rattle.layout.specs.declared.Replacement.{Replacement}
 use Rattle.layout.proofs.TabLaws.{some-spaces, Plain, Sort, tab, newline, other, sort, Closed, closed-start, closed-more, closed-new, closed-spaces, column-tab, column-new, column-more}
-use Rattle.layout.proofs.PutLaws.{puts-indent, puts-wrap, puts-single}
+use Rattle.layout.proofs.PutLaws.{puts-indent, puts-wrap, puts-replace, puts-tabs, puts-single}
 use Rattle.layout.proofs.PadLaws.{flat, coloured-padding, bal-padding}
 
 -- ── lists
@@ -259,12 +259,12 @@ module _ (r : Recording) (h : balanced r ≡ true) where
 
   replaced-law : (xs : List Replacement) (t : Bytes) → Sorted 0 xs → colouredFrom [] (resultItems (replace xs t) r) ≡ step (toldOf (replace xs t)) (coloured r)
   unfolding resultItems step toldOf coloured balanced
-  replaced-law xs t o = edit-law (replaceOps t 0 xs) [] (items r) h (puts-single Balanced bal-bytes (writeReplaced xs t) (r .dataBytes)) ∙ replace-law t 0 xs (coloured r) o
+  replaced-law xs t o = edit-law (replaceOps t 0 xs) [] (items r) h (puts-replace Balanced bal-bytes t 0 xs) ∙ replace-law t 0 xs (coloured r) o
 
   expanded-law : (s : ℕ) → 1 ≤ s → colouredFrom [] (resultItems (expandTabs s) r) ≡ step (toldOf (expandTabs s)) (coloured r)
   unfolding resultItems step toldOf coloured balanced
   expanded-law s g =
-      edit-law (tabOps s 0 (chars (r .dataBytes))) [] (items r) h (puts-single Balanced bal-bytes (writeTabsExpanded s) (r .dataBytes))
+      edit-law (tabOps s 0 (chars (r .dataBytes))) [] (items r) h (puts-tabs Balanced bal-bytes s 0 (chars (r .dataBytes)))
       ∙ (rw width-none at (tab-law s g [] (chars (r .dataBytes)) (valid-chars (r .dataBytes)) (closed-start (r .dataBytes)) (coloured r) (values-of r ∙ sym (bytes-chars (r .dataBytes)))))
 
   wrapped-law : (w : ℕ) (b : Bool) (ls : List Line) → wrapLines w b (r .dataBytes) ≡ ls → Ordered 0 ls → (0 < length ls)
