@@ -79,7 +79,7 @@ module _ {A : Type 0} (joins : ℕ → A → Bool) (size : A → ℕ) where
   groups-concat [] = refl
   groups-concat (a ∷ r) = onto-concat a (groupsFrom joins size (size a) r) ∙ ap (λ (l : List A). a ∷ l) (grouped-concat (grouped (size a) r))
 
-  pub onto-some : (a : A) (gs : List (List A)) → 0 < length (ontoFirst a gs)
+  onto-some : (a : A) (gs : List (List A)) → 0 < length (ontoFirst a gs)
   onto-some a [] = omega arith
   onto-some a (g ∷ gs) = omega arith
 

@@ -5,6 +5,7 @@ use mathlib.Core.Bool.{Bool, true, false, cond}
 use mathlib.Core.Path.{_≡_}
 use mathlib.Core.List.{List, [], _∷_, _++_}
 use lib.Dec.{ltb}
+use lib.ListN.{length}
 use borrow.Author.Tests.{eq-eqb}
 use Rattle.chars.specs.Chars.{textWidth}
 use Rattle.chars.specs.Cut.{truncateEndPos, zeroWidthLen}
@@ -14,9 +15,11 @@ use Rattle.recording.specs.Refusals.{recordingFault}
 use Rattle.recording.proofs.FaultLaws.{Ok, ItemOk, ok-bytes, ok-edit, ok-recording, encoded}
 use Rattle.recording.proofs.Lists.{all-append}
 use Rattle.layout.specs.Layout.{trimmedStartPos, cutEnd, cutStart, copies, repeatPieces, padding, fillCount, indentOps, writeTruncatedStart}
-use Rattle.layout.specs.Layout.{writeTruncatedEnd, writePaddedStart, writePaddedEnd, writePaddedCentered, writeIndented, Job, withSecond}
+use Rattle.layout.specs.Layout.{writeTruncatedEnd, writePaddedStart, writePaddedEnd, writePaddedCentered, writeIndented, writeUnindented, Job, withSecond}
 use Rattle.layout.specs.Layout.{alone, singleOps, Call, resultItems, secondFault, refusal, after, faultsOf, resultOf}
-use Rattle.layout.proofs.PutLaws.{puts-indent, puts-single}
+use Rattle.layout.specs.Unindent.{unindentOps}
+use Rattle.layout.specs.Wrap.{splitLines}
+use Rattle.layout.proofs.PutLaws.{puts-indent, puts-unindent, puts-single}
 use Rattle.layout.proofs.ListLaws.{after-done, GrantedCall, granted-call}
 
 ok-copies : (n : ℕ) (d : Bytes) → Ok (copies n d)
@@ -63,6 +66,9 @@ ok-result (withSecond writePaddedCentered m f) r h g =
     all-append ItemOk (padding (n / 2) (items f)) (items r ++ padding (n - n / 2) (items f)) (ok-padding (n / 2) (items f) (ok-recording f g))
     (all-append ItemOk (items r) (padding (n - n / 2) (items f)) (ok-recording r h) (ok-padding (n - n / 2) (items f) (ok-recording f g)))
 ok-result (withSecond writeIndented m p) r h g = ok-edit (indentOps (items p) true (r .dataBytes)) (items r) (puts-indent Ok (items p) true (r .dataBytes) (ok-recording p g)) (ok-recording r h)
+ok-result (withSecond writeUnindented m p) r h g =
+    let ops = unindentOps (length (p .dataBytes)) (splitLines (r .dataBytes)) in
+    ok-edit ops (items r) (puts-unindent Ok (length (p .dataBytes)) (splitLines (r .dataBytes))) (ok-recording r h)
 ok-result (alone s) r h g = ok-edit (singleOps s (r .dataBytes)) (items r) (puts-single Ok ok-bytes s (r .dataBytes)) (ok-recording r h)
 
 pub left-valid : (c : Call) (r : Recording) → refusal c r ≡ 0 → recordingFault (after c r) ≡ 0

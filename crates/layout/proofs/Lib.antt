@@ -1,3 +1,5 @@
+pub mod LineLaws
+pub mod UnindentLaws
 pub mod PutLaws
 pub mod PadLaws
 pub mod PieceLaws

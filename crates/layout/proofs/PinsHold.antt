@@ -47,7 +47,7 @@ ticket-balanced = refl
 
 ticket-proper : Proper ticket c16
 unfolding balanced noneInside items
-ticket-proper = (λ e. (refl, λ h. refl), (λ e. tt, (λ e. (refl, λ h. absurd (false≢true h)), (λ e. (refl, λ h. absurd (false≢true h)), tt))))
+ticket-proper = (λ e. (λ h. refl, λ h. refl), (λ e. tt, (λ e. (λ h. refl, λ h. absurd (false≢true h)), (λ e. (λ h. refl, λ h. absurd (false≢true h)), tt))))
 
 pub ticket-commutes : Demand3 ticket c16
 ticket-commutes = demand3 ticket c16 ticket-balanced ticket-proper

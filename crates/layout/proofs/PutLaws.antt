@@ -1,4 +1,4 @@
--- What the edits of the layout calls put in: indenting its prefix, every other call bytes. So what is true of the prefix, or of any bytes, is true of all that is put in (`AllPuts`).
+-- What the edits of the layout calls put in: indenting its prefix, taking the indent off nothing, every other call bytes. So what is true of the prefix, or of any bytes, is true of all that is put in (`AllPuts`).
 use Prim.Native.Nat.{ℕ}
 use mathlib.Core.Bool.{Bool, true, false, cond, _&&_, not}
 use mathlib.Core.List.{List, [], _∷_, _++_}
@@ -11,6 +11,7 @@ use Rattle.recording.specs.Edit.{keep, skip, put}
 use Rattle.recording.proofs.EditLaws.{AllPuts}
 use Rattle.layout.specs.declared.Replacement.{Replacement}
 use Rattle.layout.specs.Tabs.{spacesAt, spaces, leadsWith, columnAfter, tabOps}
+use Rattle.layout.specs.Unindent.{unindentOps}
 use Rattle.layout.specs.Wrap.{Line, wrapLines}
 use Rattle.layout.specs.Layout.{indentOps, wrapOps, replaceOps, Single, writeWrapped, writeReplaced, writeTabsExpanded, singleOps}
 
@@ -22,6 +23,10 @@ module _ (P : List Item → Type 0) where
       go : (t : Bool) → AllPuts P (indentOps p (eqb b 0x0A) d) → AllPuts P (cond t (put p ∷ []) [] ++ keep 1 ∷ indentOps p (eqb b 0x0A) d)
       go true q = (h, q)
       go false q = q
+
+  pub puts-unindent : (n : ℕ) (ls : List Bytes) → AllPuts P (unindentOps n ls)
+  puts-unindent n [] = tt
+  puts-unindent n (l ∷ ls) = puts-unindent n ls
 
   module _ (bytes : (d : Bytes) → P (byteItems d)) where
     pub puts-wrap : (n at : ℕ) (ls : List Line) → AllPuts P (wrapOps n at ls)

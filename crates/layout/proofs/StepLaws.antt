@@ -20,15 +20,17 @@ use Rattle.recording.proofs.EditLaws.{Balanced, coloured-append, open-under, ed
 use Rattle.recording.proofs.ItemsLaws.{values-of, values-take, values-drop}
 use Rattle.recording.proofs.Lists.{or-left, or-right}
 use Rattle.layout.specs.Layout.{ownFault, singleOps, trimmedStartPos, cutEnd, cutStart, padding, fillCount, indentOps, wrapOps, replaceOps, writeTruncatedStart}
-use Rattle.layout.specs.Layout.{writeTruncatedEnd, writePaddedStart, writePaddedEnd, writePaddedCentered, writeIndented, writeWrapped, writeReplaced, writeTabsExpanded, Job, withSecond}
+use Rattle.layout.specs.Layout.{writeTruncatedEnd, writePaddedStart, writePaddedEnd, writePaddedCentered, writeIndented, writeUnindented, writeWrapped, writeReplaced, writeTabsExpanded, Job, withSecond}
 use Rattle.layout.specs.Layout.{alone, truncateStart, truncateEnd, padStart, padEnd, padCentered, wrap, replace, expandTabs, resultItems, recordsFault, stopFault}
 use Rattle.layout.specs.Plain.{times, withLabels, indented, wrapped, replaced, tabbed, step, toldOf}
 use Rattle.layout.specs.Tabs.{spacesAt, spaces, columnAfter, charOps, tabOps}
 use Rattle.layout.specs.Theorem.{SecondOk}
-use Rattle.layout.specs.Wrap.{Line, wrapLines}
+use Rattle.layout.specs.Unindent.{unindentOps, prefixFault}
+use Rattle.layout.specs.Wrap.{Line, splitLines, wrapLines}
 use Rattle.layout.specs.declared.Replacement.{Replacement}
 use Rattle.layout.proofs.TabLaws.{some-spaces, Plain, Sort, tab, newline, other, sort, Closed, closed-start, closed-more, closed-new, closed-spaces, column-tab, column-new, column-more}
-use Rattle.layout.proofs.PutLaws.{puts-indent, puts-wrap, puts-replace, puts-tabs, puts-single}
+use Rattle.layout.proofs.PutLaws.{puts-indent, puts-unindent, puts-wrap, puts-replace, puts-tabs, puts-single}
+use Rattle.layout.proofs.UnindentLaws.{byteOps, by-bytes, puts-bytes, unindent-law, begin-long, no-prefix-fault}
 use Rattle.layout.proofs.PadLaws.{flat, coloured-padding, bal-padding}
 
 -- ── lists
@@ -257,6 +259,16 @@ module _ (r : Recording) (h : balanced r ≡ true) where
       edit-law (indentOps (items p) true (r .dataBytes)) [] (items r) h (puts-indent Balanced (items p) true (r .dataBytes) g)
       ∙ (rw (values-of r) at (indent-law (items p) true (coloured r)))
 
+  unindented-law : (m : ℕ) (p : Recording) → prefixFault (p .dataBytes) (r .dataBytes) ≡ 0
+      → colouredFrom [] (resultItems (withSecond writeUnindented m p) r) ≡ step (toldOf (withSecond writeUnindented m p)) (coloured r)
+  unfolding resultItems step toldOf coloured balanced
+  unindented-law m p z =
+      let d : Bytes = r .dataBytes in
+      let n : ℕ = length (p .dataBytes) in
+      ap (λ (is : List Item). colouredFrom [] is) (by-bytes n d (begin-long (p .dataBytes) (splitLines d) (no-prefix-fault (p .dataBytes) d z .all)) (items r))
+      ∙ edit-law (byteOps n n d) [] (items r) h (puts-bytes Balanced n n d)
+      ∙ (rw (values-of r) at (unindent-law n n (coloured r))) ∙ rw (length-coloured p)
+
   replaced-law : (xs : List Replacement) (t : Bytes) → Sorted 0 xs → colouredFrom [] (resultItems (replace xs t) r) ≡ step (toldOf (replace xs t)) (coloured r)
   unfolding resultItems step toldOf coloured balanced
   replaced-law xs t o = edit-law (replaceOps t 0 xs) [] (items r) h (puts-replace Balanced bal-bytes t 0 xs) ∙ replace-law t 0 xs (coloured r) o
@@ -282,7 +294,7 @@ module _ (r : Recording) (h : balanced r ≡ true) where
       let x : List Item = edit (cutStart (trimmedStartPos m (e .dataBytes))) (items e) in
       let y : List Item = edit (cutStart (trimmedStartPos (m - textWidth (e .dataBytes)) (r .dataBytes))) (items r) in
       bal-cond (ltb m (textWidth (r .dataBytes))) (x ++ y) (edit (cutStart (zeroWidthLen (r .dataBytes))) (items r))
-      (bal-join x y (edit-bal (cutStart (trimmedStartPos m (e .dataBytes))) 0 (items e) tt (g .0))
+      (bal-join x y (edit-bal (cutStart (trimmedStartPos m (e .dataBytes))) 0 (items e) tt (g .0 refl))
       (edit-bal (cutStart (trimmedStartPos (m - textWidth (e .dataBytes)) (r .dataBytes))) 0 (items r) tt h))
       (edit-bal (cutStart (zeroWidthLen (r .dataBytes))) 0 (items r) tt h)
   bal-law (withSecond writeTruncatedEnd m e) g =
@@ -290,27 +302,31 @@ module _ (r : Recording) (h : balanced r ≡ true) where
       let y : List Item = edit (cutEnd (truncateEndPos m (e .dataBytes)) (e .dataBytes)) (items e) in
       bal-cond (ltb m (textWidth (r .dataBytes))) (x ++ y) (items r)
       (bal-join x y (edit-bal (cutEnd (truncateEndPos (m - textWidth (e .dataBytes)) (r .dataBytes)) (r .dataBytes)) 0 (items r) tt h)
-      (edit-bal (cutEnd (truncateEndPos m (e .dataBytes)) (e .dataBytes)) 0 (items e) tt (g .0)))
+      (edit-bal (cutEnd (truncateEndPos m (e .dataBytes)) (e .dataBytes)) 0 (items e) tt (g .0 refl)))
       h
-  bal-law (withSecond writePaddedStart m f) g = bal-join (padding (fillCount m (r .dataBytes)) (items f)) (items r) (pads-bal f (g .0) (g .1 refl) (fillCount m (r .dataBytes))) h
-  bal-law (withSecond writePaddedEnd m f) g = bal-join (items r) (padding (fillCount m (r .dataBytes)) (items f)) h (pads-bal f (g .0) (g .1 refl) (fillCount m (r .dataBytes)))
+  bal-law (withSecond writePaddedStart m f) g = bal-join (padding (fillCount m (r .dataBytes)) (items f)) (items r) (pads-bal f (g .0 refl) (g .1 refl) (fillCount m (r .dataBytes))) h
+  bal-law (withSecond writePaddedEnd m f) g = bal-join (items r) (padding (fillCount m (r .dataBytes)) (items f)) h (pads-bal f (g .0 refl) (g .1 refl) (fillCount m (r .dataBytes)))
   bal-law (withSecond writePaddedCentered m f) g =
       let n : ℕ = fillCount m (r .dataBytes) in
-      bal-join (padding (n / 2) (items f)) (items r ++ padding (n - n / 2) (items f)) (pads-bal f (g .0) (g .1 refl) (n / 2))
-      (bal-join (items r) (padding (n - n / 2) (items f)) h (pads-bal f (g .0) (g .1 refl) (n - n / 2)))
-  bal-law (withSecond writeIndented m p) g = edit-bal (indentOps (items p) true (r .dataBytes)) 0 (items r) (puts-indent Balanced (items p) true (r .dataBytes) (g .0)) h
+      bal-join (padding (n / 2) (items f)) (items r ++ padding (n - n / 2) (items f)) (pads-bal f (g .0 refl) (g .1 refl) (n / 2))
+      (bal-join (items r) (padding (n - n / 2) (items f)) h (pads-bal f (g .0 refl) (g .1 refl) (n - n / 2)))
+  bal-law (withSecond writeIndented m p) g = edit-bal (indentOps (items p) true (r .dataBytes)) 0 (items r) (puts-indent Balanced (items p) true (r .dataBytes) (g .0 refl)) h
+  bal-law (withSecond writeUnindented m p) g =
+      let ops = unindentOps (length (p .dataBytes)) (splitLines (r .dataBytes)) in
+      edit-bal ops 0 (items r) (puts-unindent Balanced (length (p .dataBytes)) (splitLines (r .dataBytes))) h
   bal-law (alone s) g = edit-bal (singleOps s (r .dataBytes)) 0 (items r) (puts-single Balanced bal-bytes s (r .dataBytes)) h
 
   -- the plain step
   pub step-law : ((w : ℕ) (b : Bool) (d : Bytes) → Ordered 0 (wrapLines w b d) × (0 < length (wrapLines w b d)))
       → (j : Job) → SecondOk j → ownFault j r ≡ 0 → colouredFrom [] (resultItems j r) ≡ step (toldOf j) (coloured r)
   unfolding ownFault
-  step-law o (withSecond writeTruncatedStart m e) g z = start-law m e (g .0)
-  step-law o (withSecond writeTruncatedEnd m e) g z = end-law m e (g .0) (length-coloured e)
-  step-law o (withSecond writePaddedStart m f) g z = padStart-law f (g .0) (g .1 refl) m
-  step-law o (withSecond writePaddedEnd m f) g z = padEnd-law f (g .0) (g .1 refl) m
-  step-law o (withSecond writePaddedCentered m f) g z = padBoth-law f (g .0) (g .1 refl) m
-  step-law o (withSecond writeIndented m p) g z = indented-law m p (g .0)
+  step-law o (withSecond writeTruncatedStart m e) g z = start-law m e (g .0 refl)
+  step-law o (withSecond writeTruncatedEnd m e) g z = end-law m e (g .0 refl) (length-coloured e)
+  step-law o (withSecond writePaddedStart m f) g z = padStart-law f (g .0 refl) (g .1 refl) m
+  step-law o (withSecond writePaddedEnd m f) g z = padEnd-law f (g .0 refl) (g .1 refl) m
+  step-law o (withSecond writePaddedCentered m f) g z = padBoth-law f (g .0 refl) (g .1 refl) m
+  step-law o (withSecond writeIndented m p) g z = indented-law m p (g .0 refl)
+  step-law o (withSecond writeUnindented m p) g z = unindented-law m p z
   step-law o (alone (writeWrapped w b)) g z = wrapped-law w b (wrapLines w b (r .dataBytes)) refl ((o w b (r .dataBytes)) .0) ((o w b (r .dataBytes)) .1)
   step-law o (alone (writeReplaced xs t)) g z = replaced-law xs t (sorted 0 (length (r .dataBytes)) (length t) xs z)
   step-law o (alone (writeTabsExpanded s)) g z = expanded-law s (some-stop s z)

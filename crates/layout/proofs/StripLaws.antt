@@ -4,7 +4,7 @@ use mathlib.Core.Bool.{Bool, true, false, cond, _&&_, not}
 use mathlib.Core.Path.{_≡_, refl, sym, ap, _∙_}
 use mathlib.Core.List.{List, [], _∷_, _++_, append-nil}
 use lib.Dec.{ltb, eqb}
-use lib.ListN.{drop}
+use lib.ListN.{length, drop}
 use borrow.Author.Tests.{eqb-true, eq-eqb}
 use Rattle.chars.specs.Chars.{textWidth}
 use Rattle.chars.specs.Cut.{truncateEndPos, zeroWidthLen}
@@ -17,12 +17,13 @@ use Rattle.recording.proofs.EditLaws.{AllPuts, data-append, edit-data}
 use Rattle.recording.proofs.FaultLaws.{no-fault, in-limits, Roomy, roomy}
 use Rattle.recording.proofs.ItemsLaws.{data-items, data-bytes}
 use Rattle.layout.specs.Layout.{trimmedStartPos, cutEnd, cutStart, copies, repeatPieces, padding, fillCount, indentOps, Kind, writeTruncatedStart}
-use Rattle.layout.specs.Layout.{writeTruncatedEnd, writePaddedStart, writePaddedEnd, writePaddedCentered, writeIndented, Single, Job, withSecond}
+use Rattle.layout.specs.Layout.{writeTruncatedEnd, writePaddedStart, writePaddedEnd, writePaddedCentered, writeIndented, writeUnindented, Single, Job, withSecond}
 use Rattle.layout.specs.Layout.{alone, singleOps, Call, resultItems, linesLeft, secondFault, refusal, after, run, ownFault, faultsOf, resultOf}
 use Rattle.layout.specs.Theorem.{SecondOk, Proper, strippedJob, stripped, again, NoneRefused}
-use Rattle.layout.specs.Wrap.{lineNumbers}
+use Rattle.layout.specs.Unindent.{unindentOps}
+use Rattle.layout.specs.Wrap.{lineNumbers, splitLines}
 use Rattle.layout.proofs.ListLaws.{after-done, after-refused, GrantedCall, grant-call, granted-call}
-use Rattle.layout.proofs.PutLaws.{puts-indent, puts-single}
+use Rattle.layout.proofs.PutLaws.{puts-indent, puts-unindent, puts-single}
 use Rattle.layout.proofs.PadLaws.{NoBytes, Flat, flat, repeat-flat}
 
 -- ── the data of a result, from the data of the content and of the second recording
@@ -35,6 +36,7 @@ kindData writePaddedStart m f d = dataOf (copies (fillCount m d) f) ++ d
 kindData writePaddedEnd m f d = d ++ dataOf (copies (fillCount m d) f)
 kindData writePaddedCentered m f d = let n = fillCount m d in dataOf (copies (n / 2) f) ++ (d ++ dataOf (copies (n - n / 2) f))
 kindData writeIndented m p d = editData (indentOps (byteItems p) true d) d
+kindData writeUnindented m p d = editData (unindentOps (length p) (splitLines d)) d
 
 unfoldable pub resultData : Job → Bytes → Bytes
 unfolding kindData
@@ -110,6 +112,7 @@ result-data (withSecond writePaddedCentered m f) r g =
     )
 result-data (withSecond writeIndented m p) r g =
     edited (indentOps (items p) true (r .dataBytes)) r ∙ indent-data (items p) (byteItems (p .dataBytes)) true (r .dataBytes) (r .dataBytes) (data-items p ∙ sym (data-bytes (p .dataBytes)))
+result-data (withSecond writeUnindented m p) r g = edited (unindentOps (length (p .dataBytes)) (splitLines (r .dataBytes))) r
 result-data (alone s) r g = edited (singleOps s (r .dataBytes)) r
 
 strip-ok : (f : Recording) → (balanced (strip f) ≡ true) × (noneInside (strip f) ≡ true)
@@ -121,7 +124,7 @@ strip-ok f = (go (f .dataBytes), refl)
     go (b ∷ d) = go d
 
 stripped-ok : (j : Job) → SecondOk (strippedJob j)
-stripped-ok (withSecond k m q) = (strip-ok q .0, λ e. strip-ok q .1)
+stripped-ok (withSecond k m q) = (λ e. strip-ok q .0, λ e. strip-ok q .1)
 stripped-ok (alone s) = tt
 
 stripped-data : (j : Job) (d : Bytes) → resultData (strippedJob j) d ≡ resultData j d
@@ -241,6 +244,9 @@ bare-result (withSecond writePaddedCentered m f) r h =
     bare-append (padding (n / 2) (items (strip f))) (items r ++ padding (n - n / 2) (items (strip f))) (bare-padding (n / 2) (items (strip f)) (bare-strip f))
     (bare-append (items r) (padding (n - n / 2) (items (strip f))) h (bare-padding (n - n / 2) (items (strip f)) (bare-strip f)))
 bare-result (withSecond writeIndented m p) r h = bare-edit (indentOps (items (strip p)) true (r .dataBytes)) (items r) (puts-indent Bare (items (strip p)) true (r .dataBytes) (bare-strip p)) h
+bare-result (withSecond writeUnindented m p) r h =
+    let n : ℕ = length (strip p .dataBytes) in
+    bare-edit (unindentOps n (splitLines (r .dataBytes))) (items r) (puts-unindent Bare n (splitLines (r .dataBytes))) h
 bare-result (alone s) r h = bare-edit (singleOps s (r .dataBytes)) (items r) (bare-single s (r .dataBytes)) h
 
 bare-entries : (at used : ℕ) (is : List Item) → Bare is → entriesFrom at used is ≡ []
@@ -280,8 +286,8 @@ second-strip (withSecond k m q) h = fault-strip q h
 second-strip (alone s) h = refl
 
 own-strip : (j : Job) (r r′ : Recording) → r′ .dataBytes ≡ r .dataBytes → ownFault j r ≡ 0 → ownFault (strippedJob j) r′ ≡ 0
-unfolding ownFault
-own-strip (withSecond k m q) r r′ e h = refl
+unfolding ownFault strip
+own-strip (withSecond k m q) r r′ e h = rw e h
 own-strip (alone s) r r′ e h = rw e h
 
 lines-strip : (j : Job) (r r′ : Recording) → r′ .dataBytes ≡ r .dataBytes → linesLeft (strippedJob j) r′ ≡ linesLeft j r

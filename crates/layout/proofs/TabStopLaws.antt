@@ -24,7 +24,7 @@ use Rattle.layout.specs.Layout.{expandTabs, resultItems, refusal, after}
 use Rattle.layout.specs.Wrap.{ontoFirst, splitLines}
 use Rattle.layout.proofs.ListLaws.{after-done, after-refused}
 use Rattle.layout.proofs.StripLaws.{result-data, resultData}
-use Rattle.layout.proofs.WordLaws.{some-lines}
+use Rattle.layout.proofs.LineLaws.{some-lines, before-first, nil-first}
 use Rattle.layout.proofs.TabLaws.{some-spaces, Plain, spaces-plain, Sort, tab, newline, other, sort, width-line, Closed, closed-start, closed-more, closed-new, closed-spaces, column-tab, column-new, column-more, tab-char, chars-tab}
 
 -- ── the least multiple above a column
@@ -48,15 +48,6 @@ least-stop s c h =
 abbrev lineFrom : Bytes → Bytes → Bytes
 lineFrom line [] = line
 lineFrom line (b ∷ d) = lineFrom (cond (eqb b 0x0A) [] (line ++ (b ∷ []))) d
-
--- a line before the first of some lines
-abbrev before-first : Bytes → List Bytes → List Bytes
-before-first line [] = line ∷ []
-before-first line (l ∷ ls) = (line ++ l) ∷ ls
-
-nil-first : (ls : List Bytes) → 0 < length ls → before-first [] ls ≡ ls
-nil-first [] h = absurd (omega arith)
-nil-first (l ∷ ls) h = refl
 
 last-skip : (l : Bytes) (ls : List Bytes) → 0 < length ls → lastOf (l ∷ ls) ≡ lastOf ls
 last-skip l [] h = absurd (omega arith)

@@ -23,7 +23,8 @@ use Rattle.layout.proofs.BreakLaws.{WordOk, Spaced, breaking-chain, bre
 use Rattle.layout.proofs.ByteWordLaws.{ChainFrom, Chain, NoNewline, RunOk, Next, lines-none, runs-ok, runs-chain, runs-unrun}
 use Rattle.layout.proofs.GroupLaws.{concat, all-concat, groups-concat, Joined, JoinedAll, groups-joined, joined-groups, groups-some}
 use Rattle.layout.proofs.StepLaws.{length-values}
-use Rattle.layout.proofs.WordLaws.{spaces, joinWords, full, full-append, full-fitted, length-full, some-lines}
+use Rattle.layout.proofs.WordLaws.{spaces, joinWords, full, full-append, full-fitted, length-full}
+use Rattle.layout.proofs.LineLaws.{some-lines}
 
 -- ── a line as it is shown: the last word without its whitespace
 abbrev pub closed : List Word → List Word

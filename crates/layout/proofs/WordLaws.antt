@@ -12,7 +12,8 @@ use Rattle.chars.proofs.CharsLaws.{bytes-chars, bytes-append}
 use Rattle.recording.specs.Recording.{isNil}
 use Rattle.layout.specs.Wrap.{ontoFirst, groups, splitLines, Word, ByteWord, byteWord, spaceBefore, byteBefore, byteWords, wordsOf, inHead, headsAsWords, splitWord}
 use Rattle.layout.specs.Wrap.{splitWords, splitWordsAtWidth, fitsLine, fullWidth, firstFit, Line, shownLen, wholeLen, groupLines, wrappedLine, linesFrom, wrapLines}
-use Rattle.layout.proofs.GroupLaws.{concat, groups-concat, groups-some, onto-some}
+use Rattle.layout.proofs.GroupLaws.{concat, groups-concat, groups-some}
+use Rattle.layout.proofs.LineLaws.{some-lines}
 use Rattle.layout.proofs.StepLaws.{Ordered}
 
 abbrev pub spaces : ℕ → List ℕ
@@ -127,14 +128,6 @@ ordered-all : (w : ℕ) (b : Bool) (ls : List (List ℕ)) (at from : ℕ) → fr
 ordered-all w b [] at from h = tt
 ordered-all w b (l ∷ ls) at from h =
     ordered-spans (wrappedLine w b l) at from (linesFrom w b (suc (at + length l)) ls) h (λ e k. ordered-all w b ls (suc (at + length l)) e (omega (arith, wholes-fitted w b l)))
-
-pub some-lines : (d : List ℕ) → 0 < length (splitLines d)
-some-lines [] = omega arith
-some-lines (b ∷ d) = go (eqb b 0x0A)
-  where
-    go : (t : Bool) → 0 < length (cond t ([] ∷ splitLines d) (ontoFirst b (splitLines d)))
-    go true = omega arith
-    go false = onto-some (λ (n : ℕ) (a : ℕ). true) (λ (a : ℕ). 0) b (splitLines d)
 
 pub some-spans : (at : ℕ) (gs : List (List Word)) → length (groupLines at gs) ≡ length gs
 some-spans at [] = refl

@@ -13,7 +13,8 @@ use Rattle.recording.specs.Refusals.{refuseIf, recordingFault}
 use Rattle.recording.specs.Outcome.{Room, Result, Faults, refusalOf, Outcome, refused, done, settle}
 use Rattle.layout.specs.declared.Replacement.{Replacement}
 use Rattle.layout.specs.Tabs.{tabOps}
-use Rattle.layout.specs.Wrap.{Line, lineNumbers, wrapLines}
+use Rattle.layout.specs.Unindent.{unindentOps, prefixFault}
+use Rattle.layout.specs.Wrap.{Line, lineNumbers, splitLines, wrapLines}
 
 -- ── module 2: cutting
 -- where what is kept of an ending starts once its leading zero-width characters are removed
@@ -68,7 +69,7 @@ replaceOps t at (x ∷ xs) = keep (x .start - at) ∷ put (byteItems (part (x .f
 -- ── the calls, by shape
 -- the calls with a second recording: an ellipsis, a fill or a prefix
 pub data Kind : Type 0 where
-  writeTruncatedStart writeTruncatedEnd writePaddedStart writePaddedEnd writePaddedCentered writeIndented : Kind
+  writeTruncatedStart writeTruncatedEnd writePaddedStart writePaddedEnd writePaddedCentered writeIndented writeUnindented : Kind
 
 -- the calls on a content alone: a width and whether words are broken; the replacement records and their text; the columns between tab stops
 pub data Single : Type 0 where
@@ -99,6 +100,10 @@ padCentered m f = withSecond writePaddedCentered m f
 -- indenting has no width
 abbrev pub indent : Recording → Job
 indent p = withSecond writeIndented 0 p
+
+-- nor has taking the indent off
+abbrev pub unindent : Recording → Job
+unindent p = withSecond writeUnindented 0 p
 
 abbrev pub wrap : ℕ → Bool → Job
 wrap w b = alone (writeWrapped w b)
@@ -142,6 +147,7 @@ resultItems (withSecond writePaddedEnd m f) r = items r ++ padding (fillCount m 
 resultItems (withSecond writePaddedCentered m f) r =
     let n = fillCount m (r .dataBytes) in padding (n / 2) (items f) ++ (items r ++ padding (n - n / 2) (items f))
 resultItems (withSecond writeIndented m p) r = edit (indentOps (items p) true (r .dataBytes)) (items r)
+resultItems (withSecond writeUnindented m p) r = edit (unindentOps (length (p .dataBytes)) (splitLines (r .dataBytes))) (items r)
 resultItems (alone s) r = edit (singleOps s (r .dataBytes)) (items r)
 
 -- the lines that a call leaves in the line list
@@ -161,6 +167,7 @@ number (withSecond writePaddedStart m f) r = 0
 number (withSecond writePaddedEnd m f) r = 0
 number (withSecond writePaddedCentered m f) r = 0
 number (withSecond writeIndented m p) r = 0
+number (withSecond writeUnindented m p) r = 0
 number (alone (writeWrapped w b)) r = length (wrapLines w b (r .dataBytes))
 number (alone (writeReplaced xs t)) r = 0
 number (alone (writeTabsExpanded s)) r = 0
@@ -192,9 +199,19 @@ singleFault (writeWrapped w b) d = 0
 singleFault (writeReplaced xs t) d = recordsFault 0 (length d) (length t) xs
 singleFault (writeTabsExpanded s) d = stopFault s
 
+-- of a call with the second recording's data q on the content's d: of taking the indent off, 32 and 33
+abbrev pub kindFault : Kind → Bytes → Bytes → ℕ
+kindFault writeTruncatedStart q d = 0
+kindFault writeTruncatedEnd q d = 0
+kindFault writePaddedStart q d = 0
+kindFault writePaddedEnd q d = 0
+kindFault writePaddedCentered q d = 0
+kindFault writeIndented q d = 0
+kindFault writeUnindented q d = prefixFault q d
+
 -- the refusals of one call alone
 unfoldable pub ownFault : Job → Recording → ℕ
-ownFault (withSecond k m q) r = 0
+ownFault (withSecond k m q) r = kindFault k (q .dataBytes) (r .dataBytes)
 ownFault (alone s) r = singleFault s (r .dataBytes)
 
 unfoldable pub faultsOf : Job → Recording → Faults

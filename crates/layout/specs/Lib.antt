@@ -1,8 +1,10 @@
 pub mod Wrap
 pub mod Tabs
+pub mod Unindent
 pub mod Widths
 pub mod Layout
 pub mod TabStops
+pub mod RoundTrips
 pub mod Lent
 pub mod Pins
 pub mod Plain

@@ -3,7 +3,7 @@ use Prim.Native.Nat.{ℕ, zero, suc, _-_, _/_, _%_}
 use mathlib.Core.Bool.{Bool, true, cond, _&&_, not}
 use mathlib.Core.List.{List, [], _∷_, _++_}
 use lib.Dec.{ltb, eqb}
-use lib.ListN.{take, drop}
+use lib.ListN.{length, take, drop}
 use Rattle.chars.specs.Chars.{textWidth}
 use Rattle.chars.specs.Cut.{truncateEndPos, zeroWidthLen}
 use Rattle.buffer.specs.Place.{part}
@@ -14,7 +14,7 @@ use Rattle.layout.specs.declared.Replacement.{Replacement}
 use Rattle.layout.specs.Tabs.{spaces}
 use Rattle.layout.specs.Wrap.{Line, wrapLines}
 use Rattle.layout.specs.Layout.{trimmedStartPos, fillCount, Kind, writeTruncatedStart, writeTruncatedEnd, writePaddedStart, writePaddedEnd, writePaddedCentered}
-use Rattle.layout.specs.Layout.{writeIndented, Single, writeWrapped, writeReplaced, writeTabsExpanded, Job, withSecond, alone, Call, refusal, after}
+use Rattle.layout.specs.Layout.{writeIndented, writeUnindented, Single, writeWrapped, writeReplaced, writeTabsExpanded, Job, withSecond, alone, Call, refusal, after}
 
 -- what the steps are told of a call: of a refused one only that; of any other its name, numbers, breaking, replacement records and text, and its second recording as coloured bytes
 pub data Told : Type 0 where
@@ -43,6 +43,12 @@ withLabels ls (b ∷ bs) = record { val = b; labels = ls } ∷ withLabels ls bs
 abbrev pub indented : List Coloured → Bool → List Coloured → List Coloured
 indented p start [] = []
 indented p start (c ∷ cs) = cond (start && not (eqb (c .val) 0x0A)) (under (c .labels) p) [] ++ c ∷ indented p (eqb (c .val) 0x0A) cs
+
+-- the first n bytes of every line gone; k: how many of the next byte's line are still to go
+abbrev pub unindented : ℕ → ℕ → List Coloured → List Coloured
+unindented n k [] = []
+unindented n zero (c ∷ cs) = c ∷ unindented n (cond (eqb (c .val) 0x0A) n 0) cs
+unindented n (suc k) (c ∷ cs) = cond (eqb (c .val) 0x0A) (c ∷ unindented n n cs) (unindented n k cs)
 
 -- the stretches of the lines, with one 0A between neighbours, under the labels of the byte at the finished line's end offset
 abbrev pub wrapped : List Line → List Coloured → List Coloured
@@ -74,6 +80,7 @@ step (withSecond′ writePaddedStart m f) cs = times (fillCount m (values cs)) f
 step (withSecond′ writePaddedEnd m f) cs = cs ++ times (fillCount m (values cs)) f
 step (withSecond′ writePaddedCentered m f) cs = let n = fillCount m (values cs) in times (n / 2) f ++ (cs ++ times (n - n / 2) f)
 step (withSecond′ writeIndented m p) cs = indented p true cs
+step (withSecond′ writeUnindented m p) cs = unindented (length p) (length p) cs
 step (alone′ (writeWrapped w b)) cs = wrapped (wrapLines w b (values cs)) cs
 step (alone′ (writeReplaced xs t)) cs = replaced t 0 xs cs
 step (alone′ (writeTabsExpanded s)) cs = tabbed s [] cs

@@ -8,11 +8,21 @@ use lib.Dec.{eqb}
 use Rattle.recording.specs.Recording.{Recording, strip}
 use Rattle.recording.specs.Coloured.{coloured, balanced, noneInside}
 use Rattle.recording.specs.Outcome.{Room}
-use Rattle.layout.specs.Layout.{Kind, writeTruncatedStart, writeTruncatedEnd, writePaddedStart, writePaddedEnd, writePaddedCentered, writeIndented, Job, withSecond, alone}
+use Rattle.layout.specs.Layout.{Kind, writeTruncatedStart, writeTruncatedEnd, writePaddedStart, writePaddedEnd, writePaddedCentered, writeIndented, writeUnindented, Job, withSecond, alone}
 use Rattle.layout.specs.Layout.{wrap, Call, refusal, after, run}
 use Rattle.layout.specs.Plain.{steps, told}
 
 -- ── what is asked
+-- whether a call writes its second recording: taking the indent off compares with its bytes alone
+abbrev pub writes : Kind → Bool
+writes writeTruncatedStart = true
+writes writeTruncatedEnd = true
+writes writePaddedStart = true
+writes writePaddedEnd = true
+writes writePaddedCentered = true
+writes writeIndented = true
+writes writeUnindented = false
+
 -- whether a call repeats its second recording piece by piece: a fill
 abbrev pub repeats : Kind → Bool
 repeats writeTruncatedStart = false
@@ -21,10 +31,11 @@ repeats writePaddedStart = true
 repeats writePaddedEnd = true
 repeats writePaddedCentered = true
 repeats writeIndented = false
+repeats writeUnindented = false
 
--- ellipsis, fill and prefix are balanced, and no entry is inside the data of a fill
+-- an ellipsis, fill or prefix that is written is balanced, and no entry is inside the data of a fill
 abbrev pub SecondOk : Job → Type 0
-SecondOk (withSecond k m q) = (balanced q ≡ true) × (repeats k ≡ true → noneInside q ≡ true)
+SecondOk (withSecond k m q) = (writes k ≡ true → balanced q ≡ true) × (repeats k ≡ true → noneInside q ≡ true)
 SecondOk (alone s) = Unit {0}
 
 -- of the calls that are not refused

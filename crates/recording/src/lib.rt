@@ -35,6 +35,10 @@ pub enum Refusal {
     LineListTooShort,
     // A tab stop that is 0 or over 64.
     TabStop,
+    // A prefix to be taken off that has a 0A.
+    PrefixNewline,
+    // A line that is not empty and does not begin with the prefix to be taken off.
+    PrefixMissing,
     // Of a list of calls: two sets of buffers that differ in a length, numbers that are no calls, a list of answers that is too short.
     SetsDiffer,
     CallNumbers,
@@ -61,6 +65,8 @@ pub fn number_of(f: Refusal) -> u64
         Refusal::TextBufferTooShort => 23,
         Refusal::LineListTooShort => 24,
         Refusal::TabStop => 31,
+        Refusal::PrefixNewline => 32,
+        Refusal::PrefixMissing => 33,
         Refusal::SetsDiffer => 61,
         Refusal::CallNumbers => 62,
         Refusal::AnswerListTooShort => 63,
