@@ -245,11 +245,12 @@ enum ruszvedok_call_kind {
     RUSZVEDOK_CALL_WRAP = 6,
     RUSZVEDOK_CALL_WRAP_BREAKING = 7,
     RUSZVEDOK_CALL_REPLACE = 8,
-    RUSZVEDOK_CALL_EXPAND_TABS = 9
+    RUSZVEDOK_CALL_EXPAND_TABS = 9,
+    RUSZVEDOK_CALL_UNINDENT = 10
 };
 
 /* Refusals. The first cause in this order is given: 10; the content, then the second recording, each 1, 2, 5 for its lengths and
- * then entry by entry 3, 4, 5, 6; a pushed label (6), an appended raw sequence (3); 7; 8; 31; 9; 21 to 24. Of a list of calls:
+ * then entry by entry 3, 4, 5, 6; a pushed label (6), an appended raw sequence (3); 7; 8; 31; 32; 33; 9; 21 to 24. Of a list of calls:
  * 10; 61; 62; 63. */
 enum ruszvedok_refusal {
     RUSZVEDOK_DATA_TOO_LONG = 1,           /* Data over its limit. */
@@ -267,6 +268,8 @@ enum ruszvedok_refusal {
     RUSZVEDOK_TEXT_BUFFER_TOO_SHORT = 23,  /* The text buffer is too short for the result. */
     RUSZVEDOK_LINE_LIST_TOO_SHORT = 24,    /* The line list is too short for the result. */
     RUSZVEDOK_TAB_STOP = 31,               /* A tab stop that is 0 or over 64. */
+    RUSZVEDOK_PREFIX_NEWLINE = 32,         /* A prefix to be taken off that has a 0A. */
+    RUSZVEDOK_PREFIX_MISSING = 33,         /* A line that is not empty and does not begin with the prefix to be taken off. */
     RUSZVEDOK_SETS_DIFFER = 61,            /* Two sets of buffers that differ in a length. */
     RUSZVEDOK_CALL_NUMBERS = 62,           /* Calls that are not eight numbers each, an unknown kind, a range not within its pool. */
     RUSZVEDOK_ANSWER_LIST_TOO_SHORT = 63   /* The list of answers is too short, at two numbers a call. */
@@ -292,6 +295,8 @@ static inline const char *ruszvedok_refusal_name(uint64_t refusal)
     case RUSZVEDOK_TEXT_BUFFER_TOO_SHORT: return "TEXT_BUFFER_TOO_SHORT";
     case RUSZVEDOK_LINE_LIST_TOO_SHORT: return "LINE_LIST_TOO_SHORT";
     case RUSZVEDOK_TAB_STOP: return "TAB_STOP";
+    case RUSZVEDOK_PREFIX_NEWLINE: return "PREFIX_NEWLINE";
+    case RUSZVEDOK_PREFIX_MISSING: return "PREFIX_MISSING";
     case RUSZVEDOK_SETS_DIFFER: return "SETS_DIFFER";
     case RUSZVEDOK_CALL_NUMBERS: return "CALL_NUMBERS";
     case RUSZVEDOK_ANSWER_LIST_TOO_SHORT: return "ANSWER_LIST_TOO_SHORT";
@@ -319,6 +324,8 @@ static inline const char *ruszvedok_refusal_reason(uint64_t refusal)
     case RUSZVEDOK_TEXT_BUFFER_TOO_SHORT: return "the text buffer is too short for the result";
     case RUSZVEDOK_LINE_LIST_TOO_SHORT: return "the line list is too short for the result";
     case RUSZVEDOK_TAB_STOP: return "a tab stop that is 0 or over 64";
+    case RUSZVEDOK_PREFIX_NEWLINE: return "a prefix to be taken off that has a 0A";
+    case RUSZVEDOK_PREFIX_MISSING: return "a line that is not empty and does not begin with the prefix to be taken off";
     case RUSZVEDOK_SETS_DIFFER: return "two sets of buffers that differ in a length";
     case RUSZVEDOK_CALL_NUMBERS: return "calls that are not eight numbers each, an unknown kind, a range not within its pool";
     case RUSZVEDOK_ANSWER_LIST_TOO_SHORT: return "the list of answers is too short, at two numbers a call";
@@ -408,6 +415,16 @@ void ruszvedok_write_padded_centered(
 
 /* Writes the prefix before every line that is not empty. The prefix is under the labels of that line's first byte. */
 void ruszvedok_write_indented(
+    const uint8_t *content, size_t content_len, const uint32_t *entries, size_t entries_len, const uint8_t *text, size_t text_len,
+    const uint8_t *prefix, size_t prefix_len, const uint32_t *prefix_entries, size_t prefix_entries_len,
+    const uint8_t *prefix_text, size_t prefix_text_len,
+    uint8_t *out_data, size_t out_data_len, uint32_t *out_entries, size_t out_entries_len, uint8_t *out_text, size_t out_text_len,
+    uint64_t res[5]);
+
+/* Takes the prefix's bytes out of every line that is not empty. The entries among them stay, before what is left of the line.
+ * The prefix's own entries play no part. A prefix with a 0A is refused by 32, a line that is not empty and does not begin
+ * with the prefix by 33. */
+void ruszvedok_write_unindented(
     const uint8_t *content, size_t content_len, const uint32_t *entries, size_t entries_len, const uint8_t *text, size_t text_len,
     const uint8_t *prefix, size_t prefix_len, const uint32_t *prefix_entries, size_t prefix_entries_len,
     const uint8_t *prefix_text, size_t prefix_text_len,
@@ -577,6 +594,14 @@ static inline ruszvedok_answer ruszvedok_write_indented_to(
 {
     uint64_t res[5];
     ruszvedok_write_indented(RUSZVEDOK_READ(content), RUSZVEDOK_READ(prefix), RUSZVEDOK_LENT(out), res);
+    return ruszvedok_take_over(out, res);
+}
+
+static inline ruszvedok_answer ruszvedok_write_unindented_to(
+    ruszvedok_recording *out, ruszvedok_view content, ruszvedok_view prefix)
+{
+    uint64_t res[5];
+    ruszvedok_write_unindented(RUSZVEDOK_READ(content), RUSZVEDOK_READ(prefix), RUSZVEDOK_LENT(out), res);
     return ruszvedok_take_over(out, res);
 }
 

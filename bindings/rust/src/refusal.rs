@@ -39,6 +39,10 @@ pub enum Refusal {
     LineListTooShort,
     /// 31: a tab stop that is 0 or over 64.
     TabStop,
+    /// 32: a prefix to be taken off that has a 0A.
+    PrefixNewline,
+    /// 33: a line that is not empty and does not begin with the prefix to be taken off.
+    PrefixMissing,
     /// 61: two sets of buffers that differ in a length.
     SetsDiffer,
     /// 62: calls that are not eight numbers each, an unknown kind, a range not within its pool.
@@ -67,6 +71,8 @@ impl Refusal {
         Self::TextBufferTooShort,
         Self::LineListTooShort,
         Self::TabStop,
+        Self::PrefixNewline,
+        Self::PrefixMissing,
         Self::SetsDiffer,
         Self::CallNumbers,
         Self::AnswerListTooShort,
@@ -91,6 +97,8 @@ impl Refusal {
             Self::TextBufferTooShort => 23,
             Self::LineListTooShort => 24,
             Self::TabStop => 31,
+            Self::PrefixNewline => 32,
+            Self::PrefixMissing => 33,
             Self::SetsDiffer => 61,
             Self::CallNumbers => 62,
             Self::AnswerListTooShort => 63,
@@ -117,6 +125,8 @@ impl Refusal {
             Self::TextBufferTooShort => "the text buffer is too short for the result",
             Self::LineListTooShort => "the line list is too short for the result",
             Self::TabStop => "a tab stop that is 0 or over 64",
+            Self::PrefixNewline => "a prefix to be taken off that has a 0A",
+            Self::PrefixMissing => "a line that is not empty and does not begin with the prefix to be taken off",
             Self::SetsDiffer => "two sets of buffers that differ in a length",
             Self::CallNumbers => "calls that are not eight numbers each, an unknown kind, a range not within its pool",
             Self::AnswerListTooShort => "the list of answers is too short, at two numbers a call",

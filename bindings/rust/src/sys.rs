@@ -27,6 +27,7 @@ pub enum Kind {
     WrapBreaking = 7,
     Replace = 8,
     ExpandTabs = 9,
+    Unindent = 10,
 }
 
 /// A place in a text, and the width of the part that is kept.
@@ -81,6 +82,12 @@ extern "C" {
         out_entries: *mut u32, out_entries_len: usize, out_text: *mut u8, out_text_len: usize, res: *mut [u64; 5],
     );
     pub fn ruszvedok_write_indented(
+        content: *const u8, content_len: usize, entries: *const u32, entries_len: usize, text: *const u8,
+        text_len: usize, prefix: *const u8, prefix_len: usize, prefix_entries: *const u32, prefix_entries_len: usize,
+        prefix_text: *const u8, prefix_text_len: usize, out_data: *mut u8, out_data_len: usize, out_entries: *mut u32,
+        out_entries_len: usize, out_text: *mut u8, out_text_len: usize, res: *mut [u64; 5],
+    );
+    pub fn ruszvedok_write_unindented(
         content: *const u8, content_len: usize, entries: *const u32, entries_len: usize, text: *const u8,
         text_len: usize, prefix: *const u8, prefix_len: usize, prefix_entries: *const u32, prefix_entries_len: usize,
         prefix_text: *const u8, prefix_text_len: usize, out_data: *mut u8, out_data_len: usize, out_entries: *mut u32,

@@ -24,6 +24,7 @@ use runs::run_calls;
 use tabs::write_tabs_expanded;
 use truncate::write_truncated_end;
 use truncate::write_truncated_start;
+use unindent::write_unindented;
 use well_formed::is_well_formed;
 use wrap::write_wrapped;
 use wrap_lines::wrap_bytes;
@@ -33,7 +34,7 @@ ghost use Rattle.chars.specs.Chars.{textWidth, wellFormed};
 ghost use Rattle.chars.specs.Cut.{truncateEndPos, truncateEndWidth, truncateStartPos, truncateStartWidth, zeroWidthLen};
 ghost use Rattle.recording.specs.Recording.{recording};
 ghost use Rattle.recorder.specs.Recorder.{replayed, written, pushed, popped, rawAdded};
-ghost use Rattle.layout.specs.Layout.{truncateStart, truncateEnd, padStart, padEnd, padCentered, indent, wrap, replace, expandTabs};
+ghost use Rattle.layout.specs.Layout.{truncateStart, truncateEnd, padStart, padEnd, padCentered, indent, unindent, wrap, replace, expandTabs};
 ghost use Rattle.layout.specs.Lent.{lentOf, lentLined};
 ghost use Rattle.wrap_lines.specs.WrapBytes.{lentLines, wrapBytesOutcome};
 ghost use Rattle.replace.specs.Records.{recordsOf};
@@ -305,6 +306,38 @@ pub extern "C" fn ruszvedok_write_indented(
         (lentOf (now (bytes .entry)) (now (numbers .entry)) (now (texts .entry))) (lentOf (now (bytes .exit)) (now (numbers .exit)) (now (texts .exit))) (now (res .exit)) ⌝ }
 {
     let a = write_indented(
+        content,
+        entries,
+        text,
+        prefix,
+        prefix_entries,
+        prefix_text,
+        bytes,
+        numbers,
+        texts,
+    );
+    store(a, res);
+}
+
+// Takes the prefix's bytes out of every line that is not empty.
+#[no_mangle]
+pub extern "C" fn ruszvedok_write_unindented(
+    content: &[u8],
+    entries: &[u32],
+    text: &[u8],
+    prefix: &[u8],
+    prefix_entries: &[u32],
+    prefix_text: &[u8],
+    bytes: &mut [u8],
+    numbers: &mut [u32],
+    texts: &mut [u8],
+    res: &mut [u64; 5],
+)
+    ensures { λ _. ⌜ LeavesNumbers (unindent (recording (now (prefix .entry)) (now («prefix_entries» .entry)) (now («prefix_text» .entry))))
+        (recording (now (content .entry)) (now (entries .entry)) (now (text .entry)))
+        (lentOf (now (bytes .entry)) (now (numbers .entry)) (now (texts .entry))) (lentOf (now (bytes .exit)) (now (numbers .exit)) (now (texts .exit))) (now (res .exit)) ⌝ }
+{
+    let a = write_unindented(
         content,
         entries,
         text,

@@ -84,7 +84,7 @@ fn skip_empty(s: &[u8], from: usize) -> usize
 }
 
 // The next place at which a line that is not empty starts, the data's end if there is none.
-fn next_line(content: &[u8], from: usize, at_start: bool) -> usize
+pub fn next_line(content: &[u8], from: usize, at_start: bool) -> usize
     requires { ⌜ from ≤ length (now content) ⌝ }
     ensures { λ r. ⌜ r ≡ from + toNext «at_start» (drop from (now (content .entry))) ⌝ }
     ensures { λ r. ⌜ (from ≤ r) × (r ≤ length (now (content .entry))) ⌝ }

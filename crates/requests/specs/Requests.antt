@@ -8,7 +8,7 @@ use lib.ListN.{drop, getD}
 use Rattle.buffer.specs.Place.{part}
 use Rattle.recording.specs.Recording.{Bytes, Recording, recording}
 use Rattle.recording.specs.Outcome.{Room}
-use Rattle.layout.specs.Layout.{Job, truncateStart, truncateEnd, padStart, padEnd, padCentered, indent, wrap, replace, expandTabs, Call}
+use Rattle.layout.specs.Layout.{Job, truncateStart, truncateEnd, padStart, padEnd, padCentered, indent, unindent, wrap, replace, expandTabs, Call}
 use Rattle.replace.specs.Records.{recordsOf}
 use Rattle.requests.specs.declared.Request.{Request}
 
@@ -43,7 +43,8 @@ jobOf k n q =
     (cond (eqb k 5) (indent q)
     (cond (eqb k 6) (wrap n false)
     (cond (eqb k 7) (wrap n true)
-    (cond (eqb k 8) (replace (recordsOf (q .entryNumbers)) (q .dataBytes)) (expandTabs n)))))))))
+    (cond (eqb k 8) (replace (recordsOf (q .entryNumbers)) (q .dataBytes))
+    (cond (eqb k 9) (expandTabs n) (unindent q))))))))))
 
 -- its ranges of a pool of bytes and of a pool of numbers
 abbrev pub rangesOf : Bytes → List ℕ → Request → Recording
@@ -70,7 +71,7 @@ rangeFits n a b = leb a b && leb b n
 
 -- the largest kind
 abbrev pub lastKind : ℕ
-lastKind = 9
+lastKind = 10
 
 -- a known kind, and each range within its pool; p and q are the pools' lengths
 unfoldable pub fitsIn : ℕ → ℕ → Request → Bool

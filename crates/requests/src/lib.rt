@@ -9,6 +9,7 @@ use replace::write_replaced_flat;
 use tabs::write_tabs_expanded;
 use truncate::write_truncated_end;
 use truncate::write_truncated_start;
+use unindent::write_unindented;
 use wrap::write_wrapped;
 ghost use mathlib.Core.Path.{_≡_};
 ghost use mathlib.Core.Bool.{true};
@@ -32,7 +33,7 @@ pub struct Request {
 }
 
 // The largest kind.
-const LAST_KIND: u32 = 9;
+const LAST_KIND: u32 = 10;
 
 // ── the numbers of the calls
 
@@ -95,7 +96,7 @@ pub fn all_fit(calls: &[u32], p: usize, q: usize) -> bool
 
 // ── one call
 
-// One call, chosen by its kind: 0 and 1 truncate at the start and the end; 2, 3 and 4 pad there and on both sides; 5 indents; 6 wraps, 7 wraps and breaks; 8 replaces; all others expand tabs.
+// One call, chosen by its kind: 0 and 1 truncate at the start and the end; 2, 3 and 4 pad there and on both sides; 5 indents; 6 wraps, 7 wraps and breaks; 8 replaces; 9 expands tabs; all others take the indent off.
 // `second` is the ellipsis, fill or prefix; of a replacement its numbers are the records and its data their text. For tabs `width` is the columns between stops.
 fn apply(
     kind: u32,
@@ -224,7 +225,20 @@ fn apply(
             texts,
         );
     }
-    write_tabs_expanded(content, entries, text, width, bytes, numbers, texts)
+    if kind == 9 {
+        return write_tabs_expanded(content, entries, text, width, bytes, numbers, texts);
+    }
+    write_unindented(
+        content,
+        entries,
+        text,
+        second,
+        second_entries,
+        second_text,
+        bytes,
+        numbers,
+        texts,
+    )
 }
 
 // The call whose eight numbers start at i, with its ranges known to lie in their pools.

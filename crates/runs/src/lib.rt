@@ -124,7 +124,8 @@ fn run_all(
 
 // Runs all calls of a list, eight numbers each: kind, width, and the ranges of its second recording, data and text in `pool` and entry numbers in `pool_numbers`.
 // The kinds: 0 and 1 truncate at the start and the end; 2, 3 and 4 pad there and on both sides; 5 indents; 6 wraps, 7 wraps and breaks words; 8 replaces, with its records, four numbers each,
-// in `pool_numbers` and their text at the data's range; 9 expands tabs, with the columns between stops as its width.
+// in `pool_numbers` and their text at the data's range; 9 expands tabs, with the columns between stops as its width;
+// 10 takes the indent off, with the prefix as its second recording.
 // The first content stands at the front of the first set, up to the three lengths; the result stands there too. `answers` gets two numbers a call: its refusal or 0, and its width or count.
 // The number that comes back says how many calls were not refused.
 pub fn run_calls(
