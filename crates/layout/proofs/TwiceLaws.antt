@@ -14,7 +14,7 @@ use Rattle.chars.proofs.CharsLaws.{valid-clean}
 use Rattle.recording.specs.Coloured.{Coloured, values}
 use Rattle.recording.specs.Edit.{labelsAt}
 use Rattle.recording.specs.Recording.{isNil, Bytes}
-use Rattle.recording.proofs.ItemsLaws.{values-take, values-drop}
+use Rattle.recording.proofs.ItemsLaws.{values-append, values-take, values-drop}
 use Rattle.recording.proofs.Lists.{AllOf, all-left, all-right, all-append}
 use Rattle.layout.specs.Plain.{stretch, labelsOf, wrapped}
 use Rattle.layout.specs.Wrap.{ontoFirst, groups, splitLines, Word, ByteWord, byteWord, byteWords, wordsOf, splitWords, splitWordsAtWidth, fitsLine, fullWidth, firstFit, Line}
@@ -220,10 +220,6 @@ join-lines (b ∷ d) = go (eqb b 0x0A) refl (join-lines d)
     go false e h = join-onto b (splitLines d) ∙ rw h
 
 -- ── the bytes of a wrapped text are the shown lines, joined
-values-append : (x y : List Coloured) → values (x ++ y) ≡ values x ++ values y
-values-append [] y = refl
-values-append (c ∷ x) y = ap (λ (l : Bytes). c .val ∷ l) (values-append x y)
-
 abbrev pub cuts : Bytes → List Line → List Bytes
 cuts d [] = []
 cuts d (l ∷ ls) = take (l .end - l .first) (drop (l .first) d) ∷ cuts d ls

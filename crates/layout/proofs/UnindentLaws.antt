@@ -12,7 +12,7 @@ use Rattle.recording.specs.Coloured.{Coloured, values}
 use Rattle.recording.specs.Edit.{Op, keep, skip, put, front, back, entriesOnly, edit, editColoured}
 use Rattle.recording.specs.Refusals.{firstOf, refuseIf}
 use Rattle.recording.proofs.EditLaws.{AllPuts, front-with-back, front-add, back-add}
-use Rattle.recording.proofs.FaultLaws.{firstOf-zero}
+use Rattle.recording.proofs.FaultLaws.{firstOf-zero, refuseIf-zero}
 use Rattle.recording.proofs.Lists.{and-left, and-right, not-false}
 use Rattle.layout.specs.Plain.{unindented}
 use Rattle.layout.specs.Unindent.{takenOut, unindentOps, hasNewline, beginsWith, allBegin, prefixFault}
@@ -170,6 +170,7 @@ begin-long p (l ∷ ls) h = (one l (and-left (isNil l || beginsWith p l) (allBeg
     one [] g = omega arith
     one (b ∷ l) g = begins-long p (b ∷ l) g
 
+-- the prefix p can be taken off the data d
 pub record Fits (p d : Bytes) : Type 0 where
   pub one-line : hasNewline p ≡ false
   pub all : allBegin p (splitLines d) ≡ true
@@ -180,8 +181,8 @@ unfolding prefixFault
 no-prefix-fault p d h =
     let a = firstOf-zero (refuseIf (hasNewline p) 32) (refuseIf (not (allBegin p (splitLines d))) 33 ∷ []) h in
     let b = firstOf-zero (refuseIf (not (allBegin p (splitLines d))) 33) [] (a .1) in
-    record { one-line = none (hasNewline p) 32 (omega arith) (a .0); all = not-false (allBegin p (splitLines d)) (none (not (allBegin p (splitLines d))) 33 (omega arith) (b .0)) }
-  where
-    none : (t : Bool) (m : ℕ) → 0 < m → refuseIf t m ≡ 0 → t ≡ false
-    none true m g e = absurd (omega (arith, g, e))
-    none false m g e = refl
+    record { one-line = refuseIf-zero (hasNewline p) 31 (a .0); all = not-false (allBegin p (splitLines d)) (refuseIf-zero (not (allBegin p (splitLines d))) 32 (b .0)) }
+
+pub prefix-fits : (p d : Bytes) → Fits p d → prefixFault p d ≡ 0
+unfolding prefixFault
+prefix-fits p d f = rw (f .one-line, f .all)

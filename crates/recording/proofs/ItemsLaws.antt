@@ -10,6 +10,7 @@ use lib.Seq.{take-append-seam, drop-append-seam, drop-at}
 use Rattle.recording.specs.declared.Entry.{Entry}
 use Rattle.recording.specs.Recording.{Bytes, Recording, entriesOf, numbersOf, partOf, Item, byte, push, pop, raw, byteItems, itemOf, itemsFrom, items, dataOf, textOf, entriesFrom, encode}
 use Rattle.recording.specs.Coloured.{Coloured, colouredFrom, coloured, values}
+use Rattle.recording.specs.Edit.{Op, keep, skip, put, labelsAt, under, editColoured, editData}
 use Rattle.recording.proofs.EditLaws.{data-append}
 
 pub bytes-append : (a b : Bytes) → byteItems (a ++ b) ≡ byteItems a ++ byteItems b
@@ -103,6 +104,14 @@ pub values-of : (r : Recording) → values (coloured r) ≡ r .dataBytes
 unfolding coloured
 values-of r = values-coloured [] (items r) ∙ data-items r
 
+pub values-append : (x y : List Coloured) → values (x ++ y) ≡ values x ++ values y
+values-append [] y = refl
+values-append (c ∷ x) y = ap (λ (l : Bytes). c .val ∷ l) (values-append x y)
+
+pub values-under : (ls : List Bytes) (x : List Coloured) → values (under ls x) ≡ values x
+values-under ls [] = refl
+values-under ls (c ∷ x) = ap (λ (l : Bytes). c .val ∷ l) (values-under ls x)
+
 pub values-take : (n : ℕ) (x : List Coloured) → values (take n x) ≡ take n (values x)
 values-take zero x = refl
 values-take (suc n) [] = refl
@@ -112,3 +121,11 @@ pub values-drop : (n : ℕ) (x : List Coloured) → values (drop n x) ≡ drop n
 values-drop zero x = refl
 values-drop (suc n) [] = refl
 values-drop (suc n) (c ∷ x) = values-drop n x
+
+-- an edit of coloured bytes is the same edit of their values
+pub values-edit : (ops : List Op) (cs : List Coloured) → values (editColoured ops cs) ≡ editData ops (values cs)
+values-edit [] cs = refl
+values-edit (keep n ∷ ops) cs = values-append (take n cs) (editColoured ops (drop n cs)) ∙ rw (values-take n cs, values-edit ops (drop n cs), values-drop n cs)
+values-edit (skip n ∷ ops) cs = values-edit ops (drop n cs) ∙ rw (values-drop n cs)
+values-edit (put p ∷ ops) cs =
+    values-append (under (labelsAt cs) (colouredFrom [] p)) (editColoured ops cs) ∙ rw (values-under (labelsAt cs) (colouredFrom [] p), values-coloured [] p, values-edit ops cs)
