@@ -10,7 +10,7 @@ use Rattle.recording.specs.Recording.{Item, items, dataOf, textOf}
 use Rattle.recording.specs.Edit.{edit}
 use Rattle.recording.proofs.SizeLaws.{entryCount, count-append}
 use Rattle.writer.proofs.Laws.{text-size, data-size}
-use Rattle.layout.specs.Layout.{indentOps, Kind, writeIndented, withSecond, resultItems}
+use Rattle.layout.specs.Layout.{indentOps, Kind, writeIndented, withSecond, resultItems, kindFault}
 use Rattle.outcomes.proofs.SecondLaws.{Given, content, second, job, BothFine, Measured}
 use Rattle.indent.specs.Lines.{filledLines}
 use Rattle.indent.proofs.Laws.{sized}
@@ -41,4 +41,4 @@ module _ (x : Given) (n : TextSizes) (fine : BothFine x n) (k : ℕ) (e : k ≡ 
 
   pub indented-measured : x .kind ≡ writeIndented
       → Measured x (edit (indentOps prefix true (x .ds)) is) (length (x .ds) + k * length (x .fs)) (length (x .ns) + k * length (x .gs)) (n .content + k * n .second)
-  indented-measured q = record { leaves = leaves q; data-size = all-data; entry-size = all-entries; text-size = all-text }
+  indented-measured q = record { own = ap (λ (j : Kind). kindFault j (x .fs) (x .ds)) q; leaves = leaves q; data-size = all-data; entry-size = all-entries; text-size = all-text }

@@ -5,7 +5,7 @@ use mathlib.Core.Bool.{Bool, true, false, cond}
 use mathlib.Core.Path.{_≡_, refl, sym, ap, _∙_}
 use mathlib.Core.List.{List, [], _∷_, _++_}
 use lib.Dec.{eqb}
-use lib.ListN.{length}
+use lib.ListN.{length, drop}
 use Rattle.recording.specs.Recording.{Bytes}
 use Rattle.recording.proofs.Lists.{or-left, or-right}
 use Rattle.layout.specs.Unindent.{hasNewline}
@@ -22,6 +22,19 @@ some-lines (b ∷ d) = go (eqb b 0x0A)
     go : (t : Bool) → 0 < length (cond t ([] ∷ splitLines d) (ontoFirst b (splitLines d)))
     go true = omega arith
     go false = some-onto b (splitLines d)
+
+-- ── the lines that begin from a place on: all, or, if the place is inside of a line, those after the first
+abbrev pub linesAt : Bool → List Bytes → List Bytes
+linesAt true ls = ls
+linesAt false ls = drop 1 ls
+
+-- one byte more of a line
+pub later-lines : (b : ℕ) (d : Bytes) → eqb b 0x0A ≡ false → drop 1 (splitLines (b ∷ d)) ≡ drop 1 (splitLines d)
+later-lines b d e = rw e (go (splitLines d) (some-lines d))
+  where
+    go : (ls : List Bytes) → 0 < length ls → drop 1 (ontoFirst b ls) ≡ drop 1 ls
+    go [] z = absurd (omega arith)
+    go (l ∷ ls) z = refl
 
 -- ── a line before the first of some lines
 abbrev pub before-first : Bytes → List Bytes → List Bytes

@@ -19,7 +19,7 @@ use Rattle.recording.proofs.FaultLaws.{in-limits}
 use Rattle.recording.proofs.ItemsLaws.{values-of, values-append, values-under, values-edit, data-items, items-encode}
 use Rattle.recording.proofs.Lists.{and-left, and-right, or-left, or-right}
 use Rattle.recording.proofs.OutcomeLaws.{stops-sizes, first-on, first-one}
-use Rattle.recording.proofs.SizeLaws.{count-numbers, edit-count, edit-text, putCount, putText}
+use Rattle.recording.proofs.SizeLaws.{count-numbers, edit-count, edit-text}
 use Rattle.layout.specs.Layout.{indentOps, indent, unindent, resultItems, secondFault, ownFault, faultsOf, resultOf, Call, refusal, after}
 use Rattle.layout.specs.Plain.{indented, unindented, step, toldOf}
 use Rattle.layout.specs.RoundTrips.{indentCall, unindentCall, NoLineIs, RoundTrips, IndentRoundTrips}
@@ -27,11 +27,12 @@ use Rattle.layout.specs.Theorem.{SecondOk}
 use Rattle.layout.specs.Unindent.{unindentOps, hasNewline, beginsWith, allBegin, prefixFault}
 use Rattle.layout.specs.Wrap.{ontoFirst, splitLines}
 use Rattle.layout.proofs.LeftLaws.{left-valid}
-use Rattle.layout.proofs.LineLaws.{some-lines, before-first, split-onto}
+use Rattle.layout.proofs.LineLaws.{some-lines, linesAt, later-lines, before-first, split-onto}
 use Rattle.layout.proofs.ListLaws.{granted-call, after-done, bal-after, one-call}
 use Rattle.layout.proofs.PutLaws.{puts-unindent}
 use Rattle.layout.proofs.StepLaws.{length-values, indent-law}
-use Rattle.layout.proofs.UnindentLaws.{byteOps, by-bytes, unindent-law, begin-long, Fits, no-prefix-fault, prefix-fits}
+use Rattle.layout.proofs.StripLaws.{Bare, BarePuts, no-puts}
+use Rattle.layout.proofs.UnindentLaws.{byteOps, by-bytes, unindent-law, begin-long, no-prefix-fault, prefix-fits}
 use Rattle.layout.proofs.WordLaws.{wrap-ordered}
 
 -- ── taking off what was indented
@@ -175,10 +176,6 @@ module _ (x : List Coloured) where
       go false e g f = onto (splitLines (values cs)) refl e f g
 
   -- ── what is indented has the prefix at the start of every line that is not empty
-  abbrev from : Bool → List Bytes → List Bytes
-  from true ls = ls
-  from false ls = drop 1 ls
-
   begins-self : (q l : Bytes) → beginsWith q (q ++ l) ≡ true
   begins-self [] l = refl
   begins-self (b ∷ q) l = rw (eq-eqb b b refl) (begins-self q l)
@@ -188,34 +185,26 @@ module _ (x : List Coloured) where
   nil-or (b ∷ l) h = h
 
   module _ (h : hasNewline p ≡ false) where
-    marked : (start : Bool) (cs : List Coloured) → allBegin p (from start (splitLines (values (indented x start cs)))) ≡ true
+    marked : (start : Bool) (cs : List Coloured) → allBegin p (linesAt start (splitLines (values (indented x start cs)))) ≡ true
     marked true [] = refl
     marked false [] = refl
     marked start (c ∷ cs) = go start (eqb (c .val) 0x0A) refl (λ s. marked s cs)
       where
         Marked : Type 0
-        Marked = (s : Bool) → allBegin p (from s (splitLines (values (indented x s cs)))) ≡ true
-
-        -- the rest of the line, and the lines after it
-        later : (d : Bytes) → eqb (c .val) 0x0A ≡ false → drop 1 (splitLines (c .val ∷ d)) ≡ drop 1 (splitLines d)
-        later d e = rw e (go (splitLines d) (some-lines d))
-          where
-            go : (ls : List Bytes) → 0 < length ls → drop 1 (ontoFirst (c .val) ls) ≡ drop 1 ls
-            go [] z = absurd (omega arith)
-            go (l ∷ ls) z = refl
+        Marked = (s : Bool) → allBegin p (linesAt s (splitLines (values (indented x s cs)))) ≡ true
 
         first : (ls : List Bytes) → allBegin p (drop 1 ls) ≡ true → allBegin p (before-first p ls) ≡ true
         first [] g = rw (nil-or p (rw (append-nil p) at (begins-self p [])))
         first (l ∷ ls) g = rw (nil-or (p ++ l) (begins-self p l), g)
 
-        go : (s t : Bool) → eqb (c .val) 0x0A ≡ t → Marked → allBegin p (from s (splitLines (values (cond (s && not t) (under (c .labels) x) [] ++ c ∷ indented x t cs)))) ≡ true
+        go : (s t : Bool) → eqb (c .val) 0x0A ≡ t → Marked → allBegin p (linesAt s (splitLines (values (cond (s && not t) (under (c .labels) x) [] ++ c ∷ indented x t cs)))) ≡ true
         go true true e f = rw e (f true)
         go true false e f =
             let d : Bytes = values (indented x false cs) in
             ap (λ (y : Bytes). allBegin p (splitLines y)) (values-append (under (c .labels) x) (c ∷ indented x false cs) ∙ ap (λ (y : Bytes). y ++ (c .val ∷ d)) (values-under (c .labels) x))
-            ∙ ap (allBegin p) (split-onto p (c .val ∷ d) h) ∙ first (splitLines (c .val ∷ d)) (ap (allBegin p) (later d e) ∙ f false)
+            ∙ ap (allBegin p) (split-onto p (c .val ∷ d) h) ∙ first (splitLines (c .val ∷ d)) (ap (allBegin p) (later-lines (c .val) d e) ∙ f false)
         go false true e f = rw e (f true)
-        go false false e f = ap (allBegin p) (later (values (indented x false cs)) e) ∙ f false
+        go false false e f = ap (allBegin p) (later-lines (c .val) (values (indented x false cs)) e) ∙ f false
 
 -- ── what the calls leave
 left-by : (c : Call) (r : Recording) → refusal c r ≡ 0 → after c r ≡ encode (resultItems (c .job) r)
@@ -277,17 +266,11 @@ less-data (keep n ∷ ops) d h =
 less-data (skip n ∷ ops) d h = omega (arith, less-data ops (drop n d) h, length-drop n d)
 less-data (put x ∷ ops) d h = absurd (h .0)
 
-none-put : (ops : List Op) → AllPuts (λ (x : List Item). ⊥) ops → (putCount ops ≡ 0) × (putText ops ≡ 0)
-none-put [] h = (refl, refl)
-none-put (keep n ∷ ops) h = none-put ops h
-none-put (skip n ∷ ops) h = none-put ops h
-none-put (put x ∷ ops) h = absurd (h .0)
-
-within-limits : (ops : List Op) (is : List Item) → AllPuts (λ (x : List Item). ⊥) ops → overLimit (encode is) ≡ 0 → overLimit (encode (edit ops is)) ≡ 0
+within-limits : (ops : List Op) (is : List Item) → AllPuts (λ (x : List Item). ⊥) ops → BarePuts ops → overLimit (encode is) ≡ 0 → overLimit (encode (edit ops is)) ≡ 0
 unfolding overLimit encode
-within-limits ops is h z =
+within-limits ops is h g z =
     let l = in-limits (encode is) z in
-    let none = none-put ops h in
+    let none = no-puts ops g in
     let d = less-data ops (dataOf is) h in
     let e : length (dataOf (edit ops is)) ≡ length (editData ops (dataOf is)) = ap length (edit-data ops is) in
     rw (
@@ -333,7 +316,7 @@ module _ (r p : Recording) (o o′ : Room) (h : hasNewline (p .dataBytes) ≡ fa
   limit =
       let n : ℕ = length (p .dataBytes) in
       let ls : List Bytes = splitLines (made .dataBytes) in
-      within-limits (unindentOps n ls) (items made) (puts-unindent (λ (x : List Item). ⊥) n ls) whole
+      within-limits (unindentOps n ls) (items made) (puts-unindent (λ (x : List Item). ⊥) n ls) (puts-unindent Bare n ls) whole
 
   only-room : refusal (unindentCall p o′) made ≡ noRoom o′ (resultOf (unindent p) made)
   unfolding refusal faultsOf secondFault ownFault

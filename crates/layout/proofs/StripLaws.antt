@@ -4,6 +4,7 @@ use mathlib.Core.Bool.{Bool, true, false, cond, _&&_, not}
 use mathlib.Core.Path.{_≡_, refl, sym, ap, _∙_}
 use mathlib.Core.List.{List, [], _∷_, _++_, append-nil}
 use lib.Dec.{ltb, eqb}
+use native.Mathlib.Omega.{arith}
 use lib.ListN.{length, drop}
 use borrow.Author.Tests.{eqb-true, eq-eqb}
 use Rattle.chars.specs.Chars.{textWidth}
@@ -16,6 +17,7 @@ use Rattle.recording.specs.Refusals.{recordingFault}
 use Rattle.recording.proofs.EditLaws.{AllPuts, data-append, edit-data}
 use Rattle.recording.proofs.FaultLaws.{no-fault, in-limits, Roomy, roomy}
 use Rattle.recording.proofs.ItemsLaws.{data-items, data-bytes}
+use Rattle.recording.proofs.SizeLaws.{entryCount, putCount, putText}
 use Rattle.layout.specs.Layout.{trimmedStartPos, cutEnd, cutStart, copies, repeatPieces, padding, fillCount, indentOps, Kind, writeTruncatedStart}
 use Rattle.layout.specs.Layout.{writeTruncatedEnd, writePaddedStart, writePaddedEnd, writePaddedCentered, writeIndented, writeUnindented, Single, Job, withSecond}
 use Rattle.layout.specs.Layout.{alone, singleOps, Call, resultItems, linesLeft, secondFault, refusal, after, run, ownFault, faultsOf, resultOf}
@@ -262,6 +264,20 @@ bare-text (byte b ∷ is) h = bare-text is h
 bare-text (push l ∷ a) h = absurd h
 bare-text (pop ∷ a) h = absurd h
 bare-text (raw t ∷ a) h = absurd h
+
+-- ── bytes alone are put in: no entry, no text
+bare-count : (is : List Item) → Bare is → (entryCount is ≡ 0) × (length (textOf is) ≡ 0)
+bare-count [] h = (refl, refl)
+bare-count (byte b ∷ is) h = bare-count is h
+bare-count (push l ∷ is) h = absurd h
+bare-count (pop ∷ is) h = absurd h
+bare-count (raw t ∷ is) h = absurd h
+
+pub no-puts : (ops : List Op) → BarePuts ops → (putCount ops ≡ 0) × (putText ops ≡ 0)
+no-puts [] h = (refl, refl)
+no-puts (keep n ∷ ops) h = no-puts ops h
+no-puts (skip n ∷ ops) h = no-puts ops h
+no-puts (put p ∷ ops) h = (omega (arith, bare-count p (h .0) .0, no-puts ops (h .1) .0), omega (arith, bare-count p (h .0) .1, no-puts ops (h .1) .1))
 
 -- ── the stripped content beside the content
 pub record Shadow (r r′ : Recording) : Type 0 where

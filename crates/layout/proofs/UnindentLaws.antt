@@ -56,7 +56,7 @@ only-append (pop ∷ a) b = ap (λ (r : List Item). pop ∷ r) (only-append a b)
 only-append (raw t ∷ a) b = ap (λ (r : List Item). raw t ∷ r) (only-append a b)
 
 -- before the next byte there are only entries
-only-entries : (is : List Item) → entriesOnly (front 0 is) ≡ front 0 is
+pub only-entries : (is : List Item) → entriesOnly (front 0 is) ≡ front 0 is
 only-entries [] = refl
 only-entries (byte x ∷ is) = refl
 only-entries (push l ∷ is) = ap (λ (r : List Item). push l ∷ r) (only-entries is)
@@ -64,7 +64,7 @@ only-entries (pop ∷ is) = ap (λ (r : List Item). pop ∷ r) (only-entries is)
 only-entries (raw t ∷ is) = ap (λ (r : List Item). raw t ∷ r) (only-entries is)
 
 -- ── steps put together
-kept-more : (m n : ℕ) (ops : List Op) (is : List Item) → edit (keep m ∷ keep n ∷ ops) is ≡ edit (keep (m + n) ∷ ops) is
+pub kept-more : (m n : ℕ) (ops : List Op) (is : List Item) → edit (keep m ∷ keep n ∷ ops) is ≡ edit (keep (m + n) ∷ ops) is
 kept-more m n ops is =
     sym (append-assoc (front m is) (front n (back m is)) (edit ops (back n (back m is)))) ∙ (λ i. sym (front-add m n is) i ++ edit ops (sym (back-add m n is) i))
 
@@ -171,18 +171,18 @@ begin-long p (l ∷ ls) h = (one l (and-left (isNil l || beginsWith p l) (allBeg
     one (b ∷ l) g = begins-long p (b ∷ l) g
 
 -- the prefix p can be taken off the data d
-pub record Fits (p d : Bytes) : Type 0 where
+pub record Indented (p d : Bytes) : Type 0 where
   pub one-line : hasNewline p ≡ false
   pub all : allBegin p (splitLines d) ≡ true
 
 -- neither 32 nor 33
-pub no-prefix-fault : (p d : Bytes) → prefixFault p d ≡ 0 → Fits p d
+pub no-prefix-fault : (p d : Bytes) → prefixFault p d ≡ 0 → Indented p d
 unfolding prefixFault
 no-prefix-fault p d h =
     let a = firstOf-zero (refuseIf (hasNewline p) 32) (refuseIf (not (allBegin p (splitLines d))) 33 ∷ []) h in
     let b = firstOf-zero (refuseIf (not (allBegin p (splitLines d))) 33) [] (a .1) in
     record { one-line = refuseIf-zero (hasNewline p) 31 (a .0); all = not-false (allBegin p (splitLines d)) (refuseIf-zero (not (allBegin p (splitLines d))) 32 (b .0)) }
 
-pub prefix-fits : (p d : Bytes) → Fits p d → prefixFault p d ≡ 0
+pub prefix-fits : (p d : Bytes) → Indented p d → prefixFault p d ≡ 0
 unfolding prefixFault
 prefix-fits p d f = rw (f .one-line, f .all)

@@ -9,15 +9,15 @@ use Rattle.recording.specs.declared.Refusal.{Refusal}
 use Rattle.recording.specs.declared.Answer.the-variants.{Refused, Done}
 use Rattle.recording.specs.declared.Checked.{Checked}
 use Rattle.recording.specs.declared.Checked.the-variants as C
-use Rattle.recording.specs.Recording.{Bytes, Recording, recording, Item, byte, push, pop, raw, items, dataOf, textOf}
-use Rattle.recording.specs.Edit.{Op, keep, skip, put, edit, editData}
+use Rattle.recording.specs.Recording.{Bytes, Recording, recording, Item, items, dataOf, textOf}
+use Rattle.recording.specs.Edit.{edit, editData}
 use Rattle.recording.specs.Refusals.{numberOf, recordingFault}
 use Rattle.recording.specs.Check.{faultOf, Counted, Within}
 use Rattle.recording.proofs.CheckLaws.{refused-number, fine-zero, fine-count, fine-within}
 use Rattle.recording.proofs.EditLaws.{edit-data}
 use Rattle.recording.proofs.ItemsLaws.{data-items}
 use Rattle.recording.proofs.OutcomeLaws.{number-pos, first-hit}
-use Rattle.recording.proofs.SizeLaws.{entryCount, count-numbers, edit-count, edit-text, putCount, putText}
+use Rattle.recording.proofs.SizeLaws.{count-numbers, edit-count, edit-text}
 use Rattle.writer.specs.declared.Cursor.{Cursor}
 use Rattle.writer.specs.declared.Settled.{Settled}
 use Rattle.writer.specs.declared.Settled.the-variants as S
@@ -28,24 +28,10 @@ use Rattle.layout.specs.Wrap.{lineNumbers}
 use Rattle.layout.specs.Layout.{Single, Job, alone, singleOps, singleLines, singleFault, resultItems, linesLeft, number, secondFault, ownFault}
 use Rattle.recording.specs.Outcome.{Lent, roomIn}
 use Rattle.layout.specs.Lent.{lentLined, Leaves}
-use Rattle.layout.proofs.StripLaws.{Bare, BarePuts, bare-single}
+use Rattle.layout.proofs.StripLaws.{bare-single, no-puts}
 use Rattle.outcomes.proofs.OutcomeLaws as outcomes
 use Rattle.outcomes.proofs.OutcomeLaws.{Accepted, Sized}
 use Rattle.outcomes.proofs.SecondLaws.{Fine, checked-fine}
-
--- ── bytes alone are put in: no entry, no text
-bare-count : (is : List Item) → Bare is → (entryCount is ≡ 0) × (length (textOf is) ≡ 0)
-bare-count [] h = (refl, refl)
-bare-count (byte b ∷ is) h = bare-count is h
-bare-count (push l ∷ is) h = absurd h
-bare-count (pop ∷ is) h = absurd h
-bare-count (raw t ∷ is) h = absurd h
-
-no-puts : (ops : List Op) → BarePuts ops → (putCount ops ≡ 0) × (putText ops ≡ 0)
-no-puts [] h = (refl, refl)
-no-puts (keep n ∷ ops) h = no-puts ops h
-no-puts (skip n ∷ ops) h = no-puts ops h
-no-puts (put p ∷ ops) h = (omega (arith, bare-count p (h .0) .0, no-puts ops (h .1) .0), omega (arith, bare-count p (h .0) .1, no-puts ops (h .1) .1))
 
 module _ (s : Single) (ds ns ts : List ℕ) (b : Lent) where
   abbrev pub content : Recording

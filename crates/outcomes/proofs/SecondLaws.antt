@@ -1,4 +1,4 @@
--- A call with a second recording on three lent buffers: what its check of both found (`both-refused`, `both-fine`), and that no call of this shape has a line list or a fault of its own.
+-- A call with a second recording on three lent buffers: what its check of both found (`both-refused`, `both-fine`), and that no call of this shape has a line list; a fault of its own (`own-refused`) comes after that check.
 use mathlib.Core.Path.{_≡_, refl, sym, _∙_}
 use mathlib.Core.List.{List, []}
 use Prim.Native.Nat.{ℕ, _*_, _≤_}
@@ -12,7 +12,7 @@ use Rattle.recording.specs.declared.TextSizes.{TextSizes}
 use Rattle.recording.specs.declared.CheckedBoth.{CheckedBoth}
 use Rattle.recording.specs.declared.CheckedBoth.the-variants as B
 use Rattle.recording.specs.Recording.{Recording, recording, Item, items, dataOf, textOf}
-use Rattle.recording.specs.Refusals.{recordingFault}
+use Rattle.recording.specs.Refusals.{numberOf, recordingFault}
 use Rattle.recording.specs.Check.{BothChecked}
 use Rattle.recording.specs.Outcome.{Lent, roomIn}
 use Rattle.recording.proofs.FaultLaws.{no-fault}
@@ -24,7 +24,7 @@ use Rattle.writer.specs.Write.{out, add, blank, Fits, Sound}
 use Rattle.writer.specs.Sizes.{sizesFault, settledFault}
 use Rattle.writer.proofs.Sizes.{numbers-items, quads-of}
 use Rattle.writer.proofs.Steps as steps
-use Rattle.layout.specs.Layout.{Kind, Job, withSecond, resultItems, linesLeft, number, secondFault, ownFault}
+use Rattle.layout.specs.Layout.{Kind, Job, withSecond, resultItems, linesLeft, number, secondFault, kindFault, ownFault}
 use Rattle.layout.specs.Lent.{lentOf, Leaves}
 use Rattle.outcomes.proofs.OutcomeLaws as outcomes
 use Rattle.outcomes.proofs.OutcomeLaws.{Accepted, Sized}
@@ -96,8 +96,14 @@ module _ (x : Given) (k : CheckedBoth) (h : BothChecked k (content x) (second x)
       let g : BothChecked (B.Fine n) (content x) (second x) = rw q at h in
       (checked-fine (x .ds) (x .ns) (x .ts) (n .content) (g .0) (g .1 .1 .0) (g .1 .1 .1 .1 .0), checked-fine (x .fs) (x .gs) (x .us) (n .second) (g .1 .0) (g .1 .1 .1 .0) (g .1 .1 .1 .1 .1))
 
--- the items that the call leaves, with their sizes
+-- at a fault of its own
+pub own-refused : (x : Given) (n : TextSizes) → BothFine x n → (f : Refusal) → kindFault (x .kind) (x .fs) (x .ds) ≡ numberOf f → Leaves (job x) (content x) (lent x) (lent x) (Refused f)
+unfolding secondFault ownFault
+own-refused x n fine f e = outcomes.own-refused (job x) (content x) (lent x) (fine .0 .passed) (fine .1 .passed) f e
+
+-- the call has no fault of its own, and leaves these items, with their sizes
 pub record Measured (x : Given) (is : List Item) (d e t : ℕ) : Type 0 where
+  pub own : kindFault (x .kind) (x .fs) (x .ds) ≡ 0
   pub leaves : resultItems (job x) (content x) ≡ is
   pub data-size : d ≡ length (dataOf is)
   pub entry-size : e ≡ 4 * entryCount is
@@ -107,7 +113,7 @@ module _ (x : Given) (n : TextSizes) (fine : BothFine x n) (is : List Item) (d e
     (v : Settled) (g : settledFault v ≡ sizesFault d e t 0 (roomIn (lent x))) where
   accepted : Accepted (job x) (content x)
   unfolding secondFault ownFault
-  accepted = record { content = fine .0 .passed; second = fine .1 .passed; own = refl }
+  accepted = record { content = fine .0 .passed; second = fine .1 .passed; own = z .own }
 
   sized : Sized (job x) (content x) is d e t 0
   unfolding linesLeft

@@ -14,7 +14,7 @@ use Rattle.writer.specs.Write.{Out, add, Fits}
 use Rattle.writer.proofs.Laws.{text-size, data-size}
 use Rattle.writer.proofs.Steps.{fits-first, fits-then, then}
 use Rattle.writer.proofs.Carry.{count-none}
-use Rattle.layout.specs.Layout.{copies, repeatPieces, padding, fillCount, Kind, withSecond, resultItems}
+use Rattle.layout.specs.Layout.{copies, repeatPieces, padding, fillCount, Kind, withSecond, resultItems, kindFault}
 use Rattle.outcomes.proofs.SecondLaws.{Given, content, second, BothFine, Measured}
 use Rattle.pad.specs.declared.Side.{Side}
 use Rattle.pad.specs.declared.Side.the-variants.{Start, End, Centered}
@@ -100,6 +100,13 @@ module _ (l r : ℕ) (f is : List Item) (o : Out) (fits : Fits (sides l r f is) 
           then (padding l f) (is ++ padding r f) (sides l r f is) o o₁ o₃ split fits w₁ (then is (padding r f) (is ++ padding r f) o₁ o₂ o₃ refl fits₂ w₂ w₃)
 
 -- ── what the call of a side leaves
+-- padding has no refusals of its own
+no-own : (s : Side) (q d : List ℕ) → kindFault (kindOf s) q d ≡ 0
+unfolding kindOf
+no-own Start q d = refl
+no-own End q d = refl
+no-own Centered q d = refl
+
 sided : (s : Side) (m : ℕ) (f c : Recording)
     → let n = fillCount m (c .dataBytes) in resultItems (withSecond (kindOf s) m f) c ≡ sides (leftOf s n) (n - leftOf s n) (items f) (items c)
 unfolding kindOf resultItems sides leftOf
@@ -154,6 +161,7 @@ module _ (x : Given) (n : TextSizes) (fine : BothFine x n) (k l : ℕ) (le : l �
       → Measured x all (length (x .ds) + k * length (x .fs)) ((length (x .ns) + e₁) + e₂) ((n .content + t₁) + t₂)
   padded-measured s ek en el e₁ e₂ t₁ t₂ h₁ h₂ h₃ h₄ =
       record {
+        own = ap (λ (j : Kind). kindFault j (x .fs) (x .ds)) ek ∙ no-own s (x .fs) (x .ds);
         leaves =
             ap (λ (j : Kind). resultItems (withSecond j (x .width) (second x)) (content x)) ek ∙ sided s (x .width) (second x) (content x)
             ∙ ap (λ (m : ℕ). sides (leftOf s m) (m - leftOf s m) fill is) (sym en) ∙ ap (λ (m : ℕ). sides m (k - m) fill is) (sym el);

@@ -14,7 +14,7 @@ use Rattle.recording.proofs.SizeLaws.{entryCount, count-append, edit-count, edi
 use Rattle.writer.proofs.Laws.{text-size}
 use Rattle.recording.specs.declared.TextSizes.{TextSizes}
 use Rattle.outcomes.proofs.SecondLaws.{Fine, Given, content, second, BothFine, Measured}
-use Rattle.layout.specs.Layout.{Kind, writeTruncatedStart, writeTruncatedEnd, withSecond, cutEnd, cutStart, truncateEnd, truncateStart, resultItems, number}
+use Rattle.layout.specs.Layout.{Kind, writeTruncatedStart, writeTruncatedEnd, withSecond, cutEnd, cutStart, truncateEnd, truncateStart, resultItems, number, kindFault}
 use Rattle.truncate_plan.specs.declared.Plan.{Plan}
 use Rattle.truncate_plan.specs.Plan.{planEnd, planStart}
 use Rattle.truncate.specs.Planned.{endItems, startItems, plusIf}
@@ -166,6 +166,7 @@ module _ (x : Given) (n : TextSizes) (fine : BothFine x n) (p : Plan) (e t : ℕ
       → Measured x (endItems p (content x) (second x)) (p .content + p .ellipsis) e t
   end-measured k q a b =
       record {
+        own = ap (λ (j : Kind). kindFault j (x .fs) (x .ds)) k;
         leaves = ap (λ (j : Kind). resultItems (withSecond j (x .width) (second x)) (content x)) k ∙ end-items (x .width) (content x) (second x) p q;
         data-size = end-data (x .ds) (x .ns) (x .ts) (x .fs) (x .gs) (x .us) (n .content) (n .second) (fine .0) (fine .1) (x .width) p q a b;
         entry-size = ee ∙ end-count (x .ds) (x .ns) (x .ts) (x .fs) (x .gs) (x .us) (n .content) (n .second) (fine .0) (fine .1) (x .width) p;
@@ -176,6 +177,7 @@ module _ (x : Given) (n : TextSizes) (fine : BothFine x n) (p : Plan) (e t : ℕ
       → Measured x (startItems p (content x) (second x)) ((length (x .ds) - p .content) + (length (x .fs) - p .ellipsis)) e t
   start-measured k q =
       record {
+        own = ap (λ (j : Kind). kindFault j (x .fs) (x .ds)) k;
         leaves = ap (λ (j : Kind). resultItems (withSecond j (x .width) (second x)) (content x)) k ∙ start-items (x .width) (content x) (second x) p q;
         data-size = start-data (x .ds) (x .ns) (x .ts) (x .fs) (x .gs) (x .us) (n .content) (n .second) (fine .0) (fine .1) (x .width) p q;
         entry-size = ee ∙ start-count (x .ds) (x .ns) (x .ts) (x .fs) (x .gs) (x .us) (n .content) (n .second) (fine .0) (fine .1) (x .width) p;

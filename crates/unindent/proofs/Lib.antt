@@ -1,0 +1,4 @@
+pub mod Laws
+pub mod Scan
+pub mod Loop
+pub mod Sizes
