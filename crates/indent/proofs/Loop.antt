@@ -2,19 +2,19 @@
 -- The idea: `State` says what is done, and that the plan for what is left of the data gives the rest of the result.
 use mathlib.Core.Path.{_≡_, refl, sym, ap, _∙_}
 use mathlib.Core.Bool.{Bool, true, false}
-use mathlib.Core.List.{List, [], _++_, append-assoc, append-nil}
+use mathlib.Core.List.{List, _++_, append-assoc}
 use Prim.Native.Nat.{ℕ, _+_, _-_, _≤_, _<_}
 use native.Mathlib.Omega.{arith}
 use lib.ListN.{length, drop, length-drop}
 use lib.Seq.{drop-drop}
 use Rattle.recording.specs.Recording.{recording, entriesOf, Item, itemsFrom, items}
 use Rattle.recording.specs.Edit.{front, back, edit}
-use Rattle.recording.proofs.ItemsLaws.{data-itemsFrom}
 use Rattle.writer.specs.declared.Cursor.{Cursor}
 use Rattle.writer.specs.Write.{Out, add, Fits, Sound, Ready, left}
-use Rattle.writer.proofs.Laws.{fits-left, fits-right, add-append, add-long, Long}
-use Rattle.writer.proofs.Carry.{valid-in, add-nil}
-use Rattle.writer.proofs.Steps.{fits-first, fits-then, front-all, left-start, ready-start}
+use Rattle.writer.proofs.Laws.{add-append, Long}
+use Rattle.writer.proofs.Progress as progress
+use Rattle.writer.proofs.Progress.{Progress, progress-first, progress-same, ready-within, rest-kept}
+use Rattle.writer.proofs.Steps.{fits-first, fits-then, left-start, ready-start}
 use Rattle.layout.specs.Layout.{indentOps}
 use Rattle.indent.specs.Lines.{toNext}
 use Rattle.indent.proofs.Laws.{plan-next, plan-last}
@@ -23,10 +23,8 @@ use Rattle.indent.proofs.Laws.{plan-next, plan-last}
 pub record State (x : List Item) (ds ns ts : List ℕ) (o₀ o : Out) (c : Cursor) (p : ℕ) : Type 0 where
   -- whether the byte at the cursor may still get a prefix
   pub start : Bool
-  pub done : List Item
-  pub wrote : o ≡ add done o₀
   -- what is left gives the rest of the result
-  pub rest : done ++ edit (indentOps x start (drop (c .at) ds)) (left ds ns ts c) ≡ edit (indentOps x true ds) (items (recording ds ns ts))
+  pub written : Progress (edit (indentOps x true ds) (items (recording ds ns ts))) (edit (indentOps x start (drop (c .at) ds)) (left ds ns ts c)) o₀ o
   pub ready : Ready ds ns ts c
   pub next : p ≡ c .at + toNext start (drop (c .at) ds)
   pub within : p ≤ length ds
@@ -36,9 +34,7 @@ pub state-first : (x : List Item) (ds ns ts : List ℕ) (o : Out) (c : Cursor) (
 state-first x ds ns ts o c p a k s e l =
     record {
       start = true;
-      done = [];
-      wrote = add-nil o;
-      rest = λ i. edit (indentOps x true (drop (a i) ds)) (left-start ds ns ts c a k i);
+      written = progress-first _ _ o (λ i. edit (indentOps x true (drop (a i) ds)) (left-start ds ns ts c a k i));
       ready = ready-start ds ns ts c a k s;
       next = rw a e;
       within = l;
@@ -52,29 +48,20 @@ module _ (x : List Item) (ds ns ts : List ℕ) (o₀ o : Out) (c : Cursor) (p : 
   abbrev left-over : List Item
   left-over = edit (indentOps x (s .start) (drop (c .at) ds)) (left ds ns ts c)
 
-  all : Fits (s .done ++ left-over) o₀
-  all = rw (s .rest) room
-
-  fits-done : Fits (s .done) o₀
-  fits-done = fits-left (s .done) left-over o₀ all
+  abbrev whole : List Item
+  whole = edit (indentOps x true ds) (items (recording ds ns ts))
 
   fits-now : Fits left-over o
-  fits-now = rw (s .wrote) (fits-right (s .done) left-over o₀ all)
+  fits-now = progress.room-now whole left-over o₀ o (s .written) room
 
   pub long-now : Long o o₀
-  long-now = rw (s .wrote) (add-long (s .done) o₀ fits-done)
+  long-now = progress.long-now whole left-over o₀ o (s .written) room
 
   pub here : c .at ≤ length ds
-  here = valid-in (c .at) (length ds) (length ts) (entriesOf (drop (c .k) ns)) (s .ready .valid)
+  here = ready-within ds ns ts c (s .ready)
 
   pub before : c .at ≤ p
   before = omega (arith, s .next)
-
-  more-done : (a b : List Item) (o′ : Out) → left-over ≡ a ++ b → o′ ≡ add a o → (o′ ≡ add (s .done ++ a) o₀) × ((s .done ++ a) ++ b ≡ edit (indentOps x true ds) (items (recording ds ns ts)))
-  more-done a b o′ e w = (
-    w ∙ ap (λ (y : Out). add a y) (s .wrote) ∙ add-append (s .done) a o₀ fits-done,
-    append-assoc (s .done) a b ∙ ap (λ (l : List Item). s .done ++ l) (sym e) ∙ s .rest,
-  )
 
   -- a turn
   module _ (more : p < length ds) where
@@ -107,14 +94,12 @@ module _ (x : List Item) (ds ns ts : List ℕ) (o₀ o : Out) (c : Cursor) (p : 
       unfolding left
       step o₂ c₁ c₂ p′ w₂ l r a ea ek ep lp =
           let turn : o₂ ≡ add (up-to ++ x) o = w₂ ∙ ap (λ (y : Out). add x y) w₁ ∙ add-append up-to x o room-keep in
-          let m = more-done (up-to ++ x) behind o₂ (parted ∙ sym (append-assoc up-to x behind)) turn in
+          let m = progress.further whole left-over o₀ o (s .written) room (up-to ++ x) behind o₂ (parted ∙ sym (append-assoc up-to x behind)) turn in
           let same : left ds ns ts c₂ ≡ back (p - c .at) (left ds ns ts c) = (λ i. itemsFrom (ea i) ts (drop (ea i) ds) (entriesOf (drop (ek i) ns))) ∙ l in
           let there : c₂ .at ≡ p = ea ∙ a in
           record {
             start = false;
-            done = s .done ++ (up-to ++ x);
-            wrote = m .0;
-            rest = (λ i. (s .done ++ (up-to ++ x)) ++ edit (indentOps x false (drop (there i) ds)) (same i)) ∙ m .1;
+            written = progress-same whole behind _ o₀ o₂ (λ i. edit (indentOps x false (drop (there i) ds)) (same i)) m;
             ready = record { within = rw ek (r .within); valid = rw (ea, ek) (r .valid); short = r .short };
             next = rw there ep;
             within = lp;
@@ -125,20 +110,11 @@ module _ (x : List Item) (ds ns ts : List ℕ) (o₀ o : Out) (c : Cursor) (p : 
     abbrev last : List Item
     last = front (length ds - c .at) (left ds ns ts c)
 
-    kept-all : last ≡ left ds ns ts c
-    unfolding left
-    kept-all =
-        front-all (length ds - c .at) (left ds ns ts c)
-        (omega (arith, ap length (data-itemsFrom (entriesOf (drop (c .k) ns)) (c .at) ts (drop (c .at) ds)), length-drop (c .at) ds))
-
-    last-is : left-over ≡ last ++ []
-    last-is =
-        plan-last x (s .start) (drop (c .at) ds) (left ds ns ts c) (omega (arith, s .next, length-drop (c .at) ds)) ∙ sym (append-nil last ∙ kept-all)
+    last-is : left-over ≡ last
+    last-is = plan-last x (s .start) (drop (c .at) ds) (left ds ns ts c) (omega (arith, s .next, length-drop (c .at) ds)) ∙ sym (rest-kept ds ns ts c (s .ready))
 
     pub room-last : Fits last o
-    room-last = fits-first last [] left-over o last-is fits-now
+    room-last = rw (← last-is) fits-now
 
     pub finish : (o′ : Out) → o′ ≡ add last o → o′ ≡ add (edit (indentOps x true ds) (items (recording ds ns ts))) o₀
-    finish o′ w =
-        let m = more-done last [] o′ last-is w in
-        m .0 ∙ ap (λ (l : List Item). add l o₀) (sym (append-nil (s .done ++ last)) ∙ m .1)
+    finish o′ w = progress.finished whole left-over o₀ o (s .written) room o′ (w ∙ ap (λ (l : List Item). add l o) (sym last-is))

@@ -1,5 +1,5 @@
 -- The rows that pin the definitions hold: one theorem over all of them, computed. Rows of a million bytes are laws over any data of that length.
-use mathlib.Core.Path.{_≡_, refl, sym}
+use mathlib.Core.Path.{_≡_, refl}
 use mathlib.Core.Bool.{true, false, false≢true}
 use mathlib.Core.List.{[]}
 use lib.ListN.{length}

@@ -10,10 +10,10 @@ use lib.Dec.{eqb, ltb}
 use lib.ListN.{length, take, drop, length-append, length-drop, take-append-drop}
 use borrow.Author.Tests.{eq-eqb, eqb-true, ltb-false, le-ltb}
 use Rattle.recording.specs.Recording.{Bytes, Recording, Item, items, dataOf, textOf, entriesFrom, numbersOf, encode, isNil}
-use Rattle.recording.specs.Coloured.{Coloured, colouredFrom, coloured, balanced, values}
+use Rattle.recording.specs.Coloured.{Coloured, coloured, balanced, values}
 use Rattle.recording.specs.Edit.{Op, keep, skip, put, under, edit, editColoured, editData}
-use Rattle.recording.specs.Refusals.{recordingFault, firstOf, refuseIf}
-use Rattle.recording.specs.Outcome.{Room, Result, overLimit, noRoom, refusalOf}
+use Rattle.recording.specs.Refusals.{firstOf, refuseIf}
+use Rattle.recording.specs.Outcome.{Room, Result, overLimit, noRoom}
 use Rattle.recording.proofs.EditLaws.{AllPuts, edit-data}
 use Rattle.recording.proofs.FaultLaws.{in-limits}
 use Rattle.recording.proofs.ItemsLaws.{values-of, values-append, values-under, values-edit, data-items, items-encode}
@@ -22,8 +22,7 @@ use Rattle.recording.proofs.OutcomeLaws.{stops-sizes, first-on, first-one}
 use Rattle.recording.proofs.SizeLaws.{count-numbers, edit-count, edit-text}
 use Rattle.layout.specs.Layout.{indentOps, indent, unindent, resultItems, secondFault, ownFault, faultsOf, resultOf, Call, refusal, after}
 use Rattle.layout.specs.Plain.{indented, unindented, step, toldOf}
-use Rattle.layout.specs.RoundTrips.{indentCall, unindentCall, NoLineIs, RoundTrips, IndentRoundTrips}
-use Rattle.layout.specs.Theorem.{SecondOk}
+use Rattle.layout.specs.RoundTrips.{indentCall, unindentCall, NoLineIs, IndentRoundTrips}
 use Rattle.layout.specs.Unindent.{unindentOps, hasNewline, beginsWith, allBegin, prefixFault}
 use Rattle.layout.specs.Wrap.{ontoFirst, splitLines}
 use Rattle.layout.proofs.LeftLaws.{left-valid}

@@ -2,15 +2,15 @@
 -- From there: its plain step (`unindent-law`). That the lines have the bytes is what refusal 33 asks (`begin-long`).
 use Prim.Native.Nat.{ℕ, zero, suc, _+_, _-_, _≤_, _<_}
 use native.Mathlib.Omega.{arith}
-use mathlib.Core.Bool.{Bool, true, false, cond, _&&_, _||_, not, false≢true}
+use mathlib.Core.Bool.{Bool, true, false, cond, _||_, not, false≢true}
 use mathlib.Core.Path.{_≡_, refl, sym, ap, _∙_}
 use mathlib.Core.List.{List, [], _∷_, _++_, append-assoc}
 use lib.Dec.{eqb}
 use lib.ListN.{length}
 use Rattle.recording.specs.Recording.{Bytes, Item, byte, push, pop, raw, isNil}
 use Rattle.recording.specs.Coloured.{Coloured, values}
-use Rattle.recording.specs.Edit.{Op, keep, skip, put, front, back, entriesOnly, edit, editColoured}
-use Rattle.recording.specs.Refusals.{firstOf, refuseIf}
+use Rattle.recording.specs.Edit.{Op, keep, skip, front, back, entriesOnly, edit, editColoured}
+use Rattle.recording.specs.Refusals.{refuseIf}
 use Rattle.recording.proofs.EditLaws.{AllPuts, front-with-back, front-add, back-add}
 use Rattle.recording.proofs.FaultLaws.{firstOf-zero, refuseIf-zero}
 use Rattle.recording.proofs.Lists.{and-left, and-right, not-false}

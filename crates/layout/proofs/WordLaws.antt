@@ -10,7 +10,7 @@ use borrow.Author.Tests.{eqb-true}
 use Rattle.chars.specs.Chars.{Character, bytesOf, wide}
 use Rattle.chars.proofs.CharsLaws.{bytes-chars, bytes-append}
 use Rattle.recording.specs.Recording.{isNil}
-use Rattle.layout.specs.Wrap.{ontoFirst, groups, splitLines, Word, ByteWord, byteWord, spaceBefore, byteBefore, byteWords, wordsOf, inHead, headsAsWords, splitWord}
+use Rattle.layout.specs.Wrap.{groups, splitLines, Word, ByteWord, byteWord, spaceBefore, byteBefore, byteWords, wordsOf, inHead, headsAsWords, splitWord}
 use Rattle.layout.specs.Wrap.{splitWords, splitWordsAtWidth, fitsLine, fullWidth, firstFit, Line, shownLen, wholeLen, groupLines, wrappedLine, linesFrom, wrapLines}
 use Rattle.layout.proofs.GroupLaws.{concat, groups-concat, groups-some}
 use Rattle.layout.proofs.LineLaws.{some-lines}

@@ -1,5 +1,5 @@
 -- Taking the indent off (document 02, Q-3): what becomes of the lines, and which lines are refused. All of it from the data bytes alone.
-use Prim.Native.Nat.{ℕ, zero, suc, _-_}
+use Prim.Native.Nat.{ℕ, suc, _-_}
 use mathlib.Core.Bool.{Bool, true, false, _&&_, _||_, not}
 use mathlib.Core.List.{List, [], _∷_}
 use lib.Dec.{eqb}

@@ -9,7 +9,7 @@ use Rattle.recording.specs.declared.Refusal.{Refusal}
 use Rattle.recording.specs.declared.Answer.the-variants.{Refused, Done}
 use Rattle.recording.specs.declared.Checked.{Checked}
 use Rattle.recording.specs.declared.Checked.the-variants as C
-use Rattle.recording.specs.Recording.{Bytes, Recording, recording, Item, items, dataOf, textOf}
+use Rattle.recording.specs.Recording.{Bytes, Recording, recording, Item, items, textOf}
 use Rattle.recording.specs.Edit.{edit, editData}
 use Rattle.recording.specs.Refusals.{numberOf, recordingFault}
 use Rattle.recording.specs.Check.{faultOf, Counted, Within}
@@ -25,7 +25,7 @@ use Rattle.writer.specs.Write.{out, add, blank, Fits}
 use Rattle.writer.specs.Sizes.{sizesFault, settledFault}
 use Rattle.writer.proofs.Sizes.{numbers-items, quads-of}
 use Rattle.layout.specs.Wrap.{lineNumbers}
-use Rattle.layout.specs.Layout.{Single, Job, alone, singleOps, singleLines, singleFault, resultItems, linesLeft, number, secondFault, ownFault}
+use Rattle.layout.specs.Layout.{Single, alone, singleOps, singleLines, singleFault, resultItems, linesLeft, number, secondFault, ownFault}
 use Rattle.recording.specs.Outcome.{Lent, roomIn}
 use Rattle.layout.specs.Lent.{lentLined, Leaves}
 use Rattle.layout.proofs.StripLaws.{bare-single, no-puts}

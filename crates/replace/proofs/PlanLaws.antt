@@ -1,20 +1,19 @@
 -- The writing of all records. `State`: what is written and what the records that are left make of the rest of the content are together the whole result; a turn moves its items from one to the other.
 use mathlib.Core.Path.{_≡_, sym, ap, _∙_}
 use mathlib.Core.Bool.{false}
-use mathlib.Core.List.{List, [], _∷_, _++_, append-assoc, append-nil}
+use mathlib.Core.List.{List, [], _∷_, _++_, append-assoc}
 use Prim.Native.Nat.{ℕ, _+_, _-_, _≤_}
-use native.Mathlib.Omega.{arith}
-use lib.ListN.{length, drop, length-drop}
+use lib.ListN.{length}
 use Rattle.buffer.specs.Place.{part}
-use Rattle.recording.specs.Recording.{recording, Item, byteItems, items, entriesOf}
+use Rattle.recording.specs.Recording.{recording, Item, byteItems, items}
 use Rattle.recording.specs.Edit.{front, back, entriesOnly, edit}
-use Rattle.recording.proofs.ItemsLaws.{data-itemsFrom}
 use Rattle.recording.proofs.EditLaws.{front-back, back-back}
 use Rattle.writer.specs.declared.Cursor.{Cursor}
 use Rattle.writer.specs.Write.{Out, add, Fits, Sound, Ready, left}
-use Rattle.writer.proofs.Laws.{fits-left, fits-right, add-append, add-long, Long}
-use Rattle.writer.proofs.Carry.{add-nil, valid-in}
-use Rattle.writer.proofs.Steps.{fits-first, front-all, left-start, ready-start}
+use Rattle.writer.proofs.Laws.{Long}
+use Rattle.writer.proofs.Progress as progress
+use Rattle.writer.proofs.Progress.{Progress, progress-first, progress-same, ready-within, rest-kept}
+use Rattle.writer.proofs.Steps.{fits-first, left-start, ready-start}
 use Rattle.layout.specs.declared.Replacement.{Replacement}
 use Rattle.layout.specs.Layout.{replaceOps, badRecord, recordsFault}
 use Rattle.replace.specs.Turn.{turnItems, turnLeft, Turn, Turned}
@@ -33,10 +32,8 @@ plan-next new at x xs is =
     (sym (append-assoc a (p ++ b) r ∙ ap (λ (l : List Item). a ++ l) (append-assoc p b r)))
 
 pub record State (ds ns ts new : List ℕ) (all rest : List Replacement) (o₀ o : Out) (c : Cursor) : Type 0 where
-  pub done : List Item
-  pub wrote : o ≡ add done o₀
   -- what is left gives the rest of the result
-  pub joins : done ++ edit (replaceOps new (c .at) rest) (left ds ns ts c) ≡ edit (replaceOps new 0 all) (items (recording ds ns ts))
+  pub written : Progress (edit (replaceOps new 0 all) (items (recording ds ns ts))) (edit (replaceOps new (c .at) rest) (left ds ns ts c)) o₀ o
   pub ready : Ready ds ns ts c
   pub good : recordsFault (c .at) (length ds) (length new) rest ≡ 0
 
@@ -44,9 +41,7 @@ pub state-first : (ds ns ts new : List ℕ) (all : List Replacement) (o : Out) (
     → State ds ns ts new all all o o c
 state-first ds ns ts new all o c a k s g =
     record {
-      done = [];
-      wrote = add-nil o;
-      joins = λ j. edit (replaceOps new (a j) all) (left-start ds ns ts c a k j);
+      written = progress-first _ _ o (λ j. edit (replaceOps new (a j) all) (left-start ds ns ts c a k j));
       ready = ready-start ds ns ts c a k s;
       good = rw a g;
     }
@@ -56,21 +51,14 @@ module _ (ds ns ts new : List ℕ) (all rest : List Replacement) (o₀ o : Out) 
   abbrev to-come : List Item
   to-come = edit (replaceOps new (c .at) rest) (left ds ns ts c)
 
-  whole-room : Fits (s .done ++ to-come) o₀
-  whole-room = rw (s .joins) room
+  abbrev whole : List Item
+  whole = edit (replaceOps new 0 all) (items (recording ds ns ts))
 
   pub long-now : Long o o₀
-  long-now = rw (s .wrote) (add-long (s .done) o₀ (fits-left (s .done) to-come o₀ whole-room))
+  long-now = progress.long-now whole to-come o₀ o (s .written) room
 
   room-now : Fits to-come o
-  room-now = rw (s .wrote) (fits-right (s .done) to-come o₀ whole-room)
-
-  more-done : (a b : List Item) (o′ : Out) → to-come ≡ a ++ b → o′ ≡ add a o
-      → (o′ ≡ add (s .done ++ a) o₀) × ((s .done ++ a) ++ b ≡ edit (replaceOps new 0 all) (items (recording ds ns ts)))
-  more-done a b o′ e w = (
-    w ∙ ap (λ (v : Out). add a v) (s .wrote) ∙ add-append (s .done) a o₀ (fits-left (s .done) to-come o₀ whole-room),
-    append-assoc (s .done) a b ∙ ap (λ (l : List Item). s .done ++ l) (sym e) ∙ s .joins,
-  )
+  room-now = progress.room-now whole to-come o₀ o (s .written) room
 
   module _ (x : Replacement) (xs : List Replacement) (e : rest ≡ x ∷ xs) where
     fault : (badRecord (c .at) (length ds) (length new) x ≡ false) × (recordsFault (x .end) (length ds) (length new) xs ≡ 0)
@@ -92,11 +80,9 @@ module _ (ds ns ts new : List ℕ) (all rest : List Replacement) (o₀ o : Out) 
 
     pub state-next : (o′ : Out) (c′ : Cursor) → Turned ds ns ts new x c c′ o o′ → State ds ns ts new all xs o₀ o′ c′
     state-next o′ c′ t =
-        let m = more-done turn later o′ parted (t .wrote) in
+        let m = progress.further whole to-come o₀ o (s .written) room turn later o′ parted (t .wrote) in
         record {
-          done = s .done ++ turn;
-          wrote = m .0;
-          joins = (λ i. (s .done ++ turn) ++ edit (replaceOps new (t .here i) xs) (t .behind i)) ∙ m .1;
+          written = progress-same whole later _ o₀ o′ (λ i. edit (replaceOps new (t .here i) xs) (t .behind i)) m;
           ready = t .ready;
           good = rw (t .here) (fault .1);
         }
@@ -106,22 +92,14 @@ module _ (ds ns ts new : List ℕ) (all rest : List Replacement) (o₀ o : Out) 
     abbrev tail : List Item
     tail = front (length ds - c .at) (left ds ns ts c)
 
-    kept-all : tail ≡ left ds ns ts c
-    unfolding left
-    kept-all =
-        front-all (length ds - c .at) (left ds ns ts c)
-        (omega (arith, ap length (data-itemsFrom (entriesOf (drop (c .k) ns)) (c .at) ts (drop (c .at) ds)), length-drop (c .at) ds))
-
-    last-is : to-come ≡ tail ++ []
-    last-is = ap (λ (l : List Replacement). edit (replaceOps new (c .at) l) (left ds ns ts c)) none ∙ sym (append-nil tail ∙ kept-all)
+    last-is : to-come ≡ tail
+    last-is = ap (λ (l : List Replacement). edit (replaceOps new (c .at) l) (left ds ns ts c)) none ∙ sym (rest-kept ds ns ts c (s .ready))
 
     pub within : c .at ≤ length ds
-    within = valid-in (c .at) (length ds) (length ts) (entriesOf (drop (c .k) ns)) (s .ready .valid)
+    within = ready-within ds ns ts c (s .ready)
 
     pub room-last : Fits tail o
-    room-last = fits-first tail [] to-come o last-is room-now
+    room-last = rw (← last-is) room-now
 
     pub finish : (o′ : Out) → o′ ≡ add tail o → o′ ≡ add (edit (replaceOps new 0 all) (items (recording ds ns ts))) o₀
-    finish o′ w =
-        let m = more-done tail [] o′ last-is w in
-        m .0 ∙ ap (λ (l : List Item). add l o₀) (sym (append-nil (s .done ++ tail)) ∙ m .1)
+    finish o′ w = progress.finished whole to-come o₀ o (s .written) room o′ (w ∙ ap (λ (l : List Item). add l o) (sym last-is))

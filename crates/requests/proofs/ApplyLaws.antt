@@ -12,7 +12,7 @@ use Rattle.buffer.specs.Place.{over}
 use Rattle.recording.specs.declared.Answer.{Answer}
 use Rattle.recording.specs.Recording.{Recording}
 use Rattle.recording.specs.Outcome.{Room, Result, Faults, Outcome, refused, done, noRoom, refusalOf, settle, Lent, lentAfter, Promised}
-use Rattle.layout.specs.Layout.{Job, truncateStart, truncateEnd, padStart, padEnd, padCentered, indent, wrap, replace, expandTabs, linesLeft, resultOf, faultsOf, outcome}
+use Rattle.layout.specs.Layout.{Job, truncateStart, truncateEnd, padStart, padEnd, padCentered, indent, unindent, wrap, replace, expandTabs, linesLeft, resultOf, faultsOf, outcome}
 use Rattle.layout.specs.Lent.{lentOf, lentLined, callIn, Leaves}
 use Rattle.replace.specs.Records.{recordsOf}
 use Rattle.requests.specs.Requests.{jobOf}
@@ -112,10 +112,14 @@ module _ (k n : ℕ) (q : Recording) where
   unfolding jobOf
   job-replace h = rw h
 
-  -- all others expand tabs
-  pub job-tabs : 8 < k → jobOf k n q ≡ expandTabs n
+  pub job-tabs : k ≡ 9 → jobOf k n q ≡ expandTabs n
   unfolding jobOf
-  job-tabs h =
+  job-tabs h = rw h
+
+  -- all others take the indent off
+  pub job-unindent : 9 < k → jobOf k n q ≡ unindent q
+  unfolding jobOf
+  job-unindent h =
       rw (
         ne-eqb k 0 (λ e. omega (arith, h, e)),
         ne-eqb k 1 (λ e. omega (arith, h, e)),
@@ -126,4 +130,5 @@ module _ (k n : ℕ) (q : Recording) where
         ne-eqb k 6 (λ e. omega (arith, h, e)),
         ne-eqb k 7 (λ e. omega (arith, h, e)),
         ne-eqb k 8 (λ e. omega (arith, h, e)),
+        ne-eqb k 9 (λ e. omega (arith, h, e)),
       )

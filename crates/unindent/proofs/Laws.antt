@@ -2,7 +2,7 @@
 -- and which of the lines are refused (`begin-pass`, `begin-last`). A prefix without 0A is held against the data, and not against the line (`begins-line`).
 use mathlib.Core.Path.{_≡_, refl, sym, ap, _∙_}
 use mathlib.Core.Bool.{Bool, true, false, cond, _&&_, _||_, not, false≢true}
-use mathlib.Core.List.{List, [], _∷_, _++_, append-assoc}
+use mathlib.Core.List.{List, [], _∷_, _++_}
 use Prim.Native.Nat.{ℕ, zero, suc, _+_, _-_, _≤_, _<_}
 use native.Mathlib.Numerals.{add-one}
 use native.Mathlib.Omega.{arith}
@@ -10,7 +10,7 @@ use lib.Dec.{eqb}
 use lib.ListN.{length, drop, getD, length-drop, drop-of-length-le}
 use lib.Seq.{drop-cons, drop-drop}
 use borrow.Author.Tests.{eqb-true}
-use Rattle.recording.specs.Recording.{Bytes, Item, byteItems, dataOf, isNil}
+use Rattle.recording.specs.Recording.{Bytes, Item, byteItems, dataOf}
 use Rattle.recording.specs.Edit.{Op, keep, skip, front, back, entriesOnly, edit, editData}
 use Rattle.recording.proofs.EditLaws.{edit-data, front-with-back}
 use Rattle.recording.proofs.ItemsLaws.{data-bytes}

@@ -1,21 +1,21 @@
 -- The second pass, which writes: a turn carries the content on up to the next line that is not empty and passes the prefix there, the end carries on the rest.
 -- The idea: `State` says that what is written and what is left of the edit are together the whole (`Progress` of the writer), and that every line to come begins with the prefix.
-use mathlib.Core.Path.{_≡_, refl, sym, ap, subst, _∙_}
-use mathlib.Core.Bool.{Bool, true, false, _&&_}
-use mathlib.Core.List.{List, [], _∷_, _++_}
+use mathlib.Core.Path.{_≡_, refl, sym, ap, _∙_}
+use mathlib.Core.Bool.{Bool, true, false}
+use mathlib.Core.List.{List, _∷_, _++_}
 use Prim.Native.Nat.{ℕ, _+_, _-_, _≤_, _<_}
 use native.Mathlib.Omega.{arith}
 use lib.ListN.{length, drop, length-drop}
 use lib.Seq.{drop-drop}
 use Rattle.recording.specs.Recording.{Bytes, recording, Item, items}
-use Rattle.recording.specs.Edit.{keep, skip, front, back, entriesOnly, edit}
+use Rattle.recording.specs.Edit.{keep, front, back, entriesOnly, edit}
 use Rattle.recording.proofs.Lists.{and-left}
 use Rattle.writer.specs.declared.Cursor.{Cursor}
 use Rattle.writer.specs.Write.{Out, add, Fits, Sound, Ready, left}
 use Rattle.writer.proofs.Laws.{Long}
 use Rattle.writer.proofs.Steps.{fits-first, fits-then, left-start, ready-start}
 use Rattle.writer.proofs.Progress as progress
-use Rattle.writer.proofs.Progress.{Progress, progress-first, ready-within, rest-kept}
+use Rattle.writer.proofs.Progress.{Progress, progress-first, progress-same, ready-within, rest-kept}
 use Rattle.layout.specs.Wrap.{splitLines}
 use Rattle.layout.specs.Unindent.{hasNewline, beginsWith, allBegin}
 use Rattle.layout.proofs.LineLaws.{linesAt}
@@ -118,7 +118,7 @@ module _ (p ds ns ts : List ℕ) (one-line : hasNewline p ≡ false) (o₀ o : O
           let on = progress.further (whole p ds ns ts) (entries-there ++ later) o₀ o₁ kept room entries-there later o₂ refl (w₂ ∙ ap (λ (l : List Item). add l o₁) gone) in
           record {
             start = false;
-            written = subst (λ (l : List Item). Progress (whole p ds ns ts) l o₀ o₂) (sym (λ i. edit (byteOps n 0 (drop (a₂ i) ds)) (rest i))) on;
+            written = progress-same (whole p ds ns ts) later _ o₀ o₂ (λ i. edit (byteOps n 0 (drop (a₂ i) ds)) (rest i)) on;
             ready = r;
             next = rw a₂ e;
             within = w;
@@ -127,20 +127,17 @@ module _ (p ds ns ts : List ℕ) (one-line : hasNewline p ≡ false) (o₀ o : O
 
   -- the end
   module _ (past : length ds ≤ at) where
-    last-is : to-come ≡ left ds ns ts c
-    last-is = plan-last n (s .start) (drop (c .at) ds) (left ds ns ts c) (omega (arith, past, s .next, length-drop (c .at) ds))
-
     abbrev last : List Item
     last = front (length ds - c .at) (left ds ns ts c)
 
-    all-last : to-come ≡ last
-    all-last = last-is ∙ sym (rest-kept ds ns ts c (s .ready))
+    last-is : to-come ≡ last
+    last-is = plan-last n (s .start) (drop (c .at) ds) (left ds ns ts c) (omega (arith, past, s .next, length-drop (c .at) ds)) ∙ sym (rest-kept ds ns ts c (s .ready))
 
     pub here : c .at ≤ length ds
     here = ready-within ds ns ts c (s .ready)
 
     pub room-last : Fits last o
-    room-last = rw (← all-last) fits-now
+    room-last = rw (← last-is) fits-now
 
     pub finish : (o′ : Out) → o′ ≡ add last o → o′ ≡ add (whole p ds ns ts) o₀
-    finish o′ w = progress.finished (whole p ds ns ts) to-come o₀ o (s .written) room o′ (w ∙ ap (λ (l : List Item). add l o) (sym all-last))
+    finish o′ w = progress.finished (whole p ds ns ts) to-come o₀ o (s .written) room o′ (w ∙ ap (λ (l : List Item). add l o) (sym last-is))

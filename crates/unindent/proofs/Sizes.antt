@@ -1,5 +1,5 @@
 -- How much is left once the indent is taken off: nothing is put in, so the entry numbers and the text are the content's; and that this is what the call leaves (`unindented-measured`).
-use mathlib.Core.Path.{_≡_, refl, sym, ap, _∙_}
+use mathlib.Core.Path.{_≡_, sym, ap, _∙_}
 use mathlib.Core.Bool.{true}
 use mathlib.Core.List.{List}
 use Prim.Native.Nat.{ℕ}

@@ -12,12 +12,14 @@ use Rattle.recording.proofs.ItemsLaws.{data-itemsFrom}
 use Rattle.recording.proofs.EditLaws.{front-back, back-back}
 use Rattle.writer.specs.declared.Cursor.{Cursor}
 use Rattle.writer.specs.Write.{Out, add, Fits, Ready, Sound, left}
-use Rattle.writer.proofs.Laws.{fits-left, fits-right, add-append, add-long, Long}
-use Rattle.writer.proofs.Carry.{add-nil}
+use Rattle.writer.proofs.Laws.{add-long, Long}
+use Rattle.writer.proofs.Progress as progress
+use Rattle.writer.proofs.Progress.{Progress, progress-first, progress-same}
 use Rattle.writer.proofs.Steps.{fits-first, fits-then, then, back-all, left-start, ready-start}
 use Rattle.layout.specs.Wrap.{Line, lineOf, splitLines}
 use Rattle.layout.specs.Layout.{wrapOps, wrap, resultItems}
-use Rattle.layout.proofs.WordLaws.{some-lines, some-all}
+use Rattle.layout.proofs.LineLaws.{some-lines}
+use Rattle.layout.proofs.WordLaws.{some-all}
 use Rattle.line.specs.Rest.{restLines}
 use Rattle.line.specs.Line.{following}
 use Rattle.line.specs.declared.Next.{Next}
@@ -76,10 +78,8 @@ rest-some w b at d = some-all w b at (splitLines d) (some-lines d)
 
 -- ── the state between two lines: `at` is where the next one starts
 pub record State (ds ns ts : List ℕ) (w : ℕ) (b : Bool) (o₀ o : Out) (c : Cursor) (at : ℕ) : Type 0 where
-  pub done : List Item
-  pub wrote : o ≡ add done o₀
   -- the plan of the lines that are left gives the rest
-  pub rest : done ++ edit (wrapOps (length ds) (c .at) (restLines w b at (drop at ds))) (left ds ns ts c) ≡ resultItems (wrap w b) (recording ds ns ts)
+  pub written : Progress (resultItems (wrap w b) (recording ds ns ts)) (edit (wrapOps (length ds) (c .at) (restLines w b at (drop at ds))) (left ds ns ts c)) o₀ o
   pub ready : Ready ds ns ts c
   pub here : c .at ≤ at
   pub within : at ≤ length ds
@@ -88,9 +88,7 @@ pub state-first : (ds ns ts : List ℕ) (w : ℕ) (b : Bool) (o : Out) (c : Curs
 unfolding resultItems
 state-first ds ns ts w b o c a k s =
     record {
-      done = [];
-      wrote = add-nil o;
-      rest = λ j. edit (wrapOps (length ds) (a j) (rest-all w b ds j)) (left-start ds ns ts c a k j);
+      written = progress-first _ _ o (λ j. edit (wrapOps (length ds) (a j) (rest-all w b ds j)) (left-start ds ns ts c a k j));
       ready = ready-start ds ns ts c a k s;
       here = omega (arith, a);
       within = omega arith;
@@ -118,20 +116,11 @@ module _ (ds ns ts : List ℕ) (w : ℕ) (b : Bool) (o₀ o : Out) (c : Cursor) 
   abbrev left-over : List Item
   left-over = edit (wrapOps (length ds) (c .at) (restLines w b at (drop at ds))) (left ds ns ts c)
 
-  whole-room : Fits (S .done ++ left-over) o₀
-  whole-room = rw (S .rest) room
-
   pub long-now : Long o o₀
-  long-now = rw (S .wrote) (add-long (S .done) o₀ (fits-left (S .done) left-over o₀ whole-room))
+  long-now = progress.long-now all left-over o₀ o (S .written) room
 
   room-now : Fits left-over o
-  room-now = rw (S .wrote) (fits-right (S .done) left-over o₀ whole-room)
-
-  more-done : (x y : List Item) (o′ : Out) → left-over ≡ x ++ y → o′ ≡ add x o → (o′ ≡ add (S .done ++ x) o₀) × ((S .done ++ x) ++ y ≡ all)
-  more-done x y o′ e v = (
-    v ∙ ap (λ (z : Out). add x z) (S .wrote) ∙ add-append (S .done) x o₀ (fits-left (S .done) left-over o₀ whole-room),
-    append-assoc (S .done) x y ∙ ap (λ (l : List Item). S .done ++ l) (sym e) ∙ S .rest,
-  )
+  room-now = progress.room-now all left-over o₀ o (S .written) room
 
   module _ (r : Next) (e : restLines w b at (drop at ds) ≡ lineOf at (r .end) ∷ following w b ds r) where
     -- what the line writes and leaves
@@ -184,13 +173,11 @@ module _ (ds ns ts : List ℕ) (w : ℕ) (b : Bool) (o₀ o : Out) (c : Cursor) 
 
         pub step : (o₂ : Out) (c₂ : Cursor) → o₂ ≡ add newline o₁ → c₂ .at ≡ c₁ .at → c₂ .k ≡ c₁ .k → r .end ≤ r .next → r .next ≤ length ds → State ds ns ts w b o₀ o₂ c₂ (r .next)
         step o₂ c₂ v₂ a₂ k₂ p q =
-            let d = more-done (turn ++ newline) later o₂ parted-both (then turn newline (turn ++ newline) o o₁ o₂ refl room-both v₁ v₂) in
+            let d = progress.further all left-over o₀ o (S .written) room (turn ++ newline) later o₂ parted-both (then turn newline (turn ++ newline) o o₁ o₂ refl room-both v₁ v₂) in
             let a : c₂ .at ≡ r .end = a₂ ∙ a₁ in
             let g : left ds ns ts c₂ ≡ gone = same-left ds ns ts c₁ c₂ a₂ k₂ ∙ l₁ in
             record {
-              done = S .done ++ (turn ++ newline);
-              wrote = d .0;
-              rest = (λ i. (S .done ++ (turn ++ newline)) ++ edit (wrapOps (length ds) (a i) (restLines w b (r .next) (drop (r .next) ds))) (g i)) ∙ d .1;
+              written = progress-same all later _ o₀ o₂ (λ i. edit (wrapOps (length ds) (a i) (restLines w b (r .next) (drop (r .next) ds))) (g i)) d;
               ready = same-ready ds ns ts c₁ c₂ a₂ k₂ r₁;
               here = omega (arith, a);
               within = q;
@@ -211,6 +198,4 @@ module _ (ds ns ts : List ℕ) (w : ℕ) (b : Bool) (o₀ o : Out) (c : Cursor) 
         room-behind = fits-then turn behind left-over o o₁ parted-all room-now v₁
 
         pub finish : (o₂ : Out) → o₂ ≡ add behind o₁ → o₂ ≡ add all o₀
-        finish o₂ v₂ =
-            let d = more-done left-over [] o₂ (sym (append-nil left-over)) (then turn behind left-over o o₁ o₂ parted-all room-now v₁ v₂) in
-            d .0 ∙ ap (λ (l : List Item). add l o₀) (sym (append-nil (S .done ++ left-over)) ∙ d .1)
+        finish o₂ v₂ = progress.finished all left-over o₀ o (S .written) room o₂ (then turn behind left-over o o₁ o₂ parted-all room-now v₁ v₂)

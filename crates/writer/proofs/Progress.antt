@@ -1,5 +1,5 @@
 -- The writing of a result step by step: what is written and what is still to come are together the whole (`Progress`), and a step moves items from the one to the other (`further`).
-use mathlib.Core.Path.{_≡_, refl, sym, ap, _∙_}
+use mathlib.Core.Path.{_≡_, sym, ap, _∙_}
 use mathlib.Core.List.{List, [], _++_, append-assoc, append-nil}
 use Prim.Native.Nat.{ℕ, _+_, _-_, _≤_}
 use native.Mathlib.Omega.{arith}
@@ -20,6 +20,10 @@ pub record Progress (whole to-come : List Item) (o₀ o : Out) : Type 0 where
 
 pub progress-first : (whole to-come : List Item) (o : Out) → to-come ≡ whole → Progress whole to-come o o
 progress-first whole to-come o e = record { done = []; wrote = add-nil o; joins = e }
+
+-- what is to come, in other words
+pub progress-same : (whole a b : List Item) (o₀ o : Out) → b ≡ a → Progress whole a o₀ o → Progress whole b o₀ o
+progress-same whole a b o₀ o e s = record { done = s .done; wrote = s .wrote; joins = ap (λ (l : List Item). s .done ++ l) e ∙ s .joins }
 
 module _ (whole to-come : List Item) (o₀ o : Out) (s : Progress whole to-come o₀ o) (room : Fits whole o₀) where
   all : Fits (s .done ++ to-come) o₀

@@ -1,12 +1,12 @@
 -- `apply` leaves and answers what the job of its kind does: at each return, the promise of the call of that kind, with the line list as it was where that call has none.
 use native.Mathlib.Omega.{arith}
 use borrow.Author.Needs.{needs}
-use Rattle.requests.proofs.ApplyLaws.{unlined, lined, job-start, job-end, job-pad-start, job-pad-end, job-pad-centered, job-indent, job-wrap, job-replace, job-tabs}
+use Rattle.requests.proofs.ApplyLaws.{unlined, lined, job-start, job-end, job-pad-start, job-pad-end, job-pad-centered, job-indent, job-wrap, job-replace, job-tabs, job-unindent}
 use Rattle.requests.specs.Requests.{jobOf}
 use Prim.Native.Nat.{ℕ}
 use Rattle.replace.specs.Records.{recordsOf}
 use Rattle.layout.specs.Lent.{lentOf, lentLined, Leaves}
-use Rattle.layout.specs.Layout.{Job, truncateStart, truncateEnd, padStart, padEnd, padCentered, indent, wrap, replace, expandTabs, linesLeft}
+use Rattle.layout.specs.Layout.{Job, truncateStart, truncateEnd, padStart, padEnd, padCentered, indent, unindent, wrap, replace, expandTabs, linesLeft}
 use Rattle.recording.specs.Recording.{Recording, recording}
 use Rattle.recording.specs.declared.Answer.{Answer}
 use mathlib.Core.List.{List, []}
@@ -24,6 +24,7 @@ use Rattle.replace.proofs.write_replaced_flat.Reads as write-replaced-flat-read
 use Rattle.tabs.proofs.write_tabs_expanded.Reads as write-tabs-expanded-reads
 use Rattle.truncate.proofs.write_truncated_end.Reads as write-truncated-end-reads
 use Rattle.truncate.proofs.write_truncated_start.Reads as write-truncated-start-reads
+use Rattle.unindent.proofs.write_unindented.Reads as write-unindented-reads
 use Rattle.wrap.proofs.write_wrapped.Reads as write-wrapped-reads
 
 -- ── what the call was given
@@ -241,11 +242,33 @@ returns-9 : tie.Need-returns-9
 unfolding linesLeft
 returns-9 c =
     let w = c .before .before .before .before .before .before in
-    let e8 = w .before .before .before .before in
+    let t = w .before .before .before .before in
+    let s = start (t .before .before .before .before .before .before .before .before .before) in
+    no-lines s (expandTabs (s .args .width))
+    (job-tabs (s .args .kind) (s .args .width) (second s) (t .if9 .taken)) refl _ _ _ (w .write-tabs-expanded .result) (w .write-tabs-expanded .ensures)
+
+write-unindented-requires : tie.Need-write-unindented-requires
+write-unindented-requires c κs = search needs
+
+same-length-29 : tie.Need-same-length-29
+same-length-29 c = search needs
+
+same-length-30 : tie.Need-same-length-30
+same-length-30 c = search needs
+
+same-length-31 : tie.Need-same-length-31
+same-length-31 c = search needs
+
+returns-10 : tie.Need-returns-10
+unfolding linesLeft
+returns-10 c =
+    let w = c .before .before .before .before .before .before in
+    let e9 = w .before .before .before .before in
+    let e8 = e9 .before in
     let e7 = e8 .before in
     let s = start (e7 .before .before .before .before .before .before .before) in
-    no-lines s (expandTabs (s .args .width))
-    (job-tabs (s .args .kind) (s .args .width) (second s) (omega (arith, e7 .if7 .left, e8 .if8 .left))) refl _ _ _ (w .write-tabs-expanded .result) (w .write-tabs-expanded .ensures)
+    no-lines s (unindent (second s))
+    (job-unindent (s .args .kind) (s .args .width) (second s) (omega (arith, e7 .if7 .left, e8 .if8 .left, e9 .if9 .left))) refl _ _ _ (w .write-unindented .result) (w .write-unindented .ensures)
 
 pub apply-spec : {M : Type 1} → statement M
 apply-spec =
@@ -296,4 +319,9 @@ apply-spec =
     same-length-26
     same-length-27
     same-length-28
-    returns-9)
+    returns-9
+    write-unindented-requires
+    same-length-29
+    same-length-30
+    same-length-31
+    returns-10)

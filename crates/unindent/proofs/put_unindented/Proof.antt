@@ -1,6 +1,6 @@
 -- The loop over the lines that have the prefix keeps `State` (`proofs/Loop.antt`): what is written, and that the plan for what is left gives the rest.
 use native.Mathlib.Omega.{arith}
-use Prim.Native.Nat.{ℕ, _+_, _-_, _≤_}
+use Prim.Native.Nat.{_+_, _-_, _≤_}
 use mathlib.Core.Path.{_≡_, refl, sym, ap, subst, _∙_}
 use mathlib.Core.List.{List}
 use lib.ListN.{length}

@@ -1,9 +1,8 @@
 -- The promise of `unindent`: each refusal is found in its order, and what is sized and written is the call's result (`proofs/Sizes.antt`).
-use native.Mathlib.Omega.{arith}
 use borrow.Author.Needs.{needs}
 use mathlib.Core.Path.{_≡_, refl, sym, _∙_}
 use mathlib.Core.List.{List}
-use Prim.Native.Nat.{ℕ, _≤_}
+use Prim.Native.Nat.{ℕ}
 use lib.ListN.{length}
 use Rattle.recording.specs.declared.Refusal.the-variants.{PrefixNewline}
 use Rattle.recording.specs.declared.TextSizes.{TextSizes}
