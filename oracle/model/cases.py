@@ -50,6 +50,7 @@ REFUSALS = [
     ("33 in the first line", ("write_unindented", recording(b"a\n>b"), recording(b">")), 33),
     ("33 in the last line", ("write_unindented", recording(b">a\nb"), recording(b">")), 33),
     ("33, a line shorter than the prefix", ("write_unindented", recording(b"> a\n>\n> b"), recording(b"> ")), 33),
+    ("33, behind a line's first byte", ("write_unindented", recording(b".>a"), recording(b">")), 33),
     ("33, its last byte", ("write_unindented", recording(b">>a\n>.b"), recording(b">>")), 33),
     ("empty lines are not asked", ("write_unindented", recording(b"\n\n"), recording(b">")), 21),
     ("6 of the content before 2 of the prefix", ("write_unindented", recording(b"a", (0, 0, 0, 1), b"\xFF"), recording(b"\n", (0,))), 6),
