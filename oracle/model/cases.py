@@ -1,4 +1,4 @@
-"""The model's own tests: document 01's cases C1 to C16, with document 02's widths of lines and tab stops; its reading of UTF-8 against Python's decoder; and laws, on random inputs."""
+"""The model's own tests: document 01's cases C1 to C16, with document 02's widths of lines, tab stops and indent taken off; its reading of UTF-8 against Python's decoder; and laws, on random inputs."""
 import random
 
 import lists
@@ -28,8 +28,15 @@ DATA = [
     ("Q-2, up to the next stop", ("write_tabs_expanded", recording(b"ab\tc"), 8), b"ab      c", 0),
     ("Q-2, at a stop", ("write_tabs_expanded", recording(b"abcd\te"), 4), b"abcd    e", 0),
     ("Q-2, columns since the last 0A", ("write_tabs_expanded", recording(b"abc\n\xE6\x9C\xA8\t\t"), 4), b"abc\n\xE6\x9C\xA8      ", 0),
+    ("Q-3, C13 back", ("write_unindented", recording(b"> a\n\n> b"), recording(b"> ")), b"a\n\nb", 0),
+    ("Q-3, a last 0A, and a line that is the prefix", ("write_unindented", recording(b"> a\n> \n"), recording(b"> ")), b"a\n\n", 0),
+    ("Q-3, once from each line", ("write_unindented", recording(b"aaaa\naaa\naa"), recording(b"aa")), b"aa\na\n", 0),
+    ("Q-3, an empty prefix", ("write_unindented", recording(b"a\n\nb"), recording(b"", (0, 2, 0, 1), b"R")), b"a\n\nb", 0),
+    ("Q-3, bytes and no characters", ("write_unindented", recording(b"\xE6\x9C\xA8"), recording(b"\xE6\x9C")), b"\xA8", 0),
     ("fill ab, an entry at 1, twice", ("write_padded_start", recording(b""), recording(b"ab", (1, 2, 0, 1), b"x"), 2), b"aabb", 0),
 ]
+# Entries and text of a recording whose parts are over the text's limit together.
+TWICE = (0, 0, 0, 32769, 0, 2, 0, 32769), b"x" * 32769
 REFUSALS = [
     ("1 of the ellipsis before 7 of the text", ("elide_end", b"\xFF", b"a" * 1048577, 4), 1),
     ("6 of the content before 2 of the fill", ("write_padded_end", recording(b"", (0, 0, 0, 1), b"\xFF"), recording(b"", (0,)), 4), 6),
@@ -39,9 +46,27 @@ REFUSALS = [
     ("31 before 9", ("write_tabs_expanded", recording(b"\t" * 16385), 65), 31),
     ("9 at stop 64", ("write_tabs_expanded", recording(b"\t" * 16385), 64), 9),
     ("the limit at stop 64", ("write_tabs_expanded", recording(b"\t" * 16384), 64), 21),
+    ("32, the prefix has a 0A", ("write_unindented", recording(b""), recording(b">\n")), 32),
+    ("33 in the first line", ("write_unindented", recording(b"a\n>b"), recording(b">")), 33),
+    ("33 in the last line", ("write_unindented", recording(b">a\nb"), recording(b">")), 33),
+    ("33, a line shorter than the prefix", ("write_unindented", recording(b"> a\n>\n> b"), recording(b"> ")), 33),
+    ("33, behind a line's first byte", ("write_unindented", recording(b".>a"), recording(b">")), 33),
+    ("33, its last byte", ("write_unindented", recording(b">>a\n>.b"), recording(b">>")), 33),
+    ("empty lines are not asked", ("write_unindented", recording(b"\n\n"), recording(b">")), 21),
+    ("6 of the content before 2 of the prefix", ("write_unindented", recording(b"a", (0, 0, 0, 1), b"\xFF"), recording(b"\n", (0,))), 6),
+    ("6 of the prefix before 32", ("write_unindented", recording(b"a"), recording(b"\n", (0, 0, 0, 1), b"\xFF")), 6),
+    ("2 of the prefix before 33", ("write_unindented", recording(b"a"), recording(b"b", (0,))), 2),
+    ("32 before 33", ("write_unindented", recording(b"a"), recording(b"b\n")), 32),
+    ("32 before 9", ("write_unindented", recording(b">", *TWICE), recording(b"\n")), 32),
+    ("33 before 9", ("write_unindented", recording(b"a", *TWICE), recording(b">")), 33),
+    ("9 before 21", ("write_unindented", recording(b">a", *TWICE), recording(b">")), 9),
+    ("the prefix's text is not counted", ("write_unindented", recording(b">a"), recording(b">", *TWICE)), 21),
 ]
 LABELLED = recording(b"ab cd", (0, 0, 0, 1, 2, 1, 0, 0), b"x")
 TABBED = recording(b"a\tb", (1, 0, 0, 1, 2, 1, 0, 0), b"x")
+# Entries at the line's first byte, inside the prefix, at its end, and behind it; a prefix with entries of its own.
+QUOTED = recording(b"> a\n> b", (0, 0, 0, 1, 1, 2, 1, 1, 2, 1, 0, 0, 4, 0, 0, 1, 5, 0, 2, 1, 6, 1, 0, 0, 7, 1, 0, 0), b"xRy")
+QUOTE = recording(b"> ", (0, 0, 0, 1, 1, 2, 1, 1, 2, 1, 0, 0), b"pS")
 
 
 def document_cases():
@@ -67,6 +92,11 @@ def document_cases():
     numbers, (data, entries, text, _) = call("write_tabs_expanded", TABBED, 4, room=(5, 8, 1))
     if entries != (1, 0, 0, 1, 4, 1, 0, 0) or coloured(recording(data, entries, text)) != [(0x61, ()), *[(0x20, (b"x",))] * 3, (0x62, ())]:
         wrong.append("Q-2, the tab's labels")
+    numbers, (data, entries, text, _) = call("write_unindented", QUOTED, QUOTE, room=(3, 28, 4))
+    if (numbers[0], data, text) != (0, b"a\nb", b"xRxy") or entries != (0, 0, 0, 1, 0, 2, 1, 1, 0, 1, 0, 0, 2, 0, 2, 1, 2, 0, 3, 1, 2, 1, 0, 0, 3, 1, 0, 0):
+        wrong.append("Q-3, the entries")
+    if there_and_back(recording(b">a\n>\n>b"), recording(b">"), "write_unindented", "write_indented")[1].data != b">a\n\n>b":
+        wrong.append("Q-3, a line that is exactly the prefix does not come back")
     return wrong
 
 
@@ -102,6 +132,10 @@ def lines_too_wide(count=20_000):
 def random_recording(pick, inside=True):
     """A balanced recording, with entries inside its data or not."""
     data = b"".join(pick.choice([b"a", b"b", b" ", b"\t", b"\n", b"\xCC\x81", b"\xE6\x9C\xA8", b"\xE6", b"\x9C"]) for _ in range(pick.randrange(8)))
+    return with_entries(pick, data, inside)
+
+
+def with_entries(pick, data, inside=True):
     numbers, text, open_labels = [], b"", 0
     for position in sorted(pick.choice([pick.randrange(len(data) + 1) if inside else 0, 0, len(data)]) for _ in range(pick.randrange(5))):
         kind = pick.randrange(3)
@@ -124,14 +158,72 @@ def random_call(pick):
         places = sorted(pick.randrange(7) for _ in range(4))
         return name, (places[0], places[1], 0, pick.randrange(3), places[2], places[3], 1, 2), b"X\n"
     second = random_recording(pick, inside="padded" not in name)
-    return (name, second) if name == "write_indented" else (name, second, pick.randrange(9))
+    return (name, second) if name in ("write_indented", "write_unindented") else (name, second, pick.randrange(9))
+
+
+def random_prefix(pick):
+    return b"".join(pick.choice([b">", b" ", b"a", b"ab", b"\xE6\x9C\xA8", b"\x9C"]) for _ in range(pick.randrange(4)))
+
+
+def indented(pick, prefix):
+    """A balanced recording with the prefix's bytes at each line that is not empty; some lines are nothing else."""
+    lines = [pick.choice([b"", prefix, prefix + prefix, prefix + b"b", prefix + b"\xA8", prefix + b"a b"]) for _ in range(pick.randrange(5))]
+    return with_entries(pick, b"\n".join(lines))
+
+
+def random_list(pick):
+    """A first content and calls. Often it comes with an indent; a call that takes one off has mostly the bytes of the last one, under entries of its own."""
+    prefix = random_prefix(pick)
+    first, calls = random_recording(pick) if pick.random() < 0.5 else indented(pick, prefix), []
+    for _ in range(pick.randrange(5)):
+        name, *inputs = random_call(pick)
+        if name == "write_unindented" and pick.random() < 0.8:
+            inputs = [with_entries(pick, prefix)]
+        if name == "write_indented":
+            prefix = inputs[0].data
+        calls.append((name, *inputs))
+    return first, calls
+
+
+def there_and_back(content, prefix, there, back):
+    """The refusals of two calls with one prefix, the second on what the first leaves, and what is left."""
+    refusals, result = [], content
+    for name in (there, back):
+        numbers, buffers = call(name, result, prefix, room=(200, 400, 100))
+        refusals.append(numbers[0])
+        if numbers[0] == 0:
+            result = lists.result_of(numbers, buffers)
+    return refusals, result
+
+
+def indents_not_taken_off(count=20_000):
+    """The random contents and prefixes, both balanced, that do not have their coloured bytes back after indenting and taking off. A prefix with a 0A is refused 32, and one without it is never refused 33."""
+    pick, wrong = random.Random(4), []
+    for _ in range(count):
+        content, prefix = random_recording(pick), random_recording(pick)
+        refusals, result = there_and_back(content, prefix, "write_indented", "write_unindented")
+        if refusals != [0, 32 if b"\n" in prefix.data else 0] or refusals == [0, 0] and coloured(result) != coloured(content):
+            wrong.append((content, prefix))
+    return wrong
+
+
+def indents_not_put_back(count=20_000):
+    """The random contents that do not have their data back after an indent is taken off and put back, though no line is exactly the prefix; or that have it back though one is, and is not empty."""
+    pick, wrong = random.Random(5), []
+    for _ in range(count):
+        prefix = random_prefix(pick)
+        content = indented(pick, prefix)
+        refusals, result = there_and_back(content, with_entries(pick, prefix), "write_unindented", "write_indented")
+        if refusals != [0, 0] or (result.data == content.data) != (prefix == b"" or prefix not in content.data.split(b"\n")):
+            wrong.append((content, prefix))
+    return wrong
 
 
 def lists_that_do_not_commute(count=4000):
     """The random lists of calls for which demand 3 does not hold."""
     pick, wrong = random.Random(2), []
     for k in range(count):
-        first, calls = random_recording(pick), [random_call(pick) for _ in range(pick.randrange(5))]
+        first, calls = random_list(pick)
         if not balanced(first) or not lists.commutes(first, calls, room=(pick.choice([8, 24, 64]), 96, 64, 24)):
             wrong.append(k)
     return wrong

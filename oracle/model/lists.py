@@ -97,6 +97,16 @@ def plain_tabs(state, stop):
     return result
 
 
+def plain_unindent(state, prefix):
+    """Of each line the first bytes gone, as many as the prefix has; its 0A is none of them (document 02, Q-3)."""
+    result, place = [], 0
+    for byte, labels in state:
+        if byte == 0x0A or place >= len(prefix):
+            result.append((byte, labels))
+        place = 0 if byte == 0x0A else place + 1
+    return result
+
+
 def plain_step(state, name, *inputs):
     """One call not refused, on a list of coloured bytes; a second recording comes as coloured bytes."""
     inputs = [coloured(x) if isinstance(x, Recording) else x for x in inputs]
@@ -104,7 +114,7 @@ def plain_step(state, name, *inputs):
         return plain_truncate(name, state, *inputs)
     if name.startswith("write_padded"):
         return plain_pad(name, state, *inputs)
-    rest = {"write_indented": plain_indent, "write_wrapped": plain_wrap, "write_replaced": plain_replace, "write_tabs_expanded": plain_tabs}
+    rest = {"write_indented": plain_indent, "write_wrapped": plain_wrap, "write_replaced": plain_replace, "write_tabs_expanded": plain_tabs, "write_unindented": plain_unindent}
     return rest[name](state, *inputs)
 
 

@@ -1,6 +1,7 @@
 """Random calls for `compare_calls`: recordings of short texts rich in what is hard, some of them faulty, a few as long as a limit or longer.
 
-`LAYOUT` has for each layout call what it takes after its content; a new call is a line there. `list_of_calls` makes a list for `run_calls`.
+`LAYOUT` has for each layout call what it takes after its content, `LAYOUT_WITH_CONTENT` what it takes together with it; a new call is a line of one of them. `list_of_calls` makes a list
+for `run_calls`.
 """
 from runs import NAMES, Pools
 from ruszvedok_model import recording
@@ -21,11 +22,14 @@ def text(pick, most=10):
 
 
 def content(pick, most=10):
-    """A recording: entries at any places, their texts in order with some unused before them, or a part that an earlier entry has."""
-    data = text(pick, most)
+    return with_entries(pick, text(pick, most))
+
+
+def with_entries(pick, data, places=None):
+    """A recording: entries at any of the places, their texts in order with some unused before them, or a part that an earlier entry has."""
     count = int(pick.random() * 6)
     numbers, texts, parts = [], b"", {0: [], 2: []}
-    for position in sorted(pick.choices(range(len(data) + 1), k=count)):
+    for position in sorted(pick.choices(places or range(len(data) + 1), k=count)):
         kind = pick.choice((0, 0, 1, 1, 2))
         if kind == 1:
             numbers += (position, 1, 0, 0)
@@ -109,6 +113,80 @@ def replacing(pick, r):
     return records(pick, len(r.data), new), new
 
 
+# ── contents with an indent, and prefixes
+
+# The library looks for 0A at sixteen bytes at a time, and may compare so: lengths around that, and twice it.
+LENGTHS = (14, 15, 16, 17, 18, 30, 31, 32, 33, 34, 50)
+
+
+def bytes_of_line(pick, most):
+    """Some without 0A."""
+    return b"".join(p for p in pick.choices(PIECES, k=int(pick.random() * (most + 1))) if b"\n" not in p)
+
+
+def prefix_bytes(pick):
+    """None, a few, some that repeat themselves, some longer than sixteen."""
+    way = pick.random()
+    if way < 0.08:
+        return b""
+    if way < 0.4:
+        return pick.choice((b">", b"> ", b"> ", b"aa", b"aaa", b"abab", b"\t", b"  ", "木".encode(), b"\xE6\x9C", b"\x9C"))
+    if way < 0.6:
+        return (pick.choice((b"a", b"a", b"ab", b"> ", b"aab")) * 50)[:pick.choice(LENGTHS)]
+    return bytes_of_line(pick, 4)
+
+
+def line_behind(pick, prefix):
+    """What stands behind the prefix in a line: nothing, it once more or its beginning, long runs, or any bytes."""
+    way = pick.random()
+    if way < 0.15:
+        return b""
+    if way < 0.3:
+        return prefix[:pick.choice((1, 2, len(prefix)))] + bytes_of_line(pick, 1)
+    return pick.choice((b"a", b"b", b"\x9C")) * pick.choice(LENGTHS) if way < 0.5 else bytes_of_line(pick, 4)
+
+
+def broken(pick, prefix):
+    """The beginning of a line that is not the prefix: a byte of it other, in its last place often, or its end left out."""
+    at = pick.choice((0, len(prefix) - 1, len(prefix) - 1, int(pick.random() * len(prefix))))
+    return prefix[:at] + pick.choice((b"", b"", b"?", bytes([prefix[at] ^ 1])))
+
+
+def indented(pick, prefix):
+    """A content whose lines, but for empty ones, have the prefix; of some a line has not. Entries stand mostly around and inside the prefixes, and at the ends of lines."""
+    lines = [b"" if pick.random() < 0.2 else prefix + line_behind(pick, prefix) for _ in range(pick.choice((0, 1, 1, 2, 2, 3, 3, 4, 5, 6, 7, 24)))]
+    if prefix and lines and pick.random() < 0.12:
+        lines[int(pick.random() * len(lines))] = broken(pick, prefix) + pick.choice((b"", b"", prefix, b"a" * 20))
+    if pick.random() < 0.4:
+        lines.append(b"")
+    data, places = b"\n".join(lines), [0]
+    for line in lines:
+        start = places[-1]
+        inside = int(pick.random() * (len(prefix) + 1))
+        places += (min(start + n, len(data)) for n in (0, 1, inside, len(prefix), len(prefix) + 1, len(line), len(line) + 1))
+    return with_entries(pick, data, places if pick.random() < 0.8 else None)
+
+
+def prefixed(pick, prefix):
+    """A prefix of these bytes under entries of its own; a few with a 0A more."""
+    if pick.random() < 0.05:
+        at = int(pick.random() * (len(prefix) + 1))
+        prefix = prefix[:at] + b"\n" + prefix[at:]
+    return with_entries(pick, prefix) if pick.random() < 0.5 else recording(prefix)
+
+
+def unindenting(pick):
+    """A content and a prefix that it mostly has; a few are any, or at a limit."""
+    way = pick.random()
+    if way < 0.002:
+        made = long_content(pick), long_content(pick)
+        return made[0], recording(made[0].data[:pick.choice((0, 1, len(made[0].data)))]) if way < 0.0015 else made[1]
+    if way < 0.08:
+        return content(pick), second(pick)
+    prefix = prefix_bytes(pick)
+    return indented(pick, prefix), prefixed(pick, prefix)
+
+
 # What a layout call takes after its content.
 LAYOUT = {
     "replay": lambda pick, r: (),
@@ -122,20 +200,40 @@ LAYOUT = {
     "write_replaced": replacing,
     "write_tabs_expanded": lambda pick, r: (stop(pick, r),),
 }
+# What a layout call takes with its content, where the two are made for each other.
+LAYOUT_WITH_CONTENT = {"write_unindented": unindenting}
 # Those of them that are lent a line list.
 LINED = ("write_wrapped",)
 
 
+def inputs(pick, name):
+    """A content, and what else the call takes."""
+    if name in LAYOUT_WITH_CONTENT:
+        return LAYOUT_WITH_CONTENT[name](pick)
+    r = any_content(pick)
+    return r, *LAYOUT[name](pick, r)
+
+
 def list_of_calls(pick):
-    """A first content, and the calls with their pools, as `run_calls` takes them. Now and then a number is missing or another one: no kind, or a range that is not in its pool."""
-    pools, calls = Pools(), ()
+    """A first content, and the calls with their pools, as `run_calls` takes them. Now and then a number is missing or another one: no kind, or a range that is not in its pool.
+
+    Half of the contents have an indent; a call that takes one off has mostly the prefix that was put on last, which such a call often follows.
+    """
+    pools, calls, prefix, kind = Pools(), (), prefix_bytes(pick), None
+    first = indented(pick, prefix) if pick.random() < 0.5 else content(pick)
     for _ in range(int(pick.random() * 6)):
-        kind = int(pick.random() * len(NAMES))
+        follows = kind is not None and NAMES[kind] == "write_indented" and pick.random() < 0.5
+        kind = NAMES.index("write_unindented") if follows else int(pick.random() * len(NAMES))
         new = second(pick)
+        if NAMES[kind] == "write_indented":
+            new = prefixed(pick, prefix_bytes(pick)) if pick.random() < 0.5 else new
+            prefix = new.data
+        elif NAMES[kind] == "write_unindented" and pick.random() < 0.9:
+            new = prefixed(pick, prefix)
         numbers = records(pick, 10, new.data) if NAMES[kind] == "write_replaced" else new.numbers
         number = stop(pick) if NAMES[kind] == "write_tabs_expanded" else width(pick)
         calls += (kind, number, *pools.add(new.data, numbers, new.text))
     if calls and pick.random() < 0.02:
         at = int(pick.random() * len(calls))
         calls = calls[:at] + pick.choice(((), (LARGEST,), (0,), (len(NAMES),), (len(pools.data) + 1,))) + calls[at + 1:]
-    return content(pick), calls, pools.data, pools.numbers
+    return first, calls, pools.data, pools.numbers

@@ -3,7 +3,7 @@ from printing import spaced
 from ruszvedok_model import call, recording
 
 NAMES = ["write_truncated_start", "write_truncated_end", "write_padded_start", "write_padded_end", "write_padded_centered", "write_indented", "write_wrapped", "write_wrapped",
-         "write_replaced", "write_tabs_expanded"]
+         "write_replaced", "write_tabs_expanded", "write_unindented"]
 
 
 def fault(calls, pool, pool_numbers, used, first, other, answers):
@@ -29,7 +29,7 @@ def run_calls(calls, pool, pool_numbers, used, first, other, lines, answers):
         kind, width, a, b, n, m, s, e = calls[i:i + 8]
         content = recording(*(buffer[:length] for buffer, length in zip(sets[here], used)))
         second = recording(pool[a:b], pool_numbers[n:m], pool[s:e])
-        inputs = {5: (second,), 6: (width, False), 7: (width, True), 8: (pool_numbers[n:m], pool[a:b]), 9: (width,)}.get(kind, (second, width))
+        inputs = {5: (second,), 6: (width, False), 7: (width, True), 8: (pool_numbers[n:m], pool[a:b]), 9: (width,), 10: (second,)}.get(kind, (second, width))
         wraps = kind in (6, 7)
         numbers, buffers = call(NAMES[kind], content, *inputs, room=sets[1 - here] + ((lines,) if wraps else ()))
         told += numbers[0], numbers[4]
@@ -68,10 +68,10 @@ FAULTY = POOLS.add(b".", (0, 1, 0))
 QUOTE = POOLS.add(b"> ", (0, 0, 0, 1, 2, 1, 0, 0), b"g")
 NONE = (0,) * 6
 LIST = [(0, 9, ARROW), (8, 0, OAK), (1, 8, CUT), (2, 10, WIDE), (3, 4294967295, DASH), (3, 14, DASH), (4, 60, ARROW), (4, 17, BAR), (6, 8, NONE), (7, 1, NONE), (7, 7, NONE),
-        (7, 7, NONE), (0, 3, FAULTY), (5, 0, BAR), (5, 0, QUOTE), (8, 0, TWO), (9, 65, NONE), (9, 4, NONE), (1, 12, CUT)]
+        (7, 7, NONE), (0, 3, FAULTY), (5, 0, BAR), (5, 0, QUOTE), (8, 0, TWO), (9, 65, NONE), (9, 4, NONE), (10, 4294967295, QUOTE), (1, 12, CUT)]
 CALLS = sum(((kind, width, *ranges) for kind, width, ranges in LIST), ())
 # A call that can be run, one of no kind, ranges that run backwards, and ranges that pass their pools.
-NUMBERS = ((0, 9) + ARROW + (10, 9) + ARROW + (0, 9, 2, 0, 0, 8, 2, 3) + (0, 9, 0, 2, 8, 0, 2, 3) + (0, 9, 0, 2, 0, 8, 3, 2)
+NUMBERS = ((0, 9) + ARROW + (11, 9) + ARROW + (0, 9, 2, 0, 0, 8, 2, 3) + (0, 9, 0, 2, 8, 0, 2, 3) + (0, 9, 0, 2, 0, 8, 3, 2)
            + (0, 9, 0, len(POOLS.data) + 1, 0, 8, 2, 3) + (0, 9, 0, 2, 0, len(POOLS.numbers) + 1, 2, 3) + (0, 9, 0, 2, 0, 8, 0, len(POOLS.data) + 1))
 # From and to in these numbers, how much of the data is used, the other set's text, the list of answers.
 REFUSED = [(0, 8, 65, 24, 2), (0, 8, 11, 23, 2), (0, 7, 11, 24, 2), *((i, i + 8, 11, 24, 2) for i in range(8, 64, 8)),
@@ -93,7 +93,7 @@ def with_content(buffers):
 
 
 def runs_test():
-    first, other, lines, answers = with_content((b"_" * 64, (9,) * 96, b"_" * 24)), (b"_" * 64, (9,) * 96, b"_" * 24), (9,) * 16, (9,) * 40
+    first, other, lines, answers = with_content((b"_" * 64, (9,) * 96, b"_" * 24)), (b"_" * 64, (9,) * 96, b"_" * 24), (9,) * 16, (9,) * 42
     out = b""
     for a, b, used, text, room in REFUSED:
         numbers = run_calls(NUMBERS[a:b], POOLS.data, POOLS.numbers, (used, 12, 4), first, other[:2] + (other[2][:text],), lines, answers[:room])[0]

@@ -557,6 +557,20 @@ def write_tabs_expanded(content, stop, out):
     return 0
 
 
+# ── Document 02, Q-3: taking the indent off
+
+def write_unindented(content, prefix, out):
+    """The reverse of indenting: of every line that is not empty the prefix's bytes are taken out, and entries stay at the place that is left. The prefix's entries play no part."""
+    copy, start = Copy(content, out), 0
+    for line in lines_with_newlines(content.data):
+        if line != b"\n":
+            copy.drop(start + len(prefix.data))
+        start += len(line)
+        copy.keep(start)
+    copy.finish()
+    return 0
+
+
 # ── Refusals
 
 class Refused(Exception):
@@ -660,6 +674,16 @@ def tabs_call(content, stop, buffers):
     return settle(out, write_tabs_expanded(content, stop, out), [], buffers)
 
 
+def unindent_call(content, prefix, buffers):
+    """32, the prefix has a 0A, and 33, a line that is not empty does not begin with it, come in this order after the checks of both recordings and before 9."""
+    check_recording(content)
+    check_recording(prefix)
+    refuse_if(b"\n" in prefix.data, 32)
+    refuse_if(any(line and not line.startswith(prefix.data) for line in content.data.split(b"\n")), 33)
+    out = Result()
+    return settle(out, write_unindented(content, prefix, out), [], buffers)
+
+
 def plain_call(work):
     def run(*inputs, buffers):
         check_plain(*[t for t in inputs if isinstance(t, bytes)])
@@ -703,6 +727,7 @@ CALLS = {
     "write_wrapped": wrap_call,
     "write_replaced": replace_call,
     "write_tabs_expanded": tabs_call,
+    "write_unindented": unindent_call,
     "elide_start": plain_call(elide_start),
     "elide_end": plain_call(elide_end),
     "complete_newline": plain_call(lambda text: (complete_newline(text), 0)),

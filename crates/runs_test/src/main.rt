@@ -585,6 +585,15 @@ fn lists(
         0,
         0,
         0,
+        // Take the indent off: the width, here the largest, is not looked at, nor are the entries of > .
+        10,
+        4294967295,
+        29,
+        31,
+        55,
+        63,
+        31,
+        32,
         // Truncate at the end to 12: the result is shorter than the one before.
         1,
         12,
@@ -651,7 +660,7 @@ fn refusals(
         2,
         3,
         // An unknown kind.
-        10,
+        11,
         9,
         0,
         2,
@@ -858,7 +867,7 @@ fn main() {
     let mut other_numbers = [9; 96];
     let mut other_texts = [95; 24];
     let mut lines = [9; 16];
-    let mut answers = [9; 40];
+    let mut answers = [9; 42];
     both(
         &mut bytes,
         &mut numbers,

@@ -26,6 +26,7 @@ use capi::ruszvedok_write_replaced;
 use capi::ruszvedok_write_tabs_expanded;
 use capi::ruszvedok_write_truncated_end;
 use capi::ruszvedok_write_truncated_start;
+use capi::ruszvedok_write_unindented;
 use capi::ruszvedok_write_wrapped;
 use capi::ruszvedok_zero_width_len;
 use chars::LEADS;
@@ -40,9 +41,9 @@ ghost use lib.ListN.{length};
 ghost use Rattle.chars.specs.Leads.{leadTable};
 
 // How many calls there are in the table of names in `main`, and how many rows are printed: one more, of the lines that are wrong on purpose.
-const CALLS: usize = 26;
+const CALLS: usize = 27;
 
-const ROWS: usize = 27;
+const ROWS: usize = 28;
 
 // What stands for a word that is no number.
 const NONE: u64 = 18446744073709551615;
@@ -867,7 +868,19 @@ fn cutting_call(
             texts,
             res,
         ),
-        _ => ruszvedok_write_indented(
+        11 => ruszvedok_write_indented(
+            content,
+            entries,
+            text,
+            second,
+            second_entries,
+            second_text,
+            bytes,
+            numbers,
+            texts,
+            res,
+        ),
+        _ => ruszvedok_write_unindented(
             content,
             entries,
             text,
@@ -966,7 +979,7 @@ fn layout_call(
             texts,
             res,
         ),
-        6 | 7 | 11 => cutting_call(
+        6 | 7 | 11 | 26 => cutting_call(
             call,
             content,
             entries,
@@ -1496,7 +1509,7 @@ fn main() {
     run(
         b"text_width well_formed truncate_end_pos truncate_start_pos zero_width_len replay write_truncated_start write_truncated_end write_padded_start write_padded_end \
         write_padded_centered write_indented wrap_bytes write_wrapped write_replaced elide_start elide_end complete_newline write push_label pop_label raw \
-        char_width read_char trim_start_zero_width_chars write_tabs_expanded wrong",
+        char_width read_char trim_start_zero_width_chars write_tabs_expanded write_unindented wrong",
         &list[..n],
     );
 }
