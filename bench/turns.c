@@ -9,7 +9,7 @@
 
 #include "ruszvedok.h"
 
-enum { SHORT = 80, LONG = 1 << 16, ROWS = 64, MOST_ENTRIES = LONG / 512, MOST_LINES = LONG + 1, ROOM = 2 * LONG };
+enum { SHORT = 80, LONG = 1 << 16, LINE = 100, ROWS = 64, MOST_ENTRIES = LONG / 512, MOST_LINES = LONG + 1, ROOM = 2 * LONG };
 
 /* A text with entries: six in a short row, one for each 512 bytes of a long text. */
 typedef struct row {
@@ -51,6 +51,7 @@ ON_ROW(write_padded_start, CONTENT, SECOND("."), (uint32_t)(2 * r->half + 20), L
 ON_ROW(write_padded_end, CONTENT, SECOND("."), (uint32_t)(2 * r->half + 20), LENT, res)
 ON_ROW(write_padded_centered, CONTENT, SECOND("."), (uint32_t)(2 * r->half + 20), LENT, res)
 ON_ROW(write_indented, CONTENT, SECOND("> "), LENT, res)
+ON_ROW(write_unindented, CONTENT, SECOND("> "), LENT, res)
 ON_ROW(wrap_bytes, r->view.data, r->view.data_len, t.width, t.break_words, LINES, res)
 ON_ROW(write_wrapped, CONTENT, t.width, t.break_words, LENT, LINES, res)
 ON_ROW(write_replaced, CONTENT, r->records, r->records_len, (const uint8_t *)"new", 3, LENT, res)
@@ -68,8 +69,8 @@ typedef struct call {
 static const call calls[] = {
     OF(replay, false, false), OF(write_truncated_start, false, false), OF(write_truncated_end, false, false),
     OF(write_padded_start, false, false), OF(write_padded_end, false, false), OF(write_padded_centered, false, false),
-    OF(write_indented, false, false), OF(wrap_bytes, true, false), OF(write_wrapped, true, false), OF(write_replaced, false, false),
-    OF(write_tabs_expanded, false, false), OF(elide_start, false, true), OF(elide_end, false, true),
+    OF(write_indented, false, false), OF(write_unindented, false, false), OF(wrap_bytes, true, false), OF(write_wrapped, true, false),
+    OF(write_replaced, false, false), OF(write_tabs_expanded, false, false), OF(elide_start, false, true), OF(elide_end, false, true),
     OF(complete_newline, false, true)};
 
 static const call *named(const char *name)
@@ -142,10 +143,21 @@ static void put_tabs(int kind, uint8_t *to, size_t size)
             to[at] = '\t';
 }
 
+/* A prefix at each line that fill_row makes, and no line but these. */
+static void put_prefixes(uint8_t *to, size_t size)
+{
+    for (size_t at = 0; at < size; at++)
+        if (to[at] == '\n')
+            to[at] = ' ';
+    memcpy(to, "> ", 2);
+    for (size_t i = 1; i < size / LINE; i++)
+        memcpy(to + LINE * i + 1, "> ", 2);
+}
+
 static void fill_row(row *r, uint8_t *data, size_t size, bool broken, size_t count)
 {
-    for (size_t i = 1; broken && i < size / 100; i++)
-        data[100 * i] = '\n'; /* lines of about 100 bytes */
+    for (size_t i = 1; broken && i < size / LINE; i++)
+        data[LINE * i] = '\n';
     size_t used = 0;
     for (size_t i = 0; i < count; i++) {
         uint32_t len = i % 2 == 0 ? (uint32_t)(4 + i % 8) : 0, *entry = r->entries + RUSZVEDOK_ENTRY_SIZE * i;
@@ -270,6 +282,8 @@ int main(int argc, char **argv)
                 text(kind, data + i * size, size);
                 if (c->run == write_tabs_expanded)
                     put_tabs(kind, data + i * size, size);
+                if (c->run == write_unindented)
+                    put_prefixes(data + i * size, size);
                 fill_row(rows + i, data + i * size, size, !c->plain && size == LONG, size == SHORT ? 6 : MOST_ENTRIES);
             }
             sprintf(of, "%s, %s", kinds[kind], size == SHORT ? "80 B" : "64 KiB");

@@ -4,14 +4,14 @@ use std::hint::black_box;
 use std::io::{Result as Io, Write as _};
 use std::rc::Rc;
 
-use bench::inputs::{Input, ROWS, SHORT_ROWS, SIZES, Size, TABBED};
+use bench::inputs::{Input, Numbers, ROWS, SHORT_ROWS, SIZES, Size, TABBED};
 use bench::ours;
 use bench::recordings::{Answer, Left, view};
 use bench::room::Room;
 use bench::timing::Pair;
 use oracle::original::{FormatRecorder, Formatter};
 use oracle::{Entry, Kind, Lists, Recording, original};
-use ruszvedok::lent::{self, LINE_NUMBERS, Place, Replacement, Used};
+use ruszvedok::lent::{self, LINE_NUMBERS, Place, Replacement, Used, View};
 
 pub struct Case {
     pub name: &'static str,
@@ -33,6 +33,15 @@ pub const CASES: &[Case] = &[
     Case { name: "write_padded_end", sizes: &ROWS, sides: write_padded_end },
     Case { name: "write_padded_centered", sizes: &ROWS, sides: write_padded_centered },
     Case { name: "write_indented", sizes: &ROWS, sides: write_indented },
+    Case { name: "write_unindented", sizes: &ROWS, sides: |input| write_unindented(input, b"> ", LINE, FEW) },
+    Case { name: "write_unindented_prefix_4", sizes: &ROWS, sides: |input| write_unindented(input, b"    ", LINE, FEW) },
+    Case { name: "write_unindented_prefix_40", sizes: &ROWS, sides: |input| write_unindented(input, &[b' '; 40], LINE, FEW) },
+    Case { name: "write_unindented_short_lines", sizes: &ROWS, sides: |input| write_unindented(input, b"> ", 10, FEW) },
+    Case { name: "write_unindented_long_lines", sizes: &ROWS, sides: |input| write_unindented(input, b"> ", 4000, FEW) },
+    Case { name: "write_unindented_many_entries", sizes: &SHORT_ROWS, sides: |input| write_unindented(input, b"> ", LINE, 16) },
+    Case { name: "write_unindented_by_memchr", sizes: &ROWS, sides: |input| unindented_by_memchr(input, b"> ", LINE) },
+    Case { name: "write_unindented_by_memchr_prefix_40", sizes: &ROWS, sides: |input| unindented_by_memchr(input, &[b' '; 40], LINE) },
+    Case { name: "write_unindented_by_memchr_short_lines", sizes: &ROWS, sides: |input| unindented_by_memchr(input, b"> ", 10) },
     Case { name: "wrap_bytes", sizes: &ROWS, sides: wrap_bytes },
     Case { name: "write_wrapped", sizes: &ROWS, sides: write_wrapped },
     Case { name: "write_replaced", sizes: &ROWS, sides: write_replaced },
@@ -101,11 +110,19 @@ struct Row {
     width: usize,
 }
 
+/// A line of long texts, and for how many bytes they have an entry.
+const LINE: usize = 100;
+const FEW: usize = 512;
+
 fn row(text: &[u8]) -> Row {
-    let count = if text.len() <= 1024 { 6 } else { text.len() / 512 / 2 * 2 };
+    let count = if text.len() <= 1024 { 6 } else { text.len() / FEW / 2 * 2 };
     let mut data = text.to_vec();
     // Lines of about 100 bytes.
-    (1..data.len() / 100).for_each(|i| data[i * 100] = b'\n');
+    (1..data.len() / LINE).for_each(|i| data[i * LINE] = b'\n');
+    labelled(data, count)
+}
+
+fn labelled(data: Vec<u8>, count: usize) -> Row {
     let entries = (0..count)
         .map(|i| {
             let at = data.len() * i / count;
@@ -134,9 +151,17 @@ fn second(data: &[u8]) -> (Lists, FormatRecorder) {
     (made.to_lists(), made.to_recorder())
 }
 
-/// Rust writes to a new recorder, the library to buffers that are lent again and again.
 fn recorded(
     input: &Input,
+    rust: impl Fn(&Row, &mut FormatRecorder) -> Io<u64> + Copy + 'static,
+    rattle: impl Fn(&Row, &mut Room) -> Left + Copy + 'static,
+) -> Result<Pair, String> {
+    recorded_rows(rows(input), rust, rattle)
+}
+
+/// Rust writes to a new recorder, the library to buffers that are lent again and again.
+fn recorded_rows(
+    rows: Vec<Row>,
     rust: impl Fn(&Row, &mut FormatRecorder) -> Io<u64> + Copy + 'static,
     rattle: impl Fn(&Row, &mut Room) -> Left + Copy + 'static,
 ) -> Result<Pair, String> {
@@ -158,7 +183,7 @@ fn recorded(
         if (left, got.number) == (expected, number) { Ok(()) } else { Err("other results".into()) }
     };
     let room = RefCell::new(Room::full());
-    Pair::new(rows(input), check, made, move |row| rattle(row, &mut room.borrow_mut()))
+    Pair::new(rows, check, made, move |row| rattle(row, &mut room.borrow_mut()))
 }
 
 fn replay(input: &Input) -> Result<Pair, String> {
@@ -258,6 +283,47 @@ fn write_indented(input: &Input) -> Result<Pair, String> {
         |row, out| PREFIX.with(|p| original::write_indented(out, &row.recorder, |out| p.1.replay(out))).map(|_| 0),
         |row, room| PREFIX.with(|p| lent::write_indented(view(&row.lists), view(&p.0), room.lent())),
     )
+}
+
+/// The text in lines of half to one and a half times that many bytes, or in one if it is shorter. They begin with the prefix; a rest that has
+/// no room for it becomes empty lines.
+fn indented(text: &[u8], prefix: &[u8], line: usize, numbers: &mut Numbers) -> Vec<u8> {
+    let mut data = text.to_vec();
+    data.iter_mut().filter(|b| **b == b'\n').for_each(|b| *b = b' ');
+    let mut rest = &mut data[..];
+    while !rest.is_empty() {
+        let len = if text.len() < line { line } else { numbers.within(line as u64 / 2, line as u64 * 3 / 2) as usize };
+        let (line, after) = rest.split_at_mut(len.max(prefix.len() + 1).min(rest.len()));
+        if line.len() > prefix.len() {
+            line[..prefix.len()].copy_from_slice(prefix);
+            line[line.len() - 1] = b'\n';
+        } else {
+            line.fill(b'\n');
+        }
+        rest = after;
+    }
+    data
+}
+
+type Unindent = fn(&mut dyn Formatter, &FormatRecorder, &[u8]) -> Io<u64>;
+
+/// With an entry for that many bytes, six in a short row. Against a function of ours: the original has none.
+fn unindented_beside(rust: Unindent, input: &Input, prefix: &'static [u8], line: usize, apart: usize) -> Result<Pair, String> {
+    let mut numbers = Numbers::new(input.size as u64);
+    let mut row = |text: &Vec<u8>| labelled(indented(text, prefix, line, &mut numbers), (text.len() / apart / 2 * 2).max(6));
+    recorded_rows(
+        input.texts.iter().map(&mut row).collect(),
+        move |row, out| rust(out, &row.recorder, prefix),
+        |row, room| lent::write_unindented(view(&row.lists), View { data: prefix, ..View::default() }, room.lent()),
+    )
+}
+
+fn write_unindented(input: &Input, prefix: &'static [u8], line: usize, apart: usize) -> Result<Pair, String> {
+    unindented_beside(ours::write_unindented, input, prefix, line, apart)
+}
+
+fn unindented_by_memchr(input: &Input, prefix: &'static [u8], line: usize) -> Result<Pair, String> {
+    unindented_beside(ours::write_unindented_by_memchr, input, prefix, line, FEW)
 }
 
 /// Short rows at 30 columns, long texts at 72.

@@ -97,6 +97,14 @@ static void layout(void)
     left("padded at its end", "fir...", 0);
     ruszvedok_write_indented(PLAIN("a\n\nb"), PLAIN("> "), BUFFERS, res);
     left("C13", "> a\n\n> b", 0);
+    ruszvedok_write_unindented(PLAIN("> a\n\n> b\n> "), PLAIN("> "), BUFFERS, res);
+    left("indent off", "a\n\nb\n", 0);
+    ruszvedok_write_unindented(PLAIN("> a"), PLAIN("> "), data, 0, entries, COUNT(entries), text, COUNT(text), res);
+    refused("indent off, data buffer", RUSZVEDOK_DATA_BUFFER_TOO_SHORT);
+    ruszvedok_write_unindented(PLAIN("> a"), PLAIN("> a\n"), BUFFERS, res);
+    refused("a prefix of two lines", RUSZVEDOK_PREFIX_NEWLINE);
+    ruszvedok_write_unindented(PLAIN("> a\n>"), PLAIN("> "), BUFFERS, res);
+    refused("a line without the prefix", RUSZVEDOK_PREFIX_MISSING);
     ruszvedok_write_replaced(PLAIN("abcdef"), replacements, COUNT(replacements), BYTES("XY"), BUFFERS, res);
     left("C14", "aXdefY", 0);
     /* columns 1, 0 and 6: the last one behind a character of width 2 */
@@ -167,6 +175,7 @@ static void structs(void)
     holds("padded at its end, structs", ruszvedok_write_padded_end_to(&out, row, dot, 8), &out, "spruce..", 0);
     holds("padded around, structs", ruszvedok_write_padded_centered_to(&out, row, dot, 9), &out, ".spruce..", 0);
     holds("C13, structs", ruszvedok_write_indented_to(&out, ruszvedok_plain("a\n\nb"), ruszvedok_plain("> ")), &out, "> a\n\n> b", 0);
+    holds("indent off, structs", ruszvedok_write_unindented_to(&out, ruszvedok_plain("> a\n\n> b"), ruszvedok_plain("> ")), &out, "a\n\nb", 0);
     holds("C14, structs", ruszvedok_write_replaced_to(&out, ruszvedok_plain("abcdef"), replacements, COUNT(replacements), BYTES("XY")),
         &out, "aXdefY", 0);
     holds("tabs, structs", ruszvedok_write_tabs_expanded_to(&out, ruszvedok_plain("ab\tc\t"), 4), &out, "ab  c   ", 0);
@@ -190,11 +199,11 @@ static void answered(const char *what, const ruszvedok_call_answer *answers, siz
 static void lists(void)
 {
     const uint32_t numbers[] = {0, 1, 0, 1}, beyond[] = {90, 91, 0, 0};
-    const uint64_t wanted[] = {31, 0, 0, 0, 0, 8, 0, 5, 0, 0, 0, 0, 0, 0, 8, 0, 0, 0, 0, 0, 0, 2, 0, 3};
-    ruszvedok_view dots = ruszvedok_plain(".."), dot = ruszvedok_plain("."), none = ruszvedok_plain("");
+    const uint64_t wanted[] = {31, 0, 0, 0, 0, 8, 0, 5, 0, 0, 0, 0, 0, 0, 8, 0, 0, 0, 0, 0, 33, 0, 0, 0, 0, 2, 0, 3};
+    ruszvedok_view dots = ruszvedok_plain(".."), dot = ruszvedok_plain("."), none = ruszvedok_plain(""), mark = ruszvedok_plain("> ");
     ruszvedok_view records = {BYTES("X"), numbers, COUNT(numbers), (const uint8_t *)"", 0};
     ruszvedok_view bad = {BYTES(""), beyond, COUNT(beyond), (const uint8_t *)"", 0};
-    ruszvedok_call_answer answers[12];
+    ruszvedok_call_answer answers[14];
     RUSZVEDOK_RECORDING(row, 32, 4, 8);
     RUSZVEDOK_RECORDING(other, 32, 4, 8);
     RUSZVEDOK_CALLS(list, COUNT(answers), 16, 8);
@@ -208,9 +217,11 @@ static void lists(void)
     expect("list", ruszvedok_add_call(&list, RUSZVEDOK_CALL_PAD_CENTERED, 10, dot)); /* "....p....." */
     expect("list", ruszvedok_add_call(&list, RUSZVEDOK_CALL_REPLACE, 0, bad)); /* refused */
     expect("list", ruszvedok_add_call(&list, RUSZVEDOK_CALL_REPLACE, 0, records)); /* "X...p....." */
-    expect("list", ruszvedok_add_call(&list, RUSZVEDOK_CALL_INDENT, 0, ruszvedok_plain("> "))); /* "> X...p....." */
+    expect("list", ruszvedok_add_call(&list, RUSZVEDOK_CALL_INDENT, 0, ruszvedok_plain(">> "))); /* ">> X...p....." */
+    expect("list", ruszvedok_add_call(&list, RUSZVEDOK_CALL_UNINDENT, 0, mark)); /* refused */
+    expect("list", ruszvedok_add_call(&list, RUSZVEDOK_CALL_UNINDENT, 0, ruszvedok_plain(">"))); /* "> X...p....." */
     expect("list", ruszvedok_add_call(&list, RUSZVEDOK_CALL_WRAP, 5, none)); /* ">", "X...p....." */
-    expect("list", !ruszvedok_add_call(&list, RUSZVEDOK_CALL_PAD_END, 5, ruszvedok_plain("too long for the pool")) && list.calls_len == 11);
+    expect("list", !ruszvedok_add_call(&list, RUSZVEDOK_CALL_PAD_END, 5, ruszvedok_plain("too long for the pool")) && list.calls_len == 13);
     expect("list", ruszvedok_add_call(&list, RUSZVEDOK_CALL_WRAP_BREAKING, 5, none)); /* ">", "X...p", "....." */
     expect("list", !ruszvedok_add_call(&list, RUSZVEDOK_CALL_WRAP, 5, none) && list.calls_len == COUNT(answers));
 
@@ -224,7 +235,7 @@ static void lists(void)
     expect("sets", ruszvedok_run_calls_to(&row, &other, &list, lines, COUNT(lines), answers, COUNT(answers)).refusal == RUSZVEDOK_SETS_DIFFER);
     other.data_room++;
     holds("list, run", ruszvedok_run_calls_to(&row, &other, &list, lines, COUNT(lines), answers, COUNT(answers)), &row,
-        ">\nX...p\n.....", COUNT(answers) - 2);
+        ">\nX...p\n.....", COUNT(answers) - 3);
     answered("list, answers", answers, COUNT(answers), wanted);
 }
 
@@ -246,7 +257,7 @@ static void list_numbers(void)
     for (k = 0; k < RUSZVEDOK_CALL_SIZE; k++)
         if (k != 1) { /* any width will do */
             uint32_t kept = call[k];
-            call[k] = 10;
+            call[k] = 11;
             RUN(8, 0);
             refused("a kind or a range", RUSZVEDOK_CALL_NUMBERS);
             call[k] = kept;

@@ -1,6 +1,6 @@
 /* A board row, recorded with its grades as labels, then truncated, padded and wrapped, by calls of their own and as a list of
  * calls; each result is printed with its labels, and the wrapped lines once more, right-aligned. Two rows of a ticket, whose tabs
- * go to stops.
+ * go to stops; they are indented, and the indent is taken off.
  * Plain C11, and C++ as well. */
 #include "ruszvedok.h"
 
@@ -97,6 +97,12 @@ int main(void)
     number(ruszvedok_labeled_to(&ticket, "grade", "\tNo. 1"));
     number(ruszvedok_write_tabs_expanded_to(&out, ruszvedok_view_of(&ticket), 8));
     print("stops every", 8, ruszvedok_view_of(&out));
+
+    /* A report has a mark before each row, and what is pasted back from it loses the mark. */
+    number(ruszvedok_write_indented_to(&other, ruszvedok_view_of(&out), ruszvedok_plain("> ")));
+    print("indented by", 2, ruszvedok_view_of(&other));
+    number(ruszvedok_write_unindented_to(&out, ruszvedok_view_of(&other), ruszvedok_plain("> ")));
+    print("taken off again,", 2, ruszvedok_view_of(&out));
 
     /* Eight bytes are too few for the result: the call is refused and leaves them alone. */
     memset(few_data, 0xEE, sizeof few_data);

@@ -171,10 +171,10 @@ static inline bool ruszvedok_next(ruszvedok_view view, ruszvedok_cursor *at, rus
 }
 
 /* A layout call of a list, as its eight numbers: one of enum ruszvedok_call_kind, a width (max_width, min_width, or that of the
- * lines; of EXPAND_TABS its stop; not used by INDENT and REPLACE), and start and end of three ranges. `data` and `text` are ranges
- * of the list's pool of bytes, `entries` is one of its pool of numbers: together the ellipsis, fill or prefix. Of REPLACE, `data`
- * is the new text and `entries` the records, four numbers each. WRAP, WRAP_BREAKING and EXPAND_TABS use none; ranges that are not
- * used have to be within their pools too. */
+ * lines; of EXPAND_TABS its stop; not used by INDENT, UNINDENT and REPLACE), and start and end of three ranges. `data` and `text`
+ * are ranges of the list's pool of bytes, `entries` is one of its pool of numbers: together the ellipsis, fill or prefix. Of
+ * REPLACE, `data` is the new text and `entries` the records, four numbers each. WRAP, WRAP_BREAKING and EXPAND_TABS use none; ranges
+ * that are not used have to be within their pools too. */
 typedef struct ruszvedok_call {
     uint32_t kind, width;
     uint32_t data_start, data_end;
@@ -250,8 +250,8 @@ enum ruszvedok_call_kind {
 };
 
 /* Refusals. The first cause in this order is given: 10; the content, then the second recording, each 1, 2, 5 for its lengths and
- * then entry by entry 3, 4, 5, 6; a pushed label (6), an appended raw sequence (3); 7; 8; 31; 32; 33; 9; 21 to 24. Of a list of calls:
- * 10; 61; 62; 63. */
+ * then entry by entry 3, 4, 5, 6; a pushed label (6), an appended raw sequence (3); 7; 8; 31; 32; 33; 9; 21 to 24. Of a list
+ * of calls: 10; 61; 62; 63. */
 enum ruszvedok_refusal {
     RUSZVEDOK_DATA_TOO_LONG = 1,           /* Data over its limit. */
     RUSZVEDOK_ENTRY_NUMBERS = 2,           /* Entry numbers that are not four an entry, or over their limit. */

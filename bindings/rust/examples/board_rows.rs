@@ -1,9 +1,9 @@
 //! A board row, recorded with its grades as labels, then truncated, padded and wrapped, by calls of their own and as a list of calls; each
-//! result is printed with its labels, and the wrapped lines once more, right-aligned. Two rows of a ticket, whose tabs go to stops. The same
-//! as `bindings/c/example.c`, which prints the same.
+//! result is printed with its labels, and the wrapped lines once more, right-aligned. Two rows of a ticket, whose tabs go to stops; they are
+//! indented, and the indent is taken off. The same as `bindings/c/example.c`, which prints the same.
 use ruszvedok::lent::{self, Buffers};
-use ruszvedok::{run_layouts, text_width, write_padded_centered, write_tabs_expanded, write_truncated_end, write_truncated_start, write_wrapped};
-use ruszvedok::{FormatOp, FormatRecorder, Layout, Refusal};
+use ruszvedok::{run_layouts, text_width, write_indented, write_padded_centered, write_tabs_expanded, write_truncated_end};
+use ruszvedok::{write_truncated_start, write_unindented, write_wrapped, FormatOp, FormatRecorder, Layout, Refusal};
 
 /// Prints the data with {label:..} around what is labelled.
 fn print(title: &str, width: usize, row: &FormatRecorder) -> Result<(), Refusal> {
@@ -62,6 +62,13 @@ fn main() -> Result<(), Refusal> {
     ticket.write_labeled("grade", "\tNo. 1")?;
     write_tabs_expanded(&mut out, &ticket, 8)?;
     print("stops every", 8, &out)?;
+
+    // A report has a mark before each row, and what is pasted back from it loses the mark.
+    let (mut report, mark) = (FormatRecorder::new(), FormatRecorder::with_data("> ")?);
+    write_indented(&mut report, &out, &mark)?;
+    print("indented by", 2, &report)?;
+    write_unindented(&mut out, &report, &mark)?;
+    print("taken off again,", 2, &out)?;
 
     // A recorder lengthens its buffers. Lent ones have the length they have: eight bytes are too few, and are left alone.
     let (mut few, mut entries, mut text) = ([0xEE; 8], [0; 64], [0; 128]);

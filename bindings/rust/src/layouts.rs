@@ -67,6 +67,11 @@ pub enum Layout<'a> {
         /// How many columns the stops are apart, 1 to 64.
         stop: usize,
     },
+    /// [`write_unindented`](crate::write_unindented).
+    Unindent {
+        /// What every line that is not empty begins with, and what is taken out there.
+        prefix: &'a FormatRecorder,
+    },
 }
 
 /// Calls as the library takes them, with their pools.
@@ -108,6 +113,7 @@ impl List {
             Layout::Wrap { width, break_words: true } => (Kind::WrapBreaking, width, View::default()),
             Layout::Replace { text, .. } => (Kind::Replace, 0, View { data: text, ..View::default() }),
             Layout::ExpandTabs { stop } => (Kind::ExpandTabs, stop, View::default()),
+            Layout::Unindent { prefix } => (Kind::Unindent, 0, prefix.view()),
         };
         let data = put(&mut self.bytes, second.data.iter().copied())?;
         let entries = match *layout {

@@ -150,6 +150,7 @@ pub struct Replacement {
 /// | `Wrap`, `WrapBreaking` | [`write_wrapped`], without and with `break_words` | `width` | not used |
 /// | `Replace` | [`write_replaced`] | not used | `data` is the new text, `entries` the records, four numbers each; `text` is not used |
 /// | `ExpandTabs` | [`write_tabs_expanded`] | `stop` | not used |
+/// | `Unindent` | [`write_unindented`] | not used | the prefix |
 ///
 /// Ranges that are not used still have to be within their pools.
 #[derive(Clone, Copy, Debug, PartialEq, Eq, Hash)]
@@ -319,6 +320,17 @@ pub fn write_padded_centered(content: View, fill: View, min_width: u32, out: Buf
 #[inline]
 pub fn write_indented(content: View, prefix: View, out: Buffers) -> Result<Done, Refusal> {
     layout!(ruszvedok_write_indented, [content, prefix], [], out)
+}
+
+/// Every line that is not empty without the prefix's bytes, with which it has to begin. The entries among them stay, before what is left of
+/// the line; those of the prefix play no part.
+///
+/// # Errors
+///
+/// Refusals 1 to 6 for either recording, 32, 33, 9, 21 to 23.
+#[inline]
+pub fn write_unindented(content: View, prefix: View, out: Buffers) -> Result<Done, Refusal> {
+    layout!(ruszvedok_write_unindented, [content, prefix], [], out)
 }
 
 /// The lines of a text, first byte, end and width of each; the number is how many. [`Lines`] reads the list.

@@ -1,12 +1,13 @@
-//! The layout calls and the calls on plain texts, with the original's names and order of parameters. `write_tabs_expanded` is the
-//! library's own.
+//! The layout calls and the calls on plain texts, with the original's names and order of parameters. `write_unindented` and
+//! `write_tabs_expanded` are the library's own.
 //!
 //! What a layout call leaves TAKES THE PLACE of what `out` held; the original appends. After a refusal `out` holds what it held.
 //!
 //! # Errors
 //!
 //! Of all refusals these can come: [`Refusal::ResultOverLimit`], [`Refusal::ReplacementRange`] (`write_replaced`),
-//! [`Refusal::TabStop`] (`write_tabs_expanded`) and, for texts that are no recordings, [`Refusal::DataTooLong`].
+//! [`Refusal::PrefixNewline`] and [`Refusal::PrefixMissing`] (`write_unindented`), [`Refusal::TabStop`] (`write_tabs_expanded`) and,
+//! for texts that are no recordings, [`Refusal::DataTooLong`].
 use std::borrow::Cow;
 
 use crate::lent::{self, Done, Lines, Replacement};
@@ -169,6 +170,33 @@ pub fn write_indented(
     recorded_prefix: &FormatRecorder,
 ) -> Result<(), Refusal> {
     with_second!(out, write_indented, recorded_content, recorded_prefix).map(drop)
+}
+
+/// Writes the content with the prefix's bytes taken out of every line that is not empty; each such line has to begin with them. All
+/// entries of the content stay, those among these bytes before what is left of the line; so entries that [`write_indented`] put in with a
+/// prefix stay too. The prefix's entries play no part. (The original has no such function.)
+///
+/// ```
+/// use ruszvedok::{write_unindented, FormatRecorder, Refusal};
+///
+/// let (rows, prefix) = (FormatRecorder::with_data("> a\n\n> b")?, FormatRecorder::with_data("> ")?);
+/// let mut out = FormatRecorder::new();
+/// write_unindented(&mut out, &rows, &prefix)?;
+/// assert_eq!(out.data(), b"a\n\nb");
+/// assert_eq!(write_unindented(&mut FormatRecorder::new(), &out, &prefix), Err(Refusal::PrefixMissing));
+/// # Ok::<(), Refusal>(())
+/// ```
+///
+/// # Errors
+///
+/// [`Refusal::PrefixNewline`] if the prefix has a 0A, [`Refusal::PrefixMissing`] if a line that is not empty does not begin with it.
+pub fn write_unindented(
+    out: &mut FormatRecorder,
+    recorded_content: &FormatRecorder,
+    recorded_prefix: &FormatRecorder,
+) -> Result<(), Refusal> {
+    let (content, prefix) = (recorded_content.view(), recorded_prefix.view());
+    out.lend(content.used(), |out, _| lent::write_unindented(content, prefix, out)).map(drop)
 }
 
 /// Writes the content wrapped at the width, and inside of words that are wider if `break_words`. Returns its lines, as stretches of

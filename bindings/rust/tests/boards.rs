@@ -102,6 +102,78 @@ fn tab_stops() {
     assert!(out.ops().eq([(2, FormatOp::PushLabel("x")), (4, FormatOp::PopLabel), (4, FormatOp::RawEscapeSequence(b"\x1b[m"))]));
 }
 
+/// Document 02, Q-3: lines of the prefix alone, empty ones, one that begins with it twice; the bytes of a character; no prefix at all.
+#[test]
+fn taking_the_indent_off() {
+    let off = |text: &str, prefix: &str| left(|out| write_unindented(out, &plain(text), &plain(prefix)).map(|()| 0)).map(|(left, _)| left);
+    assert_eq!(off("> a\n\n> b", "> "), Ok("a\n\nb".into()));
+    assert_eq!(off("> \n> > a\n", "> "), Ok("\n> a\n".into()));
+    assert_eq!(off("\n\n", "> "), Ok("\n\n".into()));
+    assert_eq!(off("", "> "), Ok("".into()));
+    assert_eq!(off("a\n\nb", ""), Ok("a\n\nb".into()));
+    assert_eq!(off("木a\n木", "木"), Ok("a\n".into()));
+    assert_eq!(off("> a\n>b", "> "), Err(Refusal::PrefixMissing));
+    assert_eq!(off("> a\n>", "> "), Err(Refusal::PrefixMissing));
+    assert_eq!(off("> a\n", "> a\n"), Err(Refusal::PrefixNewline));
+    // Bytes are compared, not characters.
+    let mut out = FormatRecorder::new();
+    write_unindented(&mut out, &plain("木"), &FormatRecorder::with_data(b"\xE6").unwrap()).unwrap();
+    assert_eq!(out.data(), b"\x9C\xA8");
+    // Every entry stays; one among the prefix's bytes then stands before the first byte that is left.
+    let mut rows = plain(">");
+    rows.push_label("x").unwrap();
+    rows.write_data(b" a").unwrap();
+    rows.pop_label().unwrap();
+    rows.write_data(b"\n> ").unwrap();
+    rows.raw(b"\x1b[m").unwrap();
+    rows.write_labeled("y", "b").unwrap();
+    // Those of the prefix play no part.
+    let mut prefix = FormatRecorder::new();
+    prefix.write_labeled("mark", "> ").unwrap();
+    write_unindented(&mut out, &rows, &prefix).unwrap();
+    assert_eq!(out.data(), b"a\nb");
+    let ops = [
+        (0, FormatOp::PushLabel("x")),
+        (1, FormatOp::PopLabel),
+        (2, FormatOp::RawEscapeSequence(b"\x1b[m")),
+        (2, FormatOp::PushLabel("y")),
+        (3, FormatOp::PopLabel),
+    ];
+    assert!(out.ops().eq(ops));
+}
+
+/// The data with the labels that are open at each byte.
+fn coloured(row: &FormatRecorder) -> Vec<(u8, Vec<String>)> {
+    let labels = |span: &Span| span.labels.iter().map(ToString::to_string).collect::<Vec<_>>();
+    row.spans().flat_map(|span| span.data.iter().map(move |byte| (*byte, labels(&span))).collect::<Vec<_>>()).collect()
+}
+
+/// Document 02, Q-3: there and back, both ways.
+#[test]
+fn indented_and_back() {
+    let mut rows = plain("oak ");
+    rows.write_labeled("grade", "FAS\n\n12").unwrap();
+    rows.write_data(" ft\n木").unwrap();
+    let mut prefix = FormatRecorder::new();
+    prefix.write_labeled("mark", "|").unwrap();
+    prefix.write_data(" ").unwrap();
+    let (mut there, mut back) = (FormatRecorder::new(), FormatRecorder::new());
+    write_indented(&mut there, &rows, &prefix).unwrap();
+    assert_eq!(there.data(), "| oak FAS\n\n| 12 ft\n| 木".as_bytes());
+    write_unindented(&mut back, &there, &prefix).unwrap();
+    // The labels of the prefix are left, around no byte.
+    assert_eq!((coloured(&back), back.ops().count()), (coloured(&rows), rows.ops().count() + 3 * prefix.ops().count()));
+    write_indented(&mut there, &back, &prefix).unwrap();
+    write_unindented(&mut back, &there, &plain("| ")).unwrap();
+    assert_eq!(coloured(&back), coloured(&rows));
+    // The other way round, bytes alone, if no line is exactly the prefix.
+    for (text, same) in [("| a\n\n| | b\n", true), ("| a\n| \n| b", false)] {
+        write_unindented(&mut back, &plain(text), &prefix).unwrap();
+        write_indented(&mut there, &back, &prefix).unwrap();
+        assert_eq!(there.data() == text.as_bytes(), same);
+    }
+}
+
 #[test]
 fn c15_plain_texts() {
     assert_eq!(elide_end("spruce", "..", 4), Ok(("sp..".into(), 4))); // C15

@@ -91,6 +91,7 @@ fn one(call: &Call, pools: Pools, content: View, out: Buffers, lines: &mut [u32]
             lent::write_replaced(content, &entries.chunks_exact(4).map(record).collect::<Vec<_>>(), data, out)
         }
         Kind::ExpandTabs => lent::write_tabs_expanded(content, call.width, out),
+        Kind::Unindent => lent::write_unindented(content, second, out),
         _ => unreachable!(),
     }
 }
@@ -115,13 +116,14 @@ fn one_by_one(to: &mut Lent, calls: &[Call], pools: Pools, mut used: Used) -> (U
 }
 
 /// Second recordings: without entries, with labels and raw sequences, and with a fault that refuses each of 2 to 6.
-const SECONDS: [View; 11] = [
+const SECONDS: [View; 12] = [
     View { data: b"", entries: &[], text: b"" },
     View { data: b".", entries: &[], text: b"" },
     View { data: b"..", entries: &[], text: b"" },
     View { data: "\u{301}木".as_bytes(), entries: &[], text: b"" },
     View { data: b"> ", entries: &[0, 0, 1, 2, 2, 1, 0, 0], text: b"xyz" },
     View { data: b"-", entries: &[0, 2, 0, 2, 1, 0, 1, 1, 1, 1, 0, 0], text: b"ab" },
+    View { data: b"\n", entries: &[], text: b"" },
     View { data: b".", entries: &[0, 1, 0], text: b"" },
     View { data: b".", entries: &[0, 3, 0, 0], text: b"" },
     View { data: b".", entries: &[2, 1, 0, 0], text: b"" },
@@ -139,12 +141,13 @@ const RECORDS: [View; 6] = [
     View { data: b"X", entries: &[0, 0, 0, 1, 7], text: b"" },
 ];
 
-const CONTENTS: [View; 6] = [
+const CONTENTS: [View; 7] = [
     View { data: b"oak 12 ft\n\nspruce b", entries: &[0, 0, 0, 2, 3, 1, 0, 0, 11, 0, 2, 1, 19, 1, 0, 0], text: b"woodx" },
     View { data: b"fir", entries: &[1, 2, 0, 3], text: b"\x1B[m" },
     View { data: b"", entries: &[], text: b"" },
     View { data: b"\xCC\x81\xE6\x9C\xA8\xEF\xB8\x8F a\xE6", entries: &[], text: b"" },
     View { data: b"\tb\xE6\t\n\t\t\xE6\x9C\xA8\t", entries: &[3, 0, 0, 1, 4, 1, 0, 0, 6, 2, 1, 2, 10, 0, 0, 1], text: b"x\x1B[" },
+    View { data: b"> a\n\n> > b\n> ", entries: &[0, 0, 0, 1, 1, 2, 1, 2, 6, 1, 0, 0, 13, 0, 0, 1], text: b"x\x1B[" },
     View { data: b"ill", entries: &[4, 1, 0, 0], text: b"" },
 ];
 
@@ -159,6 +162,7 @@ const KINDS: &[Kind] = &[
     Kind::WrapBreaking,
     Kind::Replace,
     Kind::ExpandTabs,
+    Kind::Unindent,
 ];
 
 /// Puts a part at a pool's end.
@@ -202,7 +206,7 @@ fn lent_as_one_by_one() {
     }
     // Each kind was run and was refused, and each refusal that lists like these can have was there.
     assert!(seen.iter().flatten().all(|count| *count > 100), "{seen:?}");
-    assert!(refusals.iter().eq(&[0, 2, 3, 4, 5, 6, 8, 9, 21, 22, 23, 24, 31]), "{refusals:?}");
+    assert!(refusals.iter().eq(&[0, 2, 3, 4, 5, 6, 8, 9, 21, 22, 23, 24, 31, 32, 33]), "{refusals:?}");
 }
 
 /// What refuses a whole list: its number, and nothing is touched.
@@ -263,6 +267,7 @@ fn layout(out: &mut FormatRecorder, content: &FormatRecorder, call: Layout) -> R
         Layout::Wrap { width, break_words } => write_wrapped(out, content, width, break_words).map(|lines| lines.len()),
         Layout::Replace { records, text } => write_replaced(out, content, records, text).map(|()| 0),
         Layout::ExpandTabs { stop } => write_tabs_expanded(out, content, stop).map(|()| 0),
+        Layout::Unindent { prefix } => write_unindented(out, content, prefix).map(|()| 0),
         _ => unreachable!(),
     }
 }
@@ -311,6 +316,7 @@ fn layouts_as_one_by_one() {
                     Kind::WrapBreaking => Layout::Wrap { width, break_words: true },
                     Kind::Replace => Layout::Replace { records: &random.of(&records)[..], text: b"X\n" },
                     Kind::ExpandTabs => Layout::ExpandTabs { stop: width },
+                    Kind::Unindent => Layout::Unindent { prefix: second },
                     _ => unreachable!(),
                 }
             })
@@ -323,7 +329,7 @@ fn layouts_as_one_by_one() {
             match answer {
                 Ok(_) => made += 1,
                 Err(refusal) => {
-                    assert!(matches!(refusal, Refusal::ResultOverLimit | Refusal::ReplacementRange | Refusal::TabStop));
+                    assert!(matches!(refusal.number(), 8 | 9 | 31..=33));
                     refused += 1;
                 }
             }

@@ -113,6 +113,38 @@ fn of_tab_stops() {
     }
 }
 
+/// 32 and 33 come behind the refusals of both recordings, in this order, and before 9 and those of the buffers.
+#[test]
+fn of_prefixes() {
+    let of = |row, prefix, sizes| refused(sizes, |out| lent::write_unindented(row, prefix, out));
+    let plain = |data| View { data, ..View::default() };
+    let row = View { data: b"> a\n\n> b", entries: &[1, 0, 0, 1, 8, 1, 0, 0], text: b"x" };
+    let (marked, other, broken) = (plain(b"> "), plain(b">-"), plain(b">\n"));
+    for sizes in [ENOUGH, (0, 0, 0)] {
+        assert_eq!(of(row, broken, sizes), 32);
+        assert_eq!(of(row, other, sizes), 33);
+        assert_eq!(of(row, plain(b"> a"), sizes), 33);
+        for prefix in [marked, other, broken] {
+            assert_eq!(of(View { text: b"\xFF", ..row }, View { entries: &[0], ..prefix }, sizes), 6);
+            assert_eq!(of(row, View { entries: &[0], ..prefix }, sizes), 2);
+        }
+    }
+    // Over the limit of text, as its parts overlap: 9.
+    let long = vec![b'x'; MAX_TEXT];
+    let entries: Vec<u32> = [[0, 0, 0, MAX_TEXT as u32]; 2].concat();
+    let row_over = View { data: b"> a", entries: &entries, text: &long };
+    assert_eq!((of(row_over, broken, ENOUGH), of(row_over, other, ENOUGH), of(row_over, marked, ENOUGH)), (32, 33, 9));
+    for (sizes, number) in [((4, 8, 1), 0), ((3, 8, 1), 21), ((4, 7, 1), 22), ((4, 8, 0), 23)] {
+        assert_eq!(of(row, marked, sizes), number, "{sizes:?}");
+    }
+    for (prefix, refusal) in [(broken, Refusal::PrefixNewline), (other, Refusal::PrefixMissing)] {
+        let mut out = FormatRecorder::with_data("held").unwrap();
+        let (row, prefix) = (FormatRecorder::try_from(row).unwrap(), FormatRecorder::try_from(prefix).unwrap());
+        assert_eq!(write_unindented(&mut out, &row, &prefix), Err(refusal));
+        assert_eq!(out.data(), b"held");
+    }
+}
+
 #[test]
 fn of_plain_texts() {
     let long = "a".repeat(MAX_DATA + 1);
@@ -130,7 +162,7 @@ fn of_plain_texts() {
 #[test]
 fn names_and_numbers() {
     let numbers: Vec<_> = Refusal::ALL.iter().map(|refusal| refusal.number()).collect();
-    assert_eq!(numbers, [1, 2, 3, 4, 5, 6, 7, 8, 9, 10, 21, 22, 23, 24, 31, 61, 62, 63]);
+    assert_eq!(numbers, [1, 2, 3, 4, 5, 6, 7, 8, 9, 10, 21, 22, 23, 24, 31, 32, 33, 61, 62, 63]);
     assert!(Refusal::ALL.iter().all(|refusal| Refusal::from_number(refusal.number()) == Some(*refusal)));
     assert_eq!((Refusal::from_number(0), Refusal::from_number(11)), (None, Some(Refusal::Other(11))));
     assert_eq!(Refusal::ResultOverLimit.to_string(), "a result over a limit of the recording (refusal 9)");

@@ -7,7 +7,7 @@ use bench::recordings::{Expected, Left, view};
 use oracle::{Entry, Kind, Lists, Recording};
 use ruszvedok::lent::{self, Buffers, Replacement, View};
 
-use crate::{complete_newline_of, elide_of, lend, wrap_bytes_of, write_replaced_of, write_wrapped_of};
+use crate::{complete_newline_of, elide_of, lend, wrap_bytes_of, write_replaced_of, write_unindented_of, write_wrapped_of};
 
 /// Space, newline, a letter; a character of three bytes and width 2, one of two bytes and width 0, the lead of one of four; and so
 /// every broken form of these.
@@ -116,7 +116,11 @@ fn plain_contents() -> impl Iterator<Item = Recording> {
 
 /// Every string of up to three bytes with one or two entries of every kind at every position, balanced or not.
 fn labelled_contents() -> impl Iterator<Item = Recording> {
-    rows(&BYTES, 3).flat_map(|data| {
+    labelled(rows(&BYTES, 3))
+}
+
+fn labelled(texts: impl Iterator<Item = Vec<u8>>) -> impl Iterator<Item = Recording> {
+    texts.flat_map(|data| {
         let places: Vec<_> = (0..=data.len()).flat_map(|at| [Kind::Push, Kind::Pop, Kind::Raw].map(|kind| (at, kind))).collect();
         let falls = |row: &Vec<(usize, Kind)>| row.windows(2).any(|pair| pair[0].0 > pair[1].0);
         let lists: Vec<_> = rows(&places, 2).filter(|row| !row.is_empty() && !falls(row)).collect();
@@ -186,6 +190,20 @@ pub fn write_indented(numbers: &mut Numbers) -> Checked {
         let call = |room: &mut bench::room::Room, _: &mut [u32]| lent::write_indented(view(&lists), view(&prefix_lists), room.lent());
         lend(numbers, expected(result, 0), call, &(&lists, &prefix_lists))?;
         made += 1;
+    }
+    Ok(made)
+}
+
+/// Every prefix of up to two of three bytes, on every string of up to seven of them, and of up to four with entries.
+pub fn write_unindented(numbers: &mut Numbers) -> Checked {
+    const THREE: [u8; 3] = *b"\nab";
+    let plain = rows(&THREE, 7).map(|data| Recording { data, entries: vec![] });
+    let mut made = 0;
+    for content in plain.chain(labelled(rows(&THREE, 4))) {
+        for prefix in rows(&THREE, 2) {
+            write_unindented_of((&content.to_lists(), 0), (&Recording::plain(&prefix).to_lists(), 0), numbers)?;
+            made += 1;
+        }
     }
     Ok(made)
 }

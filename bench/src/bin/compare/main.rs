@@ -35,6 +35,7 @@ const CALLS: &[(&str, Call)] = &[
     ("write_padded_end", |n| with_second(n, |c, f, w| (oracle::write_padded_end(c, f, w), 0), lent::write_padded_end, false)),
     ("write_padded_centered", |n| with_second(n, |c, f, w| (oracle::write_padded_centered(c, f, w), 0), lent::write_padded_centered, false)),
     ("write_indented", write_indented),
+    ("write_unindented", write_unindented),
     ("wrap_bytes", wrap_bytes),
     ("write_wrapped", write_wrapped),
     ("write_replaced", write_replaced),
@@ -68,6 +69,7 @@ const MANY: &[(&str, Many)] = &[
     ("exhaustive_write_padded_end", |n, _| exhaustive::with_second(n, |c, f, w| (oracle::write_padded_end(c, f, w), 0), lent::write_padded_end)),
     ("exhaustive_write_padded_centered", |n, _| exhaustive::with_second(n, |c, f, w| (oracle::write_padded_centered(c, f, w), 0), lent::write_padded_centered)),
     ("exhaustive_write_indented", |n, _| exhaustive::write_indented(n)),
+    ("exhaustive_write_unindented", |n, _| exhaustive::write_unindented(n)),
     ("exhaustive_write_wrapped", |n, _| exhaustive::write_wrapped(n)),
     ("exhaustive_write_replaced", |n, _| exhaustive::write_replaced(n)),
 ];
@@ -226,6 +228,55 @@ fn write_indented(numbers: &mut Numbers) -> Result<(), String> {
     let result = if (fault, second_fault) == (0, 0) { oracle::write_indented(&content, &second) } else { Default::default() };
     let expected = Expected { faults: vec![fault, second_fault], result: result.to_lists(), lines: vec![], number: 0 };
     lend(numbers, expected, |room, _| lent::write_indented(view(&lists), view(&second_lists), room.lent()), &(&lists, &second_lists))
+}
+
+/// Against a function of ours: the original has none. Most contents have the prefix at every line that is not empty, and entries anywhere.
+fn write_unindented(numbers: &mut Numbers) -> Result<(), String> {
+    let (mut prefix, mut prefix_fault, _) = input(numbers, 4);
+    if numbers.within(0, 9) != 0 {
+        prefix.data.iter_mut().filter(|b| **b == b'\n').for_each(|b| *b = b'>');
+    }
+    if numbers.within(0, 3) == 0 {
+        // Short, so that lines begin with it by chance.
+        let short = [&b""[..], b"a", b">>", b"\xE6", "木".as_bytes()][numbers.within(0, 4) as usize];
+        (prefix, prefix_fault) = (Recording::plain(short).to_lists(), 0);
+    }
+    let mut made = recording(numbers, 8);
+    for _ in 0..numbers.within(0, 8).min(2) {
+        let indent = |line: &[u8]| if line == b"\n" { line.to_vec() } else { [&prefix.data, line].concat() };
+        made.data = made.data.split_inclusive(|b| *b == b'\n').flat_map(indent).collect();
+    }
+    if numbers.within(0, 9) == 0 && !made.data.is_empty() {
+        let at = numbers.within(0, made.data.len() as u64 - 1) as usize;
+        made.data[at] = [b'\n', b'a', 0xE6][numbers.within(0, 2) as usize];
+    }
+    let mut places: Vec<_> = made.entries.iter().map(|_| numbers.within(0, made.data.len() as u64) as usize).collect();
+    places.sort_unstable();
+    made.entries.iter_mut().zip(places).for_each(|(entry, at)| entry.at = at);
+    let mut lists = scattered(&made, numbers);
+    match numbers.within(0, 2999) {
+        0 => lists = at_a_limit(numbers),
+        // A result over the limit of text, as the parts overlap, or just within.
+        1 => {
+            let half = LIMITS.2 as u32 / 2 + numbers.within(0, 1) as u32;
+            lists = Lists { data: made.data, entries: [0, 2, 0, half].repeat(2), text: vec![0x1B; half as usize] };
+        }
+        _ => maybe_damaged(&mut lists, numbers),
+    }
+    let content_fault = fault(&lists);
+    write_unindented_of((&lists, content_fault), (&prefix, prefix_fault), numbers)
+}
+
+fn write_unindented_of((lists, content_fault): (&Lists, u64), (prefix, prefix_fault): (&Lists, u64), numbers: &mut Numbers) -> Result<(), String> {
+    let mut out = FormatRecorder::new(false);
+    let mut own = 0;
+    if (content_fault, prefix_fault) == (0, 0) {
+        let content = Recording::from_lists(&lists.data, &lists.entries, &lists.text).unwrap();
+        own = ours::write_unindented(&mut out, &content.to_recorder(), &prefix.data).unwrap();
+    }
+    let faults = vec![content_fault, prefix_fault, own];
+    let expected = Expected { faults, result: Recording::from_recorder(&out).to_lists(), lines: vec![], number: 0 };
+    lend(numbers, expected, |room, _| lent::write_unindented(view(lists), view(prefix), room.lent()), &(lists, prefix))
 }
 
 fn wrap_width(data: &[u8], numbers: &mut Numbers) -> usize {
