@@ -19,14 +19,14 @@ use Rattle.recording.specs.Outcome.{Lent, answerOf}
 use Rattle.recording.proofs.OutcomeLaws.{number-pos}
 use Rattle.recording.proofs.Lists.{or-left, or-right, not-false}
 use Rattle.recording.proofs.FaultLaws.{firstOf-zero, refuseIf-zero}
-use Rattle.layout.specs.Lent.{lentOf}
+use Rattle.layout.specs.Lent.{lentOf, frontOf}
 use Rattle.writer.specs.declared.Settled.{Settled}
 use Rattle.writer.specs.declared.Settled.the-variants as S
 use Rattle.writer.specs.Sizes.{settledFault}
 use Rattle.layout.proofs.Demand3.{demand3}
 use Rattle.call_lists.specs.declared.Held.{Held}
 use Rattle.requests.specs.Requests.{requestsOf, allFit}
-use Rattle.call_lists.specs.Runs.{State, state, Sound, frontOf, content, overSet, firstAtEnd, Ran}
+use Rattle.call_lists.specs.Runs.{State, state, Sound, content, overSet, firstAtEnd, Ran}
 use Rattle.call_lists.specs.Runs.{Given, Buffers, buffers, jobs, firstContent, calls, atStart, atEnd, inputFault, usedTooLong, alikeSets, runFault, RunsCalls}
 use Rattle.requests.proofs.RequestLaws.{and-left, and-right}
 use Rattle.call_lists.proofs.StateLaws.{run-content}

@@ -18,10 +18,10 @@ use Rattle.recording.specs.Outcome.{Room, Result, Faults, Outcome, refused, don
 use Rattle.recording.proofs.OutcomeLaws.{number-pos}
 use Rattle.recording.proofs.FaultLaws.{Roomy, roomy, granted}
 use Rattle.layout.specs.Layout.{Job, Call, contentAfter, faultsOf, resultOf, outcome, after, run}
-use Rattle.layout.specs.Lent.{Leaves}
+use Rattle.layout.specs.Lent.{Leaves, frontOf}
 use Rattle.call_lists.specs.declared.Held.{Held}
 use Rattle.requests.specs.Requests.{callsIn}
-use Rattle.call_lists.specs.Runs.{State, state, Sound, frontOf, content, withLines, three, target, outcomeIn, heldBy, twoOf, stepTo, afterCall, Turn, runSets}
+use Rattle.call_lists.specs.Runs.{State, state, Sound, content, withLines, three, target, outcomeIn, heldBy, twoOf, stepTo, afterCall, Turn, runSets}
 
 -- ── an outcome that is refused has a number; one that is done has a result within its room
 record Holds (q : Recording) (l : List ℕ) (o : Room) : Type 0 where

@@ -12,7 +12,7 @@ use Rattle.recording.specs.Coloured.{balanced}
 use Rattle.recording.specs.Refusals.{firstOf, refuseIf}
 use Rattle.recording.specs.Outcome.{Outcome, Lent, lentAfter, roomIn, Returned, returned, answerOf}
 use Rattle.layout.specs.Layout.{Job, Call, outcome, run}
-use Rattle.layout.specs.Lent.{lentOf, lentLined, callIn, Leaves}
+use Rattle.layout.specs.Lent.{lentOf, lentLined, frontOf, callIn, Leaves}
 use Rattle.layout.specs.Theorem.{Proper, Demand3}
 use Rattle.call_lists.specs.declared.Held.{Held}
 use Rattle.requests.specs.Requests.{requestsOf, jobsIn, callsIn, allFit}
@@ -37,10 +37,6 @@ pub record Sound (h : Held) (a b : Lent) : Type 0 where
   pub like-bytes : length (b .dataBytes) ≡ length (a .dataBytes)
   pub like-numbers : length (b .entryNumbers) ≡ length (a .entryNumbers)
   pub like-texts : length (b .text) ≡ length (a .text)
-
--- the front of a set
-abbrev pub frontOf : ℕ → ℕ → ℕ → Lent → Recording
-frontOf d e t b = recording (take d (b .dataBytes)) (take e (b .entryNumbers)) (take t (b .text))
 
 -- the set that the content stands in
 abbrev pub standing : State → Lent

@@ -10,6 +10,7 @@ use Rattle.recording.specs.Recording.{items, encode}
 use Rattle.recording.specs.Refusals.{badShape, entryFault, recordingFault}
 use Rattle.recording.specs.Outcome.{Outcome, overLimit, noRoom, refusalOf, settle}
 use Rattle.layout.specs.Wrap.{splitWordsAtWidth, firstFit, wrappedLine, wrapLines}
+use Rattle.layout.specs.Unindent.{prefixFault}
 use Rattle.layout.specs.Layout.{trimmedStartPos, fillCount, resultItems, linesLeft, number, resultOf, secondFault, ownFault, faultsOf, outcome}
 use Rattle.layout.specs.Pins as layoutPins
 use Rattle.layout.proofs.PinsHold as layoutHold
@@ -56,7 +57,7 @@ plain-due (r ∷ rs) = ap (λ (l : List Reply). ofPlain (r .expected) ∷ l) (pl
 
 -- C1 to C16
 pub document-cases : asked table ≡ due table
-unfolding table c15 table37 rowOf tailLen complete ranges charWidth charAt chars textWidth wellFormed truncateEndPos truncateEndWidth truncateStartPos truncateStartWidth zeroWidthLen items encode badShape entryFault recordingFault overLimit noRoom refusalOf settle splitWordsAtWidth firstFit wrappedLine wrapLines trimmedStartPos fillCount resultItems linesLeft number resultOf secondFault ownFault faultsOf outcome fitAtEnd fitAtStart trimmed elideEnd elideStart completeNewline plainFaults elideEndOutcome elideStartOutcome completeNewlineOutcome
+unfolding table c15 table37 rowOf tailLen complete ranges charWidth charAt chars textWidth wellFormed truncateEndPos truncateEndWidth truncateStartPos truncateStartWidth zeroWidthLen items encode badShape entryFault recordingFault overLimit noRoom refusalOf settle splitWordsAtWidth firstFit wrappedLine wrapLines trimmedStartPos fillCount resultItems linesLeft number resultOf secondFault prefixFault ownFault faultsOf outcome fitAtEnd fitAtStart trimmed elideEnd elideStart completeNewline plainFaults elideEndOutcome elideStartOutcome completeNewlineOutcome
 document-cases = refl
 
 -- the whole table

@@ -15,6 +15,7 @@ pub mod BreakLaws
 pub mod TwiceLaws
 pub mod WidthLaws
 pub mod TabStopLaws
+pub mod LentLaws
 pub mod RoundTripLaws
 pub mod Demand3
 pub mod WordingLaws

@@ -14,12 +14,13 @@ use Rattle.recording.specs.Outcome.{Room, refused, overLimit, noRoom, refusalOf
 use Rattle.layout.specs.Wrap.{splitWordsAtWidth, firstFit, wrappedLine, wrapLines}
 use Rattle.layout.specs.Layout.{wrap, trimmedStartPos, fillCount, resultItems, linesLeft, number, resultOf, secondFault, ownFault, faultsOf, outcome, refusal, after}
 use Rattle.layout.specs.Plain.{step, toldOf}
+use Rattle.layout.specs.Unindent.{prefixFault}
 use Rattle.layout.specs.Theorem.{Proper, Demand3}
 use Rattle.layout.proofs.Demand3.{demand3}
 use Rattle.layout.specs.Pins.{pins, asked, due, c16, ticket}
 
 pub pins-hold : asked pins ≡ due pins
-unfolding pins table37 rowOf tailLen complete ranges charWidth charAt chars textWidth wellFormed truncateEndPos truncateEndWidth truncateStartPos truncateStartWidth zeroWidthLen items encode badShape entryFault recordingFault overLimit noRoom refusalOf settle splitWordsAtWidth firstFit wrappedLine wrapLines trimmedStartPos fillCount resultItems linesLeft number resultOf secondFault ownFault faultsOf outcome refusal after step toldOf coloured strip
+unfolding pins table37 rowOf tailLen complete ranges charWidth charAt chars textWidth wellFormed truncateEndPos truncateEndWidth truncateStartPos truncateStartWidth zeroWidthLen items encode badShape entryFault recordingFault overLimit noRoom refusalOf settle splitWordsAtWidth firstFit wrappedLine wrapLines trimmedStartPos fillCount resultItems linesLeft number resultOf secondFault prefixFault ownFault faultsOf outcome refusal after step toldOf coloured strip
 pins-hold = refl
 
 -- 1: one byte over the limit, and no fault at it

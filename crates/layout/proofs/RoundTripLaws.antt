@@ -1,4 +1,4 @@
--- Indenting and taking the indent off again (`round-trips`, the statement of `specs/RoundTrips.antt`).
+-- Indenting and taking the indent off again (`round-trips` and `running-round-trips`, the statements of `specs/RoundTrips.antt`).
 -- The idea: both are plain steps byte by byte, so what one does to a line the other undoes byte by byte: `off-again` on coloured bytes, `on-again` on their values.
 use Prim.Native.Nat.{ℕ, zero, suc, _+_, _≤_, _<_}
 use native.Mathlib.Omega.{arith}
@@ -13,19 +13,21 @@ use Rattle.recording.specs.Recording.{Bytes, Recording, Item, items, dataOf, te
 use Rattle.recording.specs.Coloured.{Coloured, coloured, balanced, values}
 use Rattle.recording.specs.Edit.{Op, keep, skip, put, under, edit, editColoured, editData}
 use Rattle.recording.specs.Refusals.{firstOf, refuseIf}
-use Rattle.recording.specs.Outcome.{Room, Result, overLimit, noRoom}
+use Rattle.recording.specs.Outcome.{Room, Result, overLimit, noRoom, roomIn}
 use Rattle.recording.proofs.EditLaws.{AllPuts, edit-data}
 use Rattle.recording.proofs.FaultLaws.{in-limits}
 use Rattle.recording.proofs.ItemsLaws.{values-of, values-append, values-under, values-edit, data-items, items-encode}
 use Rattle.recording.proofs.Lists.{and-left, and-right, or-left, or-right}
 use Rattle.recording.proofs.OutcomeLaws.{stops-sizes, first-on, first-one}
 use Rattle.recording.proofs.SizeLaws.{count-numbers, edit-count, edit-text}
-use Rattle.layout.specs.Layout.{indentOps, indent, unindent, resultItems, secondFault, ownFault, faultsOf, resultOf, Call, refusal, after}
+use Rattle.layout.specs.Layout.{indentOps, Job, indent, unindent, resultItems, secondFault, ownFault, faultsOf, resultOf, Call, refusal, after}
 use Rattle.layout.specs.Plain.{indented, unindented, step, toldOf}
-use Rattle.layout.specs.RoundTrips.{indentCall, unindentCall, NoLineIs, IndentRoundTrips}
+use Rattle.layout.specs.RoundTrips.{indentCall, unindentCall, NoLineIs, IndentRoundTrips, TwoCalls, leftBy, RunningRoundTrips}
+use Rattle.layout.specs.Lent.{frontOf, callIn}
 use Rattle.layout.specs.Unindent.{unindentOps, hasNewline, beginsWith, allBegin, prefixFault}
 use Rattle.layout.specs.Wrap.{ontoFirst, splitLines}
 use Rattle.layout.proofs.LeftLaws.{left-valid}
+use Rattle.layout.proofs.LentLaws.{left-in}
 use Rattle.layout.proofs.LineLaws.{some-lines, linesAt, later-lines, before-first, split-onto}
 use Rattle.layout.proofs.ListLaws.{granted-call, after-done, bal-after, one-call}
 use Rattle.layout.proofs.PutLaws.{puts-unindent}
@@ -355,4 +357,35 @@ round-trips r p o o′ =
       backAndThere = back-and-there r p o o′;
       takesOff = λ h z. (not-own r p o o′ h z 32 (omega arith), not-own r p o o′ h z 33 (omega arith));
       onlyRoom = λ h z. only-room r p o o′ h z;
+    }
+
+-- ── of running code
+-- what the second call left is what the two calls leave, and neither was refused
+module _ (first second : Job) (r : Recording) (x : TwoCalls first second r) where
+  abbrev made-first : Call
+  made-first = callIn first (x .b)
+
+  abbrev made-then : Call
+  made-then = callIn second (x .c)
+
+  first-left : (refusal made-first r ≡ 0) × (frontOf (x .d) (x .e) (x .t) (x .b′) ≡ after made-first r)
+  first-left = left-in (x .b) (x .b′) (x .d) (x .e) (x .t) 0 first r (x .one)
+
+  then-left : (refusal made-then (after made-first r) ≡ 0) × (leftBy x ≡ after made-then (after made-first r))
+  then-left =
+      let g = left-in (x .c) (x .c′) (x .d′) (x .e′) (x .t′) 0 second (frontOf (x .d) (x .e) (x .t) (x .b′)) (x .two) in
+      let q = first-left .1 in
+      (ap (λ (y : Recording). refusal made-then y) (sym q) ∙ g .0, g .1 ∙ ap (λ (y : Recording). after made-then y) q)
+
+pub running-round-trips : (r p : Recording) → RunningRoundTrips r p
+running-round-trips r p =
+    record {
+      thereAndBack = λ h g x.
+          let z = first-left (indent p) (unindent p) r x .0 in
+          let y = then-left (indent p) (unindent p) r x in
+          ap coloured (y .1) ∙ there-and-back r p (roomIn (x .b)) (roomIn (x .c)) h g z (y .0);
+      backAndThere = λ none x.
+          let z = first-left (unindent p) (indent p) r x .0 in
+          let y = then-left (unindent p) (indent p) r x in
+          ap (λ (q : Recording). q .dataBytes) (y .1) ∙ back-and-there r p (roomIn (x .b)) (roomIn (x .c)) z (y .0) none;
     }

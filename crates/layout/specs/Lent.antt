@@ -2,7 +2,8 @@
 use mathlib.Core.List.{List, []}
 use Prim.Native.Nat.{ℕ}
 use Rattle.recording.specs.declared.Answer.{Answer}
-use Rattle.recording.specs.Recording.{Recording}
+use lib.ListN.{take}
+use Rattle.recording.specs.Recording.{Recording, recording}
 use Rattle.recording.specs.Outcome.{Lent, roomIn, Promised}
 use Rattle.layout.specs.Layout.{Job, Call, outcome}
 
@@ -13,6 +14,10 @@ lentLined od oe ot ol = record { dataBytes = od; entryNumbers = oe; text = ot; l
 -- three buffers
 abbrev pub lentOf : List ℕ → List ℕ → List ℕ → Lent
 lentOf od oe ot = lentLined od oe ot []
+
+-- the recording at the front of the buffers, by its lengths
+abbrev pub frontOf : ℕ → ℕ → ℕ → Lent → Recording
+frontOf d e t b = recording (take d (b .dataBytes)) (take e (b .entryNumbers)) (take t (b .text))
 
 -- the call with the room that the buffers have
 abbrev pub callIn : Job → Lent → Call

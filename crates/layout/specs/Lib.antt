@@ -4,8 +4,8 @@ pub mod Unindent
 pub mod Widths
 pub mod Layout
 pub mod TabStops
-pub mod RoundTrips
 pub mod Lent
+pub mod RoundTrips
 pub mod Pins
 pub mod Plain
 pub mod Theorem

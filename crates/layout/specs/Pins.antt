@@ -11,7 +11,7 @@ use Rattle.recording.specs.Pins.{under}
 use Rattle.recording.specs.Outcome.{Room, Outcome, refused, done}
 use Rattle.layout.specs.declared.Replacement.{Replacement}
 use Rattle.layout.specs.Wrap.{Line, lineNumbers, wrapLines}
-use Rattle.layout.specs.Layout.{Job, truncateStart, truncateEnd, padStart, padEnd, padCentered, indent, wrap, replace, expandTabs, outcome, Call, refusal, after, run}
+use Rattle.layout.specs.Layout.{Job, truncateStart, truncateEnd, padStart, padEnd, padCentered, indent, unindent, wrap, replace, expandTabs, outcome, Call, refusal, after, run}
 use Rattle.layout.specs.Plain.{told, steps}
 use Rattle.layout.specs.Theorem.{again}
 
@@ -125,6 +125,13 @@ tabbedRow = recording (0x61 ∷ 0x62 ∷ 0x09 ∷ 0x63 ∷ []) (1 ∷ 0 ∷ 0 �
 
 abbrev pub tabbedColours : List Coloured
 tabbedColours = under 0x61 [] ∷ under 0x62 ((0x78 ∷ []) ∷ []) ∷ under 0x20 ((0x78 ∷ []) ∷ []) ∷ under 0x20 ((0x78 ∷ []) ∷ []) ∷ under 0x63 [] ∷ []
+
+-- indent by `> ` labelled p, and take it off
+abbrev pub marks : Call
+marks = record { job = indent (labelled2 0x3E 0x20 0x70); room = roomy }
+
+abbrev pub unmarks : Call
+unmarks = record { job = unindent (labelled2 0x3E 0x20 0x70); room = roomy }
 
 unfoldable pub pins : List Row
 pins =
@@ -266,6 +273,36 @@ pins =
       lines = [];
       number = 0;
     }))) ∷
+    -- unindent: C13 back; an empty line stays, the last line has no 0A
+    row (call (unindent (recording (0x3E ∷ 0x20 ∷ []) [] [])) roomy (recording (0x3E ∷ 0x20 ∷ 0x61 ∷ 0x0A ∷ 0x0A ∷ 0x3E ∷ 0x20 ∷ 0x62 ∷ []) [] []))
+    (outcomeOf (done (record { recording = recording (0x61 ∷ 0x0A ∷ 0x0A ∷ 0x62 ∷ []) [] []; lines = []; number = 0 }))) ∷
+    -- unindent: a line that is exactly the prefix is left empty
+    row (call (unindent (recording (0x3E ∷ 0x20 ∷ []) [] [])) roomy (recording (0x3E ∷ 0x20 ∷ 0x0A ∷ 0x3E ∷ 0x20 ∷ 0x61 ∷ 0x0A ∷ 0x3E ∷ 0x20 ∷ []) [] []))
+    (outcomeOf (done (record { recording = recording (0x0A ∷ 0x61 ∷ 0x0A ∷ []) [] []; lines = []; number = 0 }))) ∷
+    -- unindent: the prefix goes once, also where it comes again
+    row (call (unindent (recording (0x61 ∷ 0x61 ∷ []) [] [])) roomy (recording (0x61 ∷ 0x61 ∷ 0x61 ∷ 0x61 ∷ 0x0A ∷ 0x61 ∷ 0x61 ∷ 0x0A ∷ 0x61 ∷ 0x61 ∷ 0x61 ∷ []) [] []))
+    (outcomeOf (done (record { recording = recording (0x61 ∷ 0x61 ∷ 0x0A ∷ 0x0A ∷ 0x61 ∷ []) [] []; lines = []; number = 0 }))) ∷
+    -- unindent: an empty prefix takes nothing out, and its entries are not written
+    row (call (unindent (recording [] (0 ∷ 0 ∷ 0 ∷ 1 ∷ []) (0x78 ∷ []))) roomy (recording (0x61 ∷ 0x0A ∷ 0x0A ∷ 0x62 ∷ []) (1 ∷ 2 ∷ 0 ∷ 1 ∷ []) (0x1B ∷ [])))
+    (outcomeOf (done (record { recording = recording (0x61 ∷ 0x0A ∷ 0x0A ∷ 0x62 ∷ []) (1 ∷ 2 ∷ 0 ∷ 1 ∷ []) (0x1B ∷ []); lines = []; number = 0 }))) ∷
+    -- unindent: nothing but 0A, and nothing at all
+    row (call (unindent (recording (0x3E ∷ 0x20 ∷ []) [] [])) roomy (recording (0x0A ∷ 0x0A ∷ []) [] []))
+    (outcomeOf (done (record { recording = recording (0x0A ∷ 0x0A ∷ []) [] []; lines = []; number = 0 }))) ∷
+    -- unindent: no data
+    row (call (unindent (recording (0x3E ∷ 0x20 ∷ []) [] [])) roomy (recording [] (0 ∷ 2 ∷ 0 ∷ 1 ∷ []) (0x1B ∷ [])))
+    (outcomeOf (done (record { recording = recording [] (0 ∷ 2 ∷ 0 ∷ 1 ∷ []) (0x1B ∷ []); lines = []; number = 0 }))) ∷
+    -- unindent: entries at the first byte, inside the prefix, at its end and behind it stay in order
+    row (call (unindent (recording (0x3E ∷ 0x20 ∷ []) [] [])) roomy (recording (0x3E ∷ 0x20 ∷ 0x61 ∷ 0x0A ∷ 0x3E ∷ 0x20 ∷ 0x62 ∷ []) (0 ∷ 0 ∷ 0 ∷ 1 ∷ 1 ∷ 2 ∷ 1 ∷ 1 ∷ 2 ∷ 1 ∷ 0 ∷ 0 ∷ 3 ∷ 0 ∷ 2 ∷ 1 ∷ 4 ∷ 1 ∷ 0 ∷ 0 ∷ 5 ∷ 0 ∷ 0 ∷ 1 ∷ 6 ∷ 1 ∷ 0 ∷ 0 ∷ []) (0x78 ∷ 0x79 ∷ 0x7A ∷ [])))
+    (outcomeOf (done (record { recording = recording (0x61 ∷ 0x0A ∷ 0x62 ∷ []) (0 ∷ 0 ∷ 0 ∷ 1 ∷ 0 ∷ 2 ∷ 1 ∷ 1 ∷ 0 ∷ 1 ∷ 0 ∷ 0 ∷ 1 ∷ 0 ∷ 2 ∷ 1 ∷ 2 ∷ 1 ∷ 0 ∷ 0 ∷ 2 ∷ 0 ∷ 3 ∷ 1 ∷ 2 ∷ 1 ∷ 0 ∷ 0 ∷ []) (0x78 ∷ 0x79 ∷ 0x7A ∷ 0x78 ∷ []); lines = []; number = 0 }))) ∷
+    -- unindent: the prefix's labels and raw sequences play no part
+    row (call (unindent (recording (0x3E ∷ 0x20 ∷ []) (0 ∷ 0 ∷ 0 ∷ 1 ∷ 1 ∷ 2 ∷ 1 ∷ 1 ∷ 2 ∷ 1 ∷ 0 ∷ 0 ∷ []) (0x78 ∷ 0x1B ∷ []))) roomy (recording (0x3E ∷ 0x20 ∷ 0x61 ∷ []) (0 ∷ 0 ∷ 0 ∷ 1 ∷ 3 ∷ 1 ∷ 0 ∷ 0 ∷ []) (0x79 ∷ [])))
+    (outcomeOf (done (record { recording = recording (0x61 ∷ []) (0 ∷ 0 ∷ 0 ∷ 1 ∷ 1 ∷ 1 ∷ 0 ∷ 0 ∷ []) (0x79 ∷ []); lines = []; number = 0 }))) ∷
+    -- unindent: bytes are compared, not characters
+    row (call (unindent (recording (0xE6 ∷ []) [] [])) roomy (recording (0xE6 ∷ 0x9C ∷ 0xA8 ∷ []) [] []))
+    (outcomeOf (done (record { recording = recording (0x9C ∷ 0xA8 ∷ []) [] []; lines = []; number = 0 }))) ∷
+    -- unindent: each buffer exactly full
+    row (call (unindent (recording (0x3E ∷ 0x20 ∷ []) [] [])) (room 1 4 1 0) (recording (0x3E ∷ 0x20 ∷ 0x61 ∷ []) (3 ∷ 0 ∷ 0 ∷ 1 ∷ []) (0x78 ∷ [])))
+    (outcomeOf (done (record { recording = recording (0x61 ∷ []) (1 ∷ 0 ∷ 0 ∷ 1 ∷ []) (0x78 ∷ []); lines = []; number = 0 }))) ∷
     -- wrap: an entry in dropped white space comes after the 0A
     row (call (wrap 2 false) roomy (recording (0x61 ∷ 0x62 ∷ 0x20 ∷ 0x20 ∷ 0x63 ∷ 0x64 ∷ []) (3 ∷ 2 ∷ 0 ∷ 1 ∷ []) (0x1B ∷ [])))
     (outcomeOf (done (record { recording = recording (0x61 ∷ 0x62 ∷ 0x0A ∷ 0x63 ∷ 0x64 ∷ []) (3 ∷ 2 ∷ 0 ∷ 1 ∷ []) (0x1B ∷ []); lines = (0 ∷ 2 ∷ 2 ∷ 4 ∷ 6 ∷ 2 ∷ []); number = 2 }))) ∷
@@ -350,6 +387,13 @@ pins =
     -- 31: a stop of 0, and over 64
     row (call (expandTabs 0) roomy (recording (0x61 ∷ []) [] [])) (outcomeOf (refused 31)) ∷
     row (call (expandTabs 65) roomy (recording (0x61 ∷ []) [] [])) (outcomeOf (refused 31)) ∷
+    -- 32: the prefix has a 0A, also where the data begins with it
+    row (call (unindent (recording (0x3E ∷ 0x0A ∷ []) [] [])) roomy (recording (0x3E ∷ 0x0A ∷ 0x61 ∷ []) [] [])) (outcomeOf (refused 32)) ∷
+    -- 33: a line does not begin with the prefix; the last one; one that is shorter; one whose prefix would go on in the next line
+    row (call (unindent (recording (0x3E ∷ 0x20 ∷ []) [] [])) roomy (recording (0x61 ∷ 0x0A ∷ 0x3E ∷ 0x20 ∷ 0x62 ∷ []) [] [])) (outcomeOf (refused 33)) ∷
+    row (call (unindent (recording (0x3E ∷ 0x20 ∷ []) [] [])) roomy (recording (0x3E ∷ 0x20 ∷ 0x61 ∷ 0x0A ∷ 0x3E ∷ 0x62 ∷ []) [] [])) (outcomeOf (refused 33)) ∷
+    row (call (unindent (recording (0x3E ∷ 0x20 ∷ []) [] [])) roomy (recording (0x3E ∷ 0x20 ∷ 0x61 ∷ 0x0A ∷ 0x3E ∷ []) [] [])) (outcomeOf (refused 33)) ∷
+    row (call (unindent (recording (0x3E ∷ 0x3E ∷ []) [] [])) roomy (recording (0x3E ∷ 0x0A ∷ 0x3E ∷ []) [] [])) (outcomeOf (refused 33)) ∷
     -- 9: result entries over their limit
     row (call (truncateEnd 0 (recording [] (fill4 4096) [])) roomy (recording (0x61 ∷ []) (fill4 1) [])) (outcomeOf (refused 9)) ∷
     -- 9: result text over its limit: parts that overlap count each
@@ -389,6 +433,18 @@ pins =
     row (call (expandTabs 65) roomy (recording [] (0 ∷ 2 ∷ 0 ∷ 65536 ∷ 0 ∷ 2 ∷ 0 ∷ 1 ∷ []) (fill 65536 0x61))) (outcomeOf (refused 31)) ∷
     -- 31: 31 before 21
     row (call (expandTabs 0) (room 0 0 0 0) (recording (0x61 ∷ []) [] [])) (outcomeOf (refused 31)) ∷
+    -- 32: 32 before 33
+    row (call (unindent (recording (0x0A ∷ []) [] [])) roomy (recording (0x61 ∷ []) [] [])) (outcomeOf (refused 32)) ∷
+    -- 6: the content before 32, and the prefix before it too
+    row (call (unindent (recording (0x0A ∷ []) [] [])) roomy (recording [] (0 ∷ 0 ∷ 0 ∷ 1 ∷ []) (0xFF ∷ []))) (outcomeOf (refused 6)) ∷
+    row (call (unindent (recording (0x0A ∷ []) (0 ∷ 0 ∷ 0 ∷ 1 ∷ []) (0xFF ∷ []))) roomy (recording (0x61 ∷ []) [] [])) (outcomeOf (refused 6)) ∷
+    -- 6: the prefix before 33
+    row (call (unindent (recording (0x3E ∷ []) (0 ∷ 0 ∷ 0 ∷ 1 ∷ []) (0xFF ∷ []))) roomy (recording (0x61 ∷ []) [] [])) (outcomeOf (refused 6)) ∷
+    -- 33: 33 before 9
+    row (call (unindent (recording (0x3E ∷ []) [] [])) roomy (recording (0x61 ∷ []) (0 ∷ 2 ∷ 0 ∷ 65536 ∷ 0 ∷ 2 ∷ 0 ∷ 1 ∷ []) (fill 65536 0x61))) (outcomeOf (refused 33)) ∷
+    -- 33: 33 before 21; then 21
+    row (call (unindent (recording (0x3E ∷ 0x20 ∷ []) [] [])) (room 0 0 0 0) (recording (0x61 ∷ []) [] [])) (outcomeOf (refused 33)) ∷
+    row (call (unindent (recording (0x3E ∷ 0x20 ∷ []) [] [])) (room 0 0 0 0) (recording (0x3E ∷ 0x20 ∷ 0x61 ∷ []) [] [])) (outcomeOf (refused 21)) ∷
     -- 9: 9 before 21
     row (call (truncateEnd 0 (recording [] (fill4 4096) [])) (room 0 0 0 0) (recording (0x61 ∷ []) (fill4 1) [])) (outcomeOf (refused 9)) ∷
     -- C16: the 0A at 2 has no label
@@ -403,6 +459,18 @@ pins =
     row (colouredRun (record { job = expandTabs 4; room = roomy } ∷ []) tabbedRow) (colours tabbedColours) ∷
     row (colouredSteps (record { job = expandTabs 4; room = roomy } ∷ []) tabbedRow) (colours tabbedColours) ∷
     row (strippedRun (record { job = expandTabs 4; room = roomy } ∷ []) tabbedRow) (numbers (0x61 ∷ 0x62 ∷ 0x20 ∷ 0x20 ∷ 0x63 ∷ [])) ∷
+    -- unindent: there and back. The prefix, labelled p, comes under the line's labels and goes again; the coloured bytes are the content's, its entries those of the prefix too
+    row (refusalsOf (marks ∷ unmarks ∷ []) c16) (numbers (0 ∷ 0 ∷ [])) ∷
+    row (colouredRun (marks ∷ unmarks ∷ []) c16) (colours (coloured c16)) ∷
+    row (colouredSteps (marks ∷ unmarks ∷ []) c16) (colours (coloured c16)) ∷
+    row (strippedRun (marks ∷ unmarks ∷ []) c16) (numbers (c16 .dataBytes)) ∷
+    -- a prefix whose label stays open may be taken off: nothing of it is written
+    row (colouredRun (record { job = unindent unclosed; room = roomy } ∷ []) (recording (0x2E ∷ 0x61 ∷ []) [] [])) (colours (under 0x61 [] ∷ [])) ∷
+    row (colouredSteps (record { job = unindent unclosed; room = roomy } ∷ []) (recording (0x2E ∷ 0x61 ∷ []) [] [])) (colours (under 0x61 [] ∷ [])) ∷
+    -- the other way round: the data comes back, but not where a line was exactly the prefix, since an empty line gets none
+    row (strippedRun (unmarks ∷ marks ∷ []) (recording (0x3E ∷ 0x20 ∷ 0x61 ∷ []) [] [])) (numbers (0x3E ∷ 0x20 ∷ 0x61 ∷ [])) ∷
+    row (refusalsOf (unmarks ∷ marks ∷ []) (recording (0x3E ∷ 0x20 ∷ 0x0A ∷ 0x3E ∷ 0x20 ∷ 0x61 ∷ []) [] [])) (numbers (0 ∷ 0 ∷ [])) ∷
+    row (strippedRun (unmarks ∷ marks ∷ []) (recording (0x3E ∷ 0x20 ∷ 0x0A ∷ 0x3E ∷ 0x20 ∷ 0x61 ∷ []) [] [])) (numbers (0x0A ∷ 0x3E ∷ 0x20 ∷ 0x61 ∷ [])) ∷
     -- the theorem's hypotheses are needed. A fill with an entry inside, twice: piece by piece it is `aabb`, and the plain step would make `abab`
     row (colouredRun (record { job = padEnd 2 inside; room = roomy } ∷ []) (recording [] [] []))
     (colours (under 0x61 [] ∷ under 0x61 [] ∷ under 0x62 ((0x66 ∷ []) ∷ []) ∷ under 0x62 ((0x66 ∷ []) ∷ []) ∷ [])) ∷

@@ -1,14 +1,17 @@
 -- Indenting and taking the indent off again (document 02, Q-3): what the request asks to be shown, of what the calls leave, in any buffers. `proofs/RoundTripLaws.antt` shows it.
+use Prim.Native.Nat.{ℕ}
 use mathlib.Core.Bool.{true, false}
 use mathlib.Core.Path.{_≡_}
 use mathlib.Core.List.{List, [], _∷_}
 use mathlib.Core.Logic.{_≢_}
 use Rattle.recording.specs.Recording.{Bytes, Recording}
 use Rattle.recording.specs.Coloured.{coloured, balanced}
-use Rattle.recording.specs.Outcome.{Room, noRoom}
+use Rattle.recording.specs.declared.Answer.the-variants.{Done}
+use Rattle.recording.specs.Outcome.{Room, noRoom, Lent}
 use Rattle.layout.specs.Wrap.{splitLines}
 use Rattle.layout.specs.Unindent.{hasNewline}
-use Rattle.layout.specs.Layout.{indent, unindent, resultOf, Call, refusal, after}
+use Rattle.layout.specs.Layout.{Job, indent, unindent, resultOf, Call, refusal, after}
+use Rattle.layout.specs.Lent.{frontOf, Leaves}
 
 abbrev pub indentCall : Recording → Room → Call
 indentCall p o = record { job = indent p; room = o }
@@ -37,3 +40,27 @@ pub record RoundTrips (r p : Recording) (o o′ : Room) : Type 0 where
 
 abbrev pub IndentRoundTrips : Type 0
 IndentRoundTrips = (r p : Recording) (o o′ : Room) → RoundTrips r p o o′
+
+-- ── the same of running code: two calls that have kept their promises and were not refused, the second on what the first left at the front of its buffers
+-- b and c are what the buffers of the first and of the second call held before, b′ and c′ after; the numbers are the lengths that they answered
+pub record TwoCalls (first second : Job) (r : Recording) : Type 0 where
+  pub b : Lent
+  pub b′ : Lent
+  pub c : Lent
+  pub c′ : Lent
+  pub d : ℕ
+  pub e : ℕ
+  pub t : ℕ
+  pub d′ : ℕ
+  pub e′ : ℕ
+  pub t′ : ℕ
+  pub one : Leaves first r b b′ (Done d e t 0)
+  pub two : Leaves second (frontOf d e t b′) c c′ (Done d′ e′ t′ 0)
+
+-- what the second call left
+abbrev pub leftBy : {first second : Job} {r : Recording} → TwoCalls first second r → Recording
+leftBy x = frontOf (x .d′) (x .e′) (x .t′) (x .c′)
+
+pub record RunningRoundTrips (r p : Recording) : Type 0 where
+  pub thereAndBack : balanced r ≡ true → balanced p ≡ true → (x : TwoCalls (indent p) (unindent p) r) → coloured (leftBy x) ≡ coloured r
+  pub backAndThere : NoLineIs (p .dataBytes) (splitLines (r .dataBytes)) → (x : TwoCalls (unindent p) (indent p) r) → leftBy x .dataBytes ≡ r .dataBytes
