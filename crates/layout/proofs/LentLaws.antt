@@ -5,12 +5,11 @@ use mathlib.Core.Path.{_≡_, refl, sym, ap, _∙_}
 use lib.Dec.{eqb}
 use lib.ListN.{take}
 use borrow.Author.Tests.{eqb-true, eqb-false}
-use Rattle.recording.specs.declared.Answer.{Answer}
 use Rattle.recording.specs.declared.Answer.the-variants.{Done}
 use Rattle.recording.specs.Recording.{Recording, recording}
-use Rattle.recording.specs.Outcome.{Outcome, refused, done, settle, Lent, lentAfter, Returned, returned, answerOf, Promised}
+use Rattle.recording.specs.Outcome.{Outcome, refused, done, settle, Lent, lentAfter, Returned, returned, answerOf}
 use Rattle.recording.proofs.FaultLaws.{readBack, read-back}
-use Rattle.layout.specs.Layout.{Job, resultOf, Call, refusal, outcome, contentAfter, after}
+use Rattle.layout.specs.Layout.{Job, resultOf, refusal, outcome, contentAfter, after}
 use Rattle.layout.specs.Lent.{frontOf, callIn, Leaves}
 
 module _ (b b′ : Lent) (d e t n : ℕ) where

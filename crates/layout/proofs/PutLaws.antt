@@ -1,4 +1,5 @@
--- What the edits of the layout calls put in: indenting its prefix, taking the indent off nothing, every other call bytes. So what is true of the prefix, or of any bytes, is true of all that is put in (`AllPuts`).
+-- What the edits of the layout calls put in: indenting its prefix, taking the indent off nothing, every other call bytes.
+-- So what is true of the prefix, or of any bytes, is true of all that is put in (`AllPuts`).
 use Prim.Native.Nat.{ℕ}
 use mathlib.Core.Bool.{Bool, true, false, cond, _&&_, not}
 use mathlib.Core.List.{List, [], _∷_, _++_}

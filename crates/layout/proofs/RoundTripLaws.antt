@@ -247,7 +247,8 @@ module _ (r p : Recording) (o : Room) where
   unfolding encode
   data-on z cs e = ap (λ (q : Recording). q .dataBytes) (left-by (indentCall p o) r z) ∙ indented-data r p cs e
 
-  data-off : refusal (unindentCall p o) r ≡ 0 → (cs : List Coloured) → values cs ≡ r .dataBytes → after (unindentCall p o) r .dataBytes ≡ values (unindented (length (coloured p)) (length (coloured p)) cs)
+  data-off : refusal (unindentCall p o) r ≡ 0 → (cs : List Coloured) → values cs ≡ r .dataBytes
+      → after (unindentCall p o) r .dataBytes ≡ values (unindented (length (coloured p)) (length (coloured p)) cs)
   unfolding encode
   data-off z cs e = ap (λ (q : Recording). q .dataBytes) (left-by (unindentCall p o) r z) ∙ unindented-data r p cs e (taken-off z)
 
@@ -285,7 +286,8 @@ within-limits ops is h g z =
 room-numbers : (o : Room) (x : Result) → noRoom o x ≤ 24
 unfolding noRoom
 room-numbers o x =
-    go (ltb (o .dataBytes) (length (x .recording .dataBytes))) (ltb (o .entryNumbers) (length (x .recording .entryNumbers))) (ltb (o .text) (length (x .recording .text))) (ltb (o .lines) (length (x .lines)))
+    go (ltb (o .dataBytes) (length (x .recording .dataBytes))) (ltb (o .entryNumbers) (length (x .recording .entryNumbers)))
+    (ltb (o .text) (length (x .recording .text))) (ltb (o .lines) (length (x .lines)))
   where
     go : (a b c d : Bool) → firstOf (refuseIf a 21 ∷ refuseIf b 22 ∷ refuseIf c 23 ∷ refuseIf d 24 ∷ []) ≤ 24
     go true b c d = omega arith

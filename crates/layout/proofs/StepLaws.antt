@@ -20,7 +20,8 @@ use Rattle.recording.proofs.EditLaws.{Balanced, coloured-append, open-under, ed
 use Rattle.recording.proofs.ItemsLaws.{values-of, values-take, values-drop}
 use Rattle.recording.proofs.Lists.{or-left, or-right}
 use Rattle.layout.specs.Layout.{ownFault, singleOps, trimmedStartPos, cutEnd, cutStart, padding, fillCount, indentOps, wrapOps, replaceOps, writeTruncatedStart}
-use Rattle.layout.specs.Layout.{writeTruncatedEnd, writePaddedStart, writePaddedEnd, writePaddedCentered, writeIndented, writeUnindented, writeWrapped, writeReplaced, writeTabsExpanded, Job, withSecond}
+use Rattle.layout.specs.Layout.{writeTruncatedEnd, writePaddedStart, writePaddedEnd, writePaddedCentered, writeIndented, writeUnindented, writeWrapped, writeReplaced}
+use Rattle.layout.specs.Layout.{writeTabsExpanded, Job, withSecond}
 use Rattle.layout.specs.Layout.{alone, truncateStart, truncateEnd, padStart, padEnd, padCentered, wrap, replace, expandTabs, resultItems, recordsFault, stopFault}
 use Rattle.layout.specs.Plain.{times, withLabels, indented, wrapped, replaced, tabbed, step, toldOf}
 use Rattle.layout.specs.Tabs.{spacesAt, spaces, columnAfter, charOps, tabOps}

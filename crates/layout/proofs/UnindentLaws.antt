@@ -88,7 +88,8 @@ module _ (n : ℕ) where
   Same k d ls = (is : List Item) → edit (lineOps n k ls) is ≡ edit (byteOps n k d) is
 
   -- a byte of the line that is under way
-  same-onto : (b : ℕ) (d : Bytes) (ls : List Bytes) → eqb b 0x0A ≡ false → 0 < length ls → ((k : ℕ) → Enough n k ls → Same k d ls) → (k : ℕ) → Enough n k (ontoFirst b ls) → Same k (b ∷ d) (ontoFirst b ls)
+  same-onto : (b : ℕ) (d : Bytes) (ls : List Bytes) → eqb b 0x0A ≡ false → 0 < length ls
+      → ((k : ℕ) → Enough n k ls → Same k d ls) → (k : ℕ) → Enough n k (ontoFirst b ls) → Same k (b ∷ d) (ontoFirst b ls)
   same-onto b d [] e s f k h is = absurd (omega arith)
   same-onto b d (l ∷ ls) e s f zero h is =
       let z : takenOut 0 l ≡ 0 = taken-none l in

@@ -292,10 +292,18 @@ pins =
     row (call (unindent (recording (0x3E ∷ 0x20 ∷ []) [] [])) roomy (recording [] (0 ∷ 2 ∷ 0 ∷ 1 ∷ []) (0x1B ∷ [])))
     (outcomeOf (done (record { recording = recording [] (0 ∷ 2 ∷ 0 ∷ 1 ∷ []) (0x1B ∷ []); lines = []; number = 0 }))) ∷
     -- unindent: entries at the first byte, inside the prefix, at its end and behind it stay in order
-    row (call (unindent (recording (0x3E ∷ 0x20 ∷ []) [] [])) roomy (recording (0x3E ∷ 0x20 ∷ 0x61 ∷ 0x0A ∷ 0x3E ∷ 0x20 ∷ 0x62 ∷ []) (0 ∷ 0 ∷ 0 ∷ 1 ∷ 1 ∷ 2 ∷ 1 ∷ 1 ∷ 2 ∷ 1 ∷ 0 ∷ 0 ∷ 3 ∷ 0 ∷ 2 ∷ 1 ∷ 4 ∷ 1 ∷ 0 ∷ 0 ∷ 5 ∷ 0 ∷ 0 ∷ 1 ∷ 6 ∷ 1 ∷ 0 ∷ 0 ∷ []) (0x78 ∷ 0x79 ∷ 0x7A ∷ [])))
-    (outcomeOf (done (record { recording = recording (0x61 ∷ 0x0A ∷ 0x62 ∷ []) (0 ∷ 0 ∷ 0 ∷ 1 ∷ 0 ∷ 2 ∷ 1 ∷ 1 ∷ 0 ∷ 1 ∷ 0 ∷ 0 ∷ 1 ∷ 0 ∷ 2 ∷ 1 ∷ 2 ∷ 1 ∷ 0 ∷ 0 ∷ 2 ∷ 0 ∷ 3 ∷ 1 ∷ 2 ∷ 1 ∷ 0 ∷ 0 ∷ []) (0x78 ∷ 0x79 ∷ 0x7A ∷ 0x78 ∷ []); lines = []; number = 0 }))) ∷
+    row (call (unindent (recording (0x3E ∷ 0x20 ∷ []) [] [])) roomy
+    (recording (0x3E ∷ 0x20 ∷ 0x61 ∷ 0x0A ∷ 0x3E ∷ 0x20 ∷ 0x62 ∷ [])
+    (0 ∷ 0 ∷ 0 ∷ 1 ∷ 1 ∷ 2 ∷ 1 ∷ 1 ∷ 2 ∷ 1 ∷ 0 ∷ 0 ∷ 3 ∷ 0 ∷ 2 ∷ 1 ∷ 4 ∷ 1 ∷ 0 ∷ 0 ∷ 5 ∷ 0 ∷ 0 ∷ 1 ∷ 6 ∷ 1 ∷ 0 ∷ 0 ∷ []) (0x78 ∷ 0x79 ∷ 0x7A ∷ [])))
+    (outcomeOf (done (record {
+      recording = recording (0x61 ∷ 0x0A ∷ 0x62 ∷ []) (0 ∷ 0 ∷ 0 ∷ 1 ∷ 0 ∷ 2 ∷ 1 ∷ 1 ∷ 0 ∷ 1 ∷ 0 ∷ 0 ∷ 1 ∷ 0 ∷ 2 ∷ 1 ∷ 2 ∷ 1 ∷ 0 ∷ 0 ∷ 2 ∷ 0 ∷ 3 ∷ 1 ∷ 2 ∷ 1 ∷ 0 ∷ 0 ∷ [])
+          (0x78 ∷ 0x79 ∷ 0x7A ∷ 0x78 ∷ []);
+      lines = [];
+      number = 0;
+    }))) ∷
     -- unindent: the prefix's labels and raw sequences play no part
-    row (call (unindent (recording (0x3E ∷ 0x20 ∷ []) (0 ∷ 0 ∷ 0 ∷ 1 ∷ 1 ∷ 2 ∷ 1 ∷ 1 ∷ 2 ∷ 1 ∷ 0 ∷ 0 ∷ []) (0x78 ∷ 0x1B ∷ []))) roomy (recording (0x3E ∷ 0x20 ∷ 0x61 ∷ []) (0 ∷ 0 ∷ 0 ∷ 1 ∷ 3 ∷ 1 ∷ 0 ∷ 0 ∷ []) (0x79 ∷ [])))
+    row (call (unindent (recording (0x3E ∷ 0x20 ∷ []) (0 ∷ 0 ∷ 0 ∷ 1 ∷ 1 ∷ 2 ∷ 1 ∷ 1 ∷ 2 ∷ 1 ∷ 0 ∷ 0 ∷ []) (0x78 ∷ 0x1B ∷ []))) roomy
+    (recording (0x3E ∷ 0x20 ∷ 0x61 ∷ []) (0 ∷ 0 ∷ 0 ∷ 1 ∷ 3 ∷ 1 ∷ 0 ∷ 0 ∷ []) (0x79 ∷ [])))
     (outcomeOf (done (record { recording = recording (0x61 ∷ []) (0 ∷ 0 ∷ 0 ∷ 1 ∷ 1 ∷ 1 ∷ 0 ∷ 0 ∷ []) (0x79 ∷ []); lines = []; number = 0 }))) ∷
     -- unindent: bytes are compared, not characters
     row (call (unindent (recording (0xE6 ∷ []) [] [])) roomy (recording (0xE6 ∷ 0x9C ∷ 0xA8 ∷ []) [] []))

@@ -1,4 +1,4 @@
--- A call with a second recording on three lent buffers: what its check of both found (`both-refused`, `both-fine`), and that no call of this shape has a line list; a fault of its own (`own-refused`) comes after that check.
+-- A call with a second recording on three lent buffers: what its check of both found (`both-refused`, `both-fine`), then a fault of its own (`own-refused`); it has no line list.
 use mathlib.Core.Path.{_≡_, refl, sym}
 use mathlib.Core.List.{List, []}
 use Prim.Native.Nat.{ℕ, _*_, _≤_}

@@ -10,8 +10,8 @@ use lib.Seq.{take-append-seam, drop-append-seam, drop-at}
 use Rattle.recording.specs.declared.Entry.{Entry}
 use Rattle.recording.specs.Recording.{Bytes, Recording, entriesOf, numbersOf, partOf, Item, byte, push, pop, raw, byteItems, itemOf, itemsFrom, items, dataOf, textOf, entriesFrom, encode}
 use Rattle.recording.specs.Coloured.{Coloured, colouredFrom, coloured, values}
-use Rattle.recording.specs.Edit.{Op, keep, skip, put, labelsAt, under, editColoured, editData}
-use Rattle.recording.proofs.EditLaws.{data-append}
+use Rattle.recording.specs.Edit.{Op, keep, skip, put, edit, labelsAt, under, editColoured, editData}
+use Rattle.recording.proofs.EditLaws.{data-append, edit-data}
 
 pub bytes-append : (a b : Bytes) → byteItems (a ++ b) ≡ byteItems a ++ byteItems b
 bytes-append [] b = refl
@@ -129,3 +129,10 @@ values-edit (keep n ∷ ops) cs = values-append (take n cs) (editColoured ops (d
 values-edit (skip n ∷ ops) cs = values-edit ops (drop n cs) ∙ rw (values-drop n cs)
 values-edit (put p ∷ ops) cs =
     values-append (under (labelsAt cs) (colouredFrom [] p)) (editColoured ops cs) ∙ rw (values-under (labelsAt cs) (colouredFrom [] p), values-coloured [] p, values-edit ops cs)
+
+-- edits that do the same to all items do the same to data
+pub edit-alike : (ops ops′ : List Op) (d : Bytes) → ((is : List Item) → edit ops is ≡ edit ops′ is) → editData ops d ≡ editData ops′ d
+edit-alike ops ops′ d f = sym (on-bytes ops) ∙ ap dataOf (f (byteItems d)) ∙ on-bytes ops′
+  where
+    on-bytes : (x : List Op) → dataOf (edit x (byteItems d)) ≡ editData x d
+    on-bytes x = edit-data x (byteItems d) ∙ ap (λ (e : Bytes). editData x e) (data-bytes d)

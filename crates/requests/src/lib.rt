@@ -96,7 +96,8 @@ pub fn all_fit(calls: &[u32], p: usize, q: usize) -> bool
 
 // ── one call
 
-// One call, chosen by its kind: 0 and 1 truncate at the start and the end; 2, 3 and 4 pad there and on both sides; 5 indents; 6 wraps, 7 wraps and breaks; 8 replaces; 9 expands tabs; all others take the indent off.
+// One call, chosen by its kind: 0 and 1 truncate at the start and the end; 2, 3 and 4 pad there and on both sides; 5 indents; 6 wraps, 7 wraps and breaks; 8 replaces;
+// 9 expands tabs; all others take the indent off.
 // `second` is the ellipsis, fill or prefix; of a replacement its numbers are the records and its data their text. For tabs `width` is the columns between stops.
 fn apply(
     kind: u32,

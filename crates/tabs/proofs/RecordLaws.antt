@@ -15,12 +15,12 @@ use Rattle.chars.specs.Chars.{Character, charAt, charIn, chars, bytesOf, wide}
 use Rattle.chars.proofs.CharsLaws.{bytes-chars, Valid, valid-chars, char-next, chars-end, char-some, char-inside}
 use Rattle.chars.proofs.FoldLaws.{plain}
 use Rattle.buffer.specs.Place.{part}
-use Rattle.recording.specs.Recording.{recording, Item, byteItems, items, dataOf}
+use Rattle.recording.specs.Recording.{recording, Item, byteItems, items}
 use Rattle.recording.specs.declared.Refusal.the-variants.{TabStop}
 use Rattle.recording.specs.Refusals.{numberOf}
 use Rattle.recording.specs.Edit.{keep, skip, put, front, back, edit, editData}
-use Rattle.recording.proofs.EditLaws.{edit-data, front-back, back-back, front-with-back, front-add, back-add}
-use Rattle.recording.proofs.ItemsLaws.{data-bytes}
+use Rattle.recording.proofs.EditLaws.{front-back, back-back, front-with-back, front-add, back-add}
+use Rattle.recording.proofs.ItemsLaws.{edit-alike}
 use Rattle.layout.specs.declared.Replacement.{Replacement}
 use Rattle.layout.specs.Tabs.{spacesAt, spaces, leadsWith, columnAfter, tabOps}
 use Rattle.layout.specs.Layout.{replaceOps, badRecord, recordsFault, stopFault}
@@ -174,8 +174,7 @@ module _ (s : ℕ) (low : 1 ≤ s) (high : s ≤ 64) where
   expanded-size ds =
       let ops = tabOps s 0 (chars ds) in
       let xs : List Replacement = tabRecords s 0 0 (chars ds) in
-      let e : editData ops ds ≡ editData (replaceOps (spaces 64) 0 xs) ds =
-      sym (edit-data ops (byteItems ds) ∙ rw (data-bytes ds)) ∙ ap dataOf (as-replaced (chars ds) (byteItems ds)) ∙ edit-data (replaceOps (spaces 64) 0 xs) (byteItems ds) ∙ rw (data-bytes ds) in
+      let e : editData ops ds ≡ editData (replaceOps (spaces 64) 0 xs) ds = edit-alike ops (replaceOps (spaces 64) 0 xs) ds (as-replaced (chars ds)) in
       ap length e ∙ size-law ds (spaces 64) 0 xs (omega arith) (tabs-good ds) (tabs-only 0 0 (chars ds)) ∙ omega arith
 
 -- ── from place to place

@@ -10,10 +10,9 @@ use lib.Dec.{eqb}
 use lib.ListN.{length, drop, getD, length-drop, drop-of-length-le}
 use lib.Seq.{drop-cons, drop-drop}
 use borrow.Author.Tests.{eqb-true}
-use Rattle.recording.specs.Recording.{Bytes, Item, byteItems, dataOf}
-use Rattle.recording.specs.Edit.{Op, keep, skip, front, back, entriesOnly, edit, editData}
-use Rattle.recording.proofs.EditLaws.{edit-data, front-with-back}
-use Rattle.recording.proofs.ItemsLaws.{data-bytes}
+use Rattle.recording.specs.Recording.{Bytes, Item}
+use Rattle.recording.specs.Edit.{Op, keep, skip, front, back, entriesOnly, edit}
+use Rattle.recording.proofs.EditLaws.{front-with-back}
 use Rattle.recording.proofs.Lists.{and-left, and-right, or-left, or-right}
 use Rattle.layout.specs.Wrap.{ontoFirst, splitLines}
 use Rattle.layout.specs.Unindent.{hasNewline, beginsWith, allBegin}
@@ -51,7 +50,8 @@ none-skipped : (n k : ℕ) (d : Bytes) (is : List Item) → edit (skip 0 ∷ byt
 none-skipped n k d is = ap (λ (l : List Item). l ++ edit (byteOps n k d) (back 0 is)) (only-entries is) ∙ none-kept n k d is
 
 -- up to the next line that is not empty all bytes stay
-pub plan-pass : (n : ℕ) (start : Bool) (d : Bytes) (is : List Item) → toNext start d < length d → edit (byteOps n (due n start) d) is ≡ edit (keep (toNext start d) ∷ byteOps n n (drop (toNext start d) d)) is
+pub plan-pass : (n : ℕ) (start : Bool) (d : Bytes) (is : List Item) → toNext start d < length d
+    → edit (byteOps n (due n start) d) is ≡ edit (keep (toNext start d) ∷ byteOps n n (drop (toNext start d) d)) is
 unfolding toNext
 plan-pass n start [] is h = absurd (omega arith)
 plan-pass n start (b ∷ d) is h = go (start && not (eqb b 0x0A)) refl h (λ g. plan-pass n (eqb b 0x0A) d (back 1 is) g)
@@ -99,11 +99,6 @@ plan-off n (suc k) (b ∷ d) is h = go (eqb b 0x0A) h (λ g. plan-off n k d (bac
     go false g f =
         let z : 1 + k ≡ suc k = omega arith in
         ap (λ (l : List Item). entriesOnly (front 1 is) ++ l) (f (omega arith)) ∙ skipped-more 1 k (byteOps n 0 (drop k d)) is ∙ ap (λ (j : ℕ). edit (skip j ∷ byteOps n 0 (drop k d)) is) z
-
--- edits that are the same of all items are the same of data
-pub on-data : (ops ops′ : List Op) (d : Bytes) → ((is : List Item) → edit ops is ≡ edit ops′ is) → editData ops d ≡ editData ops′ d
-on-data ops ops′ d f =
-    ap (λ (x : Bytes). editData ops x) (sym (data-bytes d)) ∙ sym (edit-data ops (byteItems d)) ∙ ap dataOf (f (byteItems d)) ∙ edit-data ops′ (byteItems d) ∙ ap (λ (x : Bytes). editData ops′ x) (data-bytes d)
 
 -- ── the first line of a text, and whether it begins with the prefix
 abbrev firstOne : List Bytes → Bytes
@@ -161,7 +156,9 @@ begin-step p start b d h = go start (eqb b 0x0A) refl h
     go false false e g = ap (allBegin p) (later-lines b d e)
 
 begin-here : (p : Bytes) (b : ℕ) (d : Bytes) → hasNewline p ≡ false → eqb b 0x0A ≡ false → allBegin p (splitLines (b ∷ d)) ≡ (beginsWith p (b ∷ d) && allBegin p (drop 1 (splitLines (b ∷ d))))
-begin-here p b d h e = ap (allBegin p) z ∙ go (splitLines d) (some-lines d) ∙ (λ i. (ap (λ (ls : List Bytes). beginsWith p (firstOne ls)) (sym z) ∙ begins-line p (b ∷ d) h) i && allBegin p (drop 1 (sym z i)))
+begin-here p b d h e =
+    ap (allBegin p) z ∙ go (splitLines d) (some-lines d)
+    ∙ (λ i. (ap (λ (ls : List Bytes). beginsWith p (firstOne ls)) (sym z) ∙ begins-line p (b ∷ d) h) i && allBegin p (drop 1 (sym z i)))
   where
     z : splitLines (b ∷ d) ≡ ontoFirst b (splitLines d)
     z = rw e

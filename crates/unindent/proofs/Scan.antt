@@ -11,13 +11,14 @@ use Rattle.recording.specs.declared.Refusal.the-variants.{PrefixMissing}
 use Rattle.recording.specs.Recording.{Bytes}
 use Rattle.recording.specs.Edit.{keep, skip, editData}
 use Rattle.recording.specs.Refusals.{numberOf}
+use Rattle.recording.proofs.ItemsLaws.{edit-alike}
 use Rattle.layout.specs.Wrap.{splitLines}
 use Rattle.layout.specs.Unindent.{unindentOps, hasNewline, beginsWith, allBegin, prefixFault}
 use Rattle.layout.proofs.LineLaws.{linesAt}
 use Rattle.layout.proofs.UnindentLaws.{byteOps, by-bytes, begin-long, prefix-fits}
 use Rattle.indent.specs.Lines.{toNext}
 use Rattle.unindent.proofs.Laws as laws
-use Rattle.unindent.proofs.Laws.{due, on-data, plan-pass, plan-off, plan-last, begin-last}
+use Rattle.unindent.proofs.Laws.{due, plan-pass, plan-off, plan-last, begin-last}
 
 -- at is the first byte of the next line that is not empty
 pub record Scan (p d : Bytes) (size at : ℕ) : Type 0 where
@@ -64,16 +65,17 @@ module _ (p d : Bytes) (one-line : hasNewline p ≡ false) (size at : ℕ) (s : 
 
       before : length (take ahead rest) ≡ ahead
       before =
-          omega (arith, ap length (take-append-drop ahead rest), length-append (take ahead rest) (drop ahead rest), length-drop ahead rest, laws.ahead p d one-line (s .from) (s .start) at (s .next) more)
+          let far = laws.ahead p d one-line (s .from) (s .start) at (s .next) more in
+          omega (arith, ap length (take-append-drop ahead rest), length-append (take ahead rest) (drop ahead rest), length-drop ahead rest, far)
 
       -- the bytes up to the line stay, and the prefix goes
       edited : editData (byteOps n (due n (s .start)) rest) rest ≡ take ahead rest ++ editData (byteOps n 0 (drop (at + n) d)) (drop (at + n) d)
       edited =
-          on-data (byteOps n (due n (s .start)) rest) (keep ahead ∷ byteOps n n (drop ahead rest)) rest
+          edit-alike (byteOps n (due n (s .start)) rest) (keep ahead ∷ byteOps n n (drop ahead rest)) rest
           (λ is. plan-pass n (s .start) rest is (laws.ahead p d one-line (s .from) (s .start) at (s .next) more))
           ∙ ap (λ (x : Bytes). take ahead rest ++ editData (byteOps n n x) x) here
           ∙ ap (λ (x : Bytes). take ahead rest ++ x)
-          (on-data (byteOps n n (drop at d)) (skip n ∷ byteOps n 0 (drop n (drop at d))) (drop at d)
+          (edit-alike (byteOps n n (drop at d)) (skip n ∷ byteOps n 0 (drop n (drop at d))) (drop at d)
           (λ is. plan-off n n (drop at d) is (laws.no-break p d one-line (s .from) (s .start) at (s .next) more b))
           ∙ ap (λ (x : Bytes). editData (byteOps n 0 x) x) (drop-drop n at d))
 
@@ -108,7 +110,7 @@ module _ (p d : Bytes) (one-line : hasNewline p ≡ false) (size at : ℕ) (s : 
 
     pub scan-size : size ≡ length (editData (unindentOps n (splitLines d)) d)
     scan-size =
-        let last : editData (byteOps n (due n (s .start)) rest) rest ≡ rest = on-data (byteOps n (due n (s .start)) rest) [] rest (λ is. plan-last n (s .start) rest is over) in
+        let last : editData (byteOps n (due n (s .start)) rest) rest ≡ rest = edit-alike (byteOps n (due n (s .start)) rest) [] rest (λ is. plan-last n (s .start) rest is over) in
         let lines : editData (unindentOps n (splitLines d)) d ≡ editData (byteOps n n d) d =
-        on-data (unindentOps n (splitLines d)) (byteOps n n d) d (λ is. by-bytes n d (begin-long p (splitLines d) all-begin) is) in
+        edit-alike (unindentOps n (splitLines d)) (byteOps n n d) d (λ is. by-bytes n d (begin-long p (splitLines d) all-begin) is) in
         omega (arith, s .size-is, s .total, ap length last, ap length lines)

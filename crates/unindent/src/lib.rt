@@ -75,7 +75,7 @@ fn left_len(content: &[u8], prefix: &[u8]) -> Checked
     Checked::Fine(size)
 }
 
-// Writes the content without the first `n` bytes of every line that is not empty. The entries among them stay, before what is left of the line.
+// Writes the content without the prefix's bytes, with which every line that is not empty begins. The entries among them stay, before what is left of the line.
 fn put_unindented(
     bytes: &mut [u8],
     numbers: &mut [u32],

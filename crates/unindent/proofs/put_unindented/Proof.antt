@@ -6,7 +6,7 @@ use mathlib.Core.List.{List}
 use lib.ListN.{length}
 use Rattle.recording.specs.Recording.{recording, Item, items}
 use Rattle.recording.specs.Edit.{edit}
-use Rattle.writer.specs.Write.{out, add, blank, Fits}
+use Rattle.writer.specs.Write.{Out, out, add, blank, Fits}
 use Rattle.writer.proofs.Laws.{Long}
 use Rattle.layout.specs.Wrap.{splitLines}
 use Rattle.layout.specs.Unindent.{unindentOps}
@@ -49,15 +49,24 @@ ended c = c .before .before .before .before
 fits : (s : tie.Start Inv-loop μ-loop) → Indented (s .args .prefix .now) (s .args .content .now)
 fits s = no-prefix-fault (s .args .prefix .now) (s .args .content .now) (s .pre .0 .1)
 
--- the edit line by line and byte by byte
-same : (s : tie.Start Inv-loop μ-loop) → edit (unindentOps (length (s .args .prefix .now)) (splitLines (s .args .content .now))) (items (recording (s .args .content .now) (s .args .entries .now) (s .args .text .now)))
-    ≡ whole (s .args .prefix .now) (s .args .content .now) (s .args .entries .now) (s .args .text .now)
+-- the content's items, and the buffers at entry
+abbrev is : tie.Start Inv-loop μ-loop → List Item
+is s = items (recording (s .args .content .now) (s .args .entries .now) (s .args .text .now))
+
+abbrev empty : tie.Start Inv-loop μ-loop → Out
+empty s = blank (s .args .bytes .now) (s .args .numbers .now) (s .args .texts .now)
+
+-- what is written, byte by byte; and that it is the edit line by line
+abbrev all : tie.Start Inv-loop μ-loop → List Item
+all s = whole (s .args .prefix .now) (s .args .content .now) (s .args .entries .now) (s .args .text .now)
+
+same : (s : tie.Start Inv-loop μ-loop) → edit (unindentOps (length (s .args .prefix .now)) (splitLines (s .args .content .now))) (is s) ≡ all s
 same s =
     let a = s .args in
-    by-bytes (length (a .prefix .now)) (a .content .now) (begin-long (a .prefix .now) (splitLines (a .content .now)) (fits s .all)) (items (recording (a .content .now) (a .entries .now) (a .text .now)))
+    by-bytes (length (a .prefix .now)) (a .content .now) (begin-long (a .prefix .now) (splitLines (a .content .now)) (fits s .all)) (is s)
 
-room : (s : tie.Start Inv-loop μ-loop) → Fits (whole (s .args .prefix .now) (s .args .content .now) (s .args .entries .now) (s .args .text .now)) (blank (s .args .bytes .now) (s .args .numbers .now) (s .args .texts .now))
-room s = subst (λ (is : List Item). Fits is (blank (s .args .bytes .now) (s .args .numbers .now) (s .args .texts .now))) (same s) (s .pre .1)
+room : (s : tie.Start Inv-loop μ-loop) → Fits (all s) (empty s)
+room s = subst (λ (x : List Item). Fits x (empty s)) (same s) (s .pre .1)
 
 -- the prefix ends within the data
 inner : (t : tie.In-loop Inv-loop μ-loop) → t .before .loop .p + length (start (t .before) .args .prefix .now) ≤ length (start (t .before) .args .content .now)
@@ -131,7 +140,7 @@ keep-requires-2 c κs =
     (s .ready, ((here _ _ _ _ (fits z .one-line) _ _ _ _ s (room z) (l .loop-test .left), omega arith), room-last _ _ _ _ (fits z .one-line) _ _ _ _ s (room z) (l .loop-test .left)))
 
 -- the buffers are as long as they were
-longer : (l : tie.At-loop Inv-loop μ-loop) → Long (out (l .loop .bytes) (l .loop .numbers) (l .loop .texts) (l .loop .c)) (blank (start l .args .bytes .now) (start l .args .numbers .now) (start l .args .texts .now))
+longer : (l : tie.At-loop Inv-loop μ-loop) → Long (out (l .loop .bytes) (l .loop .numbers) (l .loop .texts) (l .loop .c)) (empty (start l))
 longer l = long-now _ _ _ _ (fits (start l) .one-line) _ _ _ _ (l .loop .inv) (room (start l))
 
 same-length : tie.Need-same-length Inv-loop μ-loop
@@ -152,7 +161,7 @@ returns c =
     let l = ended k in
     let z = start (l .before) in
     finish _ _ _ _ (fits z .one-line) _ _ _ _ (l .before .loop .inv) (room z) (l .loop-test .left) _ (k .keep2 .ensures .0)
-    ∙ ap (λ (is : List Item). add is (blank (z .args .bytes .now) (z .args .numbers .now) (z .args .texts .now))) (sym (same z))
+    ∙ ap (λ (x : List Item). add x (empty z)) (sym (same z))
 
 pub put-unindented-spec : {M : Type 1} → statement M
 put-unindented-spec =
