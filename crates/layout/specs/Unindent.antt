@@ -14,7 +14,7 @@ abbrev pub takenOut : ℕ → Bytes → ℕ
 takenOut n [] = 0
 takenOut n (b ∷ l) = n
 
--- at the first byte of every line that is not empty the prefix's n bytes are skipped; the rest of the line stays, and its 0A
+-- at the first byte of every line that is not empty the prefix's n bytes are skipped; the rest of the line stays, and its 0A (the last line has none, and `keep` keeps what there is)
 abbrev pub unindentOps : ℕ → List Bytes → List Op
 unindentOps n [] = []
 unindentOps n (l ∷ ls) = skip (takenOut n l) ∷ keep (suc (length l - takenOut n l)) ∷ unindentOps n ls
