@@ -100,11 +100,12 @@ new-line p (l ∷ ls) z h = ((refl, go l (h .0) (h .1 .0)), h .1 .1)
     go [] e g = inl (refl, refl)
     go (b ∷ l) e g = inr (e, g)
 
--- the prefix is not yet over where its line is
+-- a line that begins with q and is not q does not end where q begins
 not-over : (q : Bytes) → beginsWith q [] ≡ true → ([] ≢ q) → ⊥
 not-over [] h g = g refl
 not-over (b ∷ q) h g = false≢true h
 
+-- x is the prefix
 module _ (x : List Coloured) where
   abbrev n : ℕ
   n = length x
