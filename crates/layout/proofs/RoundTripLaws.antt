@@ -105,6 +105,10 @@ not-over : (q : Bytes) → beginsWith q [] ≡ true → ([] ≢ q) → ⊥
 not-over [] h g = g refl
 not-over (b ∷ q) h g = false≢true h
 
+begins-self : (q l : Bytes) → beginsWith q (q ++ l) ≡ true
+begins-self [] l = refl
+begins-self (b ∷ q) l = rw (eq-eqb b b refl) (begins-self q l)
+
 -- x is the prefix
 module _ (x : List Coloured) where
   abbrev n : ℕ
@@ -178,10 +182,6 @@ module _ (x : List Coloured) where
       go false e g f = onto (splitLines (values cs)) refl e f g
 
   -- ── what is indented has the prefix at the start of every line that is not empty
-  begins-self : (q l : Bytes) → beginsWith q (q ++ l) ≡ true
-  begins-self [] l = refl
-  begins-self (b ∷ q) l = rw (eq-eqb b b refl) (begins-self q l)
-
   nil-or : (l : Bytes) → beginsWith p l ≡ true → (isNil l || beginsWith p l) ≡ true
   nil-or [] h = refl
   nil-or (b ∷ l) h = h

@@ -4,14 +4,14 @@ use Prim.Native.Nat.{ℕ, zero, suc, _+_, _-_, _≤_, _<_}
 use native.Mathlib.Omega.{arith}
 use mathlib.Core.Bool.{Bool, true, false, cond, _||_, not, false≢true}
 use mathlib.Core.Path.{_≡_, refl, sym, ap, _∙_}
-use mathlib.Core.List.{List, [], _∷_, _++_, append-assoc}
+use mathlib.Core.List.{List, [], _∷_, _++_}
 use lib.Dec.{eqb}
 use lib.ListN.{length}
-use Rattle.recording.specs.Recording.{Bytes, Item, byte, push, pop, raw, isNil}
+use Rattle.recording.specs.Recording.{Bytes, Item, isNil}
 use Rattle.recording.specs.Coloured.{Coloured, values}
 use Rattle.recording.specs.Edit.{Op, keep, skip, front, back, entriesOnly, edit, editColoured}
 use Rattle.recording.specs.Refusals.{refuseIf}
-use Rattle.recording.proofs.EditLaws.{AllPuts, front-with-back, front-add, back-add}
+use Rattle.recording.proofs.EditLaws.{AllPuts, front-with-back, kept-more, skipped-more, skip-none}
 use Rattle.recording.proofs.FaultLaws.{firstOf-zero, refuseIf-zero}
 use Rattle.recording.proofs.Lists.{and-left, and-right, not-false}
 use Rattle.layout.specs.Plain.{unindented}
@@ -47,36 +47,9 @@ all-enough : (n : ℕ) (ls : List Bytes) → Long n ls → Enough n n ls
 all-enough n [] h = tt
 all-enough n (l ∷ ls) h = h
 
--- ── entries alone
-only-append : (a b : List Item) → entriesOnly (a ++ b) ≡ entriesOnly a ++ entriesOnly b
-only-append [] b = refl
-only-append (byte x ∷ a) b = only-append a b
-only-append (push l ∷ a) b = ap (λ (r : List Item). push l ∷ r) (only-append a b)
-only-append (pop ∷ a) b = ap (λ (r : List Item). pop ∷ r) (only-append a b)
-only-append (raw t ∷ a) b = ap (λ (r : List Item). raw t ∷ r) (only-append a b)
-
--- before the next byte there are only entries
-pub only-entries : (is : List Item) → entriesOnly (front 0 is) ≡ front 0 is
-only-entries [] = refl
-only-entries (byte x ∷ is) = refl
-only-entries (push l ∷ is) = ap (λ (r : List Item). push l ∷ r) (only-entries is)
-only-entries (pop ∷ is) = ap (λ (r : List Item). pop ∷ r) (only-entries is)
-only-entries (raw t ∷ is) = ap (λ (r : List Item). raw t ∷ r) (only-entries is)
-
--- ── steps put together
-pub kept-more : (m n : ℕ) (ops : List Op) (is : List Item) → edit (keep m ∷ keep n ∷ ops) is ≡ edit (keep (m + n) ∷ ops) is
-kept-more m n ops is =
-    sym (append-assoc (front m is) (front n (back m is)) (edit ops (back n (back m is)))) ∙ (λ i. sym (front-add m n is) i ++ edit ops (sym (back-add m n is) i))
-
-pub skipped-more : (m n : ℕ) (ops : List Op) (is : List Item) → edit (skip m ∷ skip n ∷ ops) is ≡ edit (skip (m + n) ∷ ops) is
-skipped-more m n ops is =
-    sym (append-assoc (entriesOnly (front m is)) (entriesOnly (front n (back m is))) (edit ops (back n (back m is))))
-    ∙ (λ i. (sym (only-append (front m is) (front n (back m is))) ∙ ap entriesOnly (sym (front-add m n is))) i ++ edit ops (sym (back-add m n is) i))
-
+-- nothing is skipped before what is kept
 none-skipped : (n : ℕ) (ops : List Op) (is : List Item) → edit (skip 0 ∷ keep n ∷ ops) is ≡ edit (keep n ∷ ops) is
-none-skipped n ops is =
-    let z : 0 + n ≡ n = omega arith in
-    ap (λ (l : List Item). l ++ edit (keep n ∷ ops) (back 0 is)) (only-entries is) ∙ kept-more 0 n ops is ∙ ap (λ (m : ℕ). edit (keep m ∷ ops) is) z
+none-skipped n ops is = let z : 0 + n ≡ n = omega arith in skip-none (keep n ∷ ops) is ∙ kept-more 0 n ops is ∙ ap (λ (m : ℕ). edit (keep m ∷ ops) is) z
 
 taken-none : (l : Bytes) → takenOut 0 l ≡ 0
 taken-none [] = refl

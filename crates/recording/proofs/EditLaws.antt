@@ -3,8 +3,8 @@
 use Prim.Native.Nat.{ℕ, zero, suc, _+_, _-_}
 use native.Mathlib.Nat.{zero-add, suc-add}
 use mathlib.Core.Bool.{true, false≢true}
-use mathlib.Core.Path.{_≡_, refl, ap}
-use mathlib.Core.List.{List, [], _∷_, _++_, reverse, tail, reverse-append}
+use mathlib.Core.Path.{_≡_, refl, sym, ap, _∙_}
+use mathlib.Core.List.{List, [], _∷_, _++_, reverse, tail, append-assoc, reverse-append}
 use lib.ListN.{length, take, drop}
 use Rattle.recording.specs.Recording.{Bytes, Item, byte, push, pop, raw, dataOf}
 use Rattle.recording.specs.Coloured.{Coloured, colouredFrom, balancedFrom}
@@ -255,3 +255,30 @@ back-add (suc m) n (byte b ∷ is) = rw (suc-add m n) (back-add m n is)
 back-add m n (push l ∷ is) = back-add m n is
 back-add m n (pop ∷ is) = back-add m n is
 back-add m n (raw t ∷ is) = back-add m n is
+
+-- ── steps put together: of two that keep or skip one is made, and before the next byte skipping is keeping
+only-append : (a b : List Item) → entriesOnly (a ++ b) ≡ entriesOnly a ++ entriesOnly b
+only-append [] b = refl
+only-append (byte x ∷ a) b = only-append a b
+only-append (push l ∷ a) b = ap (λ (r : List Item). push l ∷ r) (only-append a b)
+only-append (pop ∷ a) b = ap (λ (r : List Item). pop ∷ r) (only-append a b)
+only-append (raw t ∷ a) b = ap (λ (r : List Item). raw t ∷ r) (only-append a b)
+
+only-entries : (is : List Item) → entriesOnly (front 0 is) ≡ front 0 is
+only-entries [] = refl
+only-entries (byte x ∷ is) = refl
+only-entries (push l ∷ is) = ap (λ (r : List Item). push l ∷ r) (only-entries is)
+only-entries (pop ∷ is) = ap (λ (r : List Item). pop ∷ r) (only-entries is)
+only-entries (raw t ∷ is) = ap (λ (r : List Item). raw t ∷ r) (only-entries is)
+
+pub kept-more : (m n : ℕ) (ops : List Op) (is : List Item) → edit (keep m ∷ keep n ∷ ops) is ≡ edit (keep (m + n) ∷ ops) is
+kept-more m n ops is =
+    sym (append-assoc (front m is) (front n (back m is)) (edit ops (back n (back m is)))) ∙ (λ i. sym (front-add m n is) i ++ edit ops (sym (back-add m n is) i))
+
+pub skipped-more : (m n : ℕ) (ops : List Op) (is : List Item) → edit (skip m ∷ skip n ∷ ops) is ≡ edit (skip (m + n) ∷ ops) is
+skipped-more m n ops is =
+    sym (append-assoc (entriesOnly (front m is)) (entriesOnly (front n (back m is))) (edit ops (back n (back m is))))
+    ∙ (λ i. (sym (only-append (front m is) (front n (back m is))) ∙ ap entriesOnly (sym (front-add m n is))) i ++ edit ops (sym (back-add m n is) i))
+
+pub skip-none : (ops : List Op) (is : List Item) → edit (skip 0 ∷ ops) is ≡ edit (keep 0 ∷ ops) is
+skip-none ops is = ap (λ (l : List Item). l ++ edit ops (back 0 is)) (only-entries is)

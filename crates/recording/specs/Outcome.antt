@@ -35,7 +35,7 @@ pub record Faults : Type 0 where
   pub added : ℕ
   -- 7: plain text or its ellipsis
   pub plain : ℕ
-  -- the refusals of one call alone, in that call's order: 8 of the replacement records
+  -- the refusals of one call alone, in that call's order: 8 of the replacement records, and document 02's from 31 on
   pub own : ℕ
 
 -- 9: a result over a limit of the recording

@@ -6,7 +6,7 @@ use native.Mathlib.Numerals.{add-one}
 use native.Mathlib.Omega.{arith}
 use mathlib.Core.Bool.{Bool, true, false, cond}
 use mathlib.Core.Path.{_≡_, refl, sym, ap, subst, _∙_}
-use mathlib.Core.List.{List, [], _∷_, _++_, append-assoc}
+use mathlib.Core.List.{List, [], _∷_, _++_}
 use lib.Dec.{eqb}
 use lib.ListN.{length, take, drop, getD, length-append, length-drop, drop-of-length-le}
 use lib.Seq.{drop-cons}
@@ -19,7 +19,7 @@ use Rattle.recording.specs.Recording.{recording, Item, byteItems, items}
 use Rattle.recording.specs.declared.Refusal.the-variants.{TabStop}
 use Rattle.recording.specs.Refusals.{numberOf}
 use Rattle.recording.specs.Edit.{keep, skip, put, front, back, edit, editData}
-use Rattle.recording.proofs.EditLaws.{front-back, back-back, front-with-back, front-add, back-add}
+use Rattle.recording.proofs.EditLaws.{front-back, back-back, front-with-back, kept-more}
 use Rattle.recording.proofs.ItemsLaws.{edit-alike}
 use Rattle.layout.specs.declared.Replacement.{Replacement}
 use Rattle.layout.specs.Tabs.{spacesAt, spaces, leadsWith, columnAfter, tabOps}
@@ -57,10 +57,7 @@ kept-none s c (ch ∷ cs) is = go (leadsWith 0x09 ch)
     go : (t : Bool) → edit (keep 0 ∷ cond t (put p ∷ skip 1 ∷ []) (keep n ∷ []) ++ tabOps s (columnAfter s c ch) cs) is
         ≡ edit (cond t (put p ∷ skip 1 ∷ []) (keep n ∷ []) ++ tabOps s (columnAfter s c ch) cs) is
     go true = rw (front-back 0 is, back-back 0 is)
-    go false =
-        let z : 0 + n ≡ n = omega arith in
-        sym (append-assoc (front 0 is) (front n (back 0 is)) (later (back n (back 0 is))))
-        ∙ (λ i. sym (front-add 0 n is) i ++ later (sym (back-add 0 n is) i)) ∙ ap (λ (m : ℕ). front m is ++ later (back m is)) z
+    go false = let z : 0 + n ≡ n = omega arith in kept-more 0 n (tabOps s (columnAfter s c ch) cs) is ∙ ap (λ (m : ℕ). front m is ++ later (back m is)) z
 
 -- ── the records from a character on: its own, if it is a tab, and those of the characters after it
 module _ (s c at : ℕ) (ch : Character) (cs : List Character) where
@@ -109,9 +106,7 @@ module _ (s : ℕ) (low : 1 ≤ s) (high : s ≤ 64) where
           rw (o, part-spaces k 64 (omega (arith, some-spaces s c low .1, high)), e)
       go false f g =
           let w : here + n - at ≡ a + n = omega (arith, h) in
-          sym (append-assoc (front a is) (front n (back a is)) (edit (tabOps s c′ cs) (back n (back a is))))
-          ∙ (λ i. sym (front-add a n is) i ++ edit (tabOps s c′ cs) (sym (back-add a n is) i))
-          ∙ (rw w at g)
+          kept-more a n (tabOps s c′ cs) is ∙ (rw w at g)
 
   pub as-replaced : (cs : List Character) (is : List Item) → edit (tabOps s 0 cs) is ≡ edit (replaceOps (spaces 64) 0 (tabRecords s 0 0 cs)) is
   as-replaced cs is = sym (kept-none s 0 cs is) ∙ replaced-from 0 0 0 cs (omega arith) is

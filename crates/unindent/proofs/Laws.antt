@@ -12,12 +12,12 @@ use lib.Seq.{drop-cons, drop-drop}
 use borrow.Author.Tests.{eqb-true}
 use Rattle.recording.specs.Recording.{Bytes, Item}
 use Rattle.recording.specs.Edit.{Op, keep, skip, front, back, entriesOnly, edit}
-use Rattle.recording.proofs.EditLaws.{front-with-back}
+use Rattle.recording.proofs.EditLaws.{front-with-back, kept-more, skipped-more, skip-none}
 use Rattle.recording.proofs.Lists.{and-left, and-right, or-left, or-right}
 use Rattle.layout.specs.Wrap.{ontoFirst, splitLines}
 use Rattle.layout.specs.Unindent.{hasNewline, beginsWith, allBegin}
 use Rattle.layout.proofs.LineLaws.{some-lines, linesAt, later-lines}
-use Rattle.layout.proofs.UnindentLaws.{byteOps, kept-more, skipped-more, only-entries, begins-long}
+use Rattle.layout.proofs.UnindentLaws.{byteOps, begins-long}
 use Rattle.indent.specs.Lines.{toNext, toBreak}
 use Rattle.indent.proofs.Laws.{next-past}
 
@@ -36,7 +36,7 @@ plan-step n true b d h = go n (eqb b 0x0A) refl h
     go zero true e g = rw e
     go (suc k) true e g = rw e
 
--- before the next byte nothing is kept and nothing is skipped
+-- before the next byte nothing is kept
 none-kept : (n k : ℕ) (d : Bytes) (is : List Item) → edit (keep 0 ∷ byteOps n k d) is ≡ edit (byteOps n k d) is
 none-kept n k [] is = front-with-back 0 is
 none-kept n zero (b ∷ d) is = kept-more 0 1 (byteOps n (cond (eqb b 0x0A) n 0) d) is
@@ -44,10 +44,7 @@ none-kept n (suc k) (b ∷ d) is = go (eqb b 0x0A)
   where
     go : (t : Bool) → edit (keep 0 ∷ cond t (keep 1 ∷ byteOps n n d) (skip 1 ∷ byteOps n k d)) is ≡ edit (cond t (keep 1 ∷ byteOps n n d) (skip 1 ∷ byteOps n k d)) is
     go true = kept-more 0 1 (byteOps n n d) is
-    go false = ap (λ (l : List Item). l ++ edit (skip 1 ∷ byteOps n k d) (back 0 is)) (sym (only-entries is)) ∙ skipped-more 0 1 (byteOps n k d) is
-
-none-skipped : (n k : ℕ) (d : Bytes) (is : List Item) → edit (skip 0 ∷ byteOps n k d) is ≡ edit (byteOps n k d) is
-none-skipped n k d is = ap (λ (l : List Item). l ++ edit (byteOps n k d) (back 0 is)) (only-entries is) ∙ none-kept n k d is
+    go false = sym (skip-none (skip 1 ∷ byteOps n k d) is) ∙ skipped-more 0 1 (byteOps n k d) is
 
 -- up to the next line that is not empty all bytes stay
 pub plan-pass : (n : ℕ) (start : Bool) (d : Bytes) (is : List Item) → toNext start d < length d
@@ -89,7 +86,7 @@ plan-last n start (b ∷ d) is h = go (start && not (eqb b 0x0A)) refl h (λ g. 
 -- the bytes that are due go, where no 0A is among them
 pub plan-off : (n k : ℕ) (d : Bytes) (is : List Item) → k ≤ toBreak d → edit (byteOps n k d) is ≡ edit (skip k ∷ byteOps n 0 (drop k d)) is
 unfolding toBreak
-plan-off n zero d is h = sym (none-skipped n 0 d is)
+plan-off n zero d is h = sym (skip-none (byteOps n 0 d) is ∙ none-kept n 0 d is)
 plan-off n (suc k) [] is h = absurd (omega arith)
 plan-off n (suc k) (b ∷ d) is h = go (eqb b 0x0A) h (λ g. plan-off n k d (back 1 is) g)
   where
