@@ -2,7 +2,7 @@
 use native.Mathlib.Omega.{arith}
 use borrow.Author.Needs.{needs}
 use Prim.Native.Nat.{_+_, _-_, _≤_}
-use mathlib.Core.Path.{_≡_, sym, ap, _∙_}
+use mathlib.Core.Path.{_≡_, refl, sym, ap, _∙_}
 use mathlib.Core.Bool.{Bool, _||_, or-false, or-assoc}
 use lib.Dec.{eqb}
 use lib.ListN.{length, drop, getD}
@@ -22,7 +22,7 @@ abbrev μ-loop : tie.MeasureT-loop
     length s - j
 
 loop-holds : tie.Need-loop-holds Inv-loop μ-loop
-loop-holds c = search needs
+loop-holds c = (omega arith, refl)
 
 shared-slice-read-found : tie.Need-shared-slice-read-found Inv-loop μ-loop
 shared-slice-read-found c = search needs
