@@ -2,6 +2,7 @@
 // Pieces and entries go in the order of the recording that is read, and no entry is dropped.
 // `bytes`, `numbers` and `texts` are the lent buffers; `content`, `entries` and `text` the recording that is read.
 // Every step has one equation: the buffers at exit are those at entry with some items put at the ends (`add`).
+// The data goes run by run, each straight to its final place: after it the buffer holds the finished result up to there, and beyond it what it held before (`RunHeld`).
 use buffer::put;
 use recording::Entry;
 use recording::Refusal;
@@ -12,10 +13,12 @@ ghost use Prim.Native.Nat.{_+_, _-_, _≤_, _<_};
 ghost use mathlib.Core.List.{[], _∷_};
 ghost use lib.ListN.{length, drop};
 ghost use Rattle.buffer.specs.Place.{overAt, part};
+ghost use Rattle.buffer.specs.Held.{RunHeld};
 ghost use Rattle.recording.specs.Recording.{recording, entriesOf, numbersOf, items, textOf, entriesFrom};
 ghost use Rattle.recording.specs.Edit.{front, back, entriesOnly};
 ghost use Rattle.recording.specs.Refusals.{badShape, dataLimit, textLimit};
 ghost use Rattle.writer.specs.Write.{out, add, Fits, Ready, Sound, left, placeOf, startOf, itemAt};
+ghost use Rattle.writer.specs.Held.{Stands};
 ghost use Rattle.writer.specs.Sizes.{sizesFault, roomOf, settledFault};
 
 // A place in a content (data offset, index of the next entry's first number), and how far the three buffers are written.
@@ -70,10 +73,30 @@ pub fn put_bytes(bytes: &mut [u8], from: &[u8], a: usize, b: usize, c: Cursor) -
     requires { ⌜ (a ≤ b) × (b ≤ length (now from)) × (c .d + (b - a) ≤ length (now bytes)) ⌝ }
     ensures { λ r. ⌜ (r .at ≡ c .at) × (r .k ≡ c .k) × (r .d ≡ c .d + (b - a)) × (r .e ≡ c .e) × (r .t ≡ c .t) ⌝ }
     ensures { λ r. ⌜ now (bytes .exit) ≡ overAt (c .d) (part a b (now (from .entry))) (now (bytes .entry)) ⌝ }
+    ensures { λ r. ⌜ RunHeld (c .d) (r .d) (part a b (now (from .entry))) (now (bytes .entry)) (now (bytes .exit)) ⌝ }
 {
     let d = put(bytes, c.d, from, a, b);
     Cursor {
         at: c.at,
+        k: c.k,
+        d: d,
+        e: c.e,
+        t: c.t,
+    }
+}
+
+// Writes the next run of a content that is carried on, from c's place up to p, at the data's end.
+// The bytes before it, from the place `from` where the carrying began, have to stand there: so no run can be written before the ones that it follows. `from` is lent for that alone.
+pub fn put_run(bytes: &mut [u8], content: &[u8], from: Cursor, c: Cursor, p: usize) -> Cursor
+    requires { ⌜ Stands from c (now content) (now bytes) ⌝ }
+    requires { ⌜ (c .at ≤ p) × (p ≤ length (now content)) × (c .d + (p - c .at) ≤ length (now bytes)) ⌝ }
+    ensures { λ r. ⌜ (r .at ≡ p) × (r .k ≡ c .k) × (r .d ≡ c .d + (p - c .at)) × (r .e ≡ c .e) × (r .t ≡ c .t) ⌝ }
+    ensures { λ r. ⌜ now (bytes .exit) ≡ overAt (c .d) (part (c .at) p (now (content .entry))) (now (bytes .entry)) ⌝ }
+    ensures { λ r. ⌜ RunHeld (c .d) (r .d) (part (c .at) p (now (content .entry))) (now (bytes .entry)) (now (bytes .exit)) ⌝ }
+{
+    let d = put(bytes, c.d, content, c.at, p);
+    Cursor {
+        at: p,
         k: c.k,
         d: d,
         e: c.e,
@@ -131,24 +154,18 @@ pub fn keep(
     ensures { λ r. ⌜ out (now (bytes .exit)) (now (numbers .exit)) (now (texts .exit)) r ≡ add
         (front (n - from .at) (left (now (content .entry)) (now (entries .entry)) (now (text .entry)) from)) (out (now (bytes .entry)) (now (numbers .entry)) (now (texts .entry)) from) ⌝ }
     ensures { λ r. ⌜ left (now (content .entry)) (now (entries .entry)) (now (text .entry)) r ≡ back (n - from .at) (left (now (content .entry)) (now (entries .entry)) (now (text .entry)) from) ⌝ }
-    ensures { λ r. ⌜ Ready (now (content .entry)) (now (entries .entry)) (now (text .entry)) r × (r .at ≡ n) ⌝ }
+    ensures { λ r. ⌜ Ready (now (content .entry)) (now (entries .entry)) (now (text .entry)) r × (r .at ≡ n)
+        × RunHeld (from .d) (r .d) (part (from .at) n (now (content .entry))) (now (bytes .entry)) (now (bytes .exit)) ⌝ }
 {
     let mut c = from;
     let mut p = place_at(entries, c.k);
     while p <= n {
         let e = entry_at(entries, c.k);
-        c = put_bytes(bytes, content, c.at, p, c);
+        c = put_run(bytes, content, from, c, p);
         c = put_entry(numbers, texts, text, e, c);
         p = place_at(entries, c.k);
     }
-    c = put_bytes(bytes, content, c.at, n, c);
-    Cursor {
-        at: n,
-        k: c.k,
-        d: c.d,
-        e: c.e,
-        t: c.t,
-    }
+    put_run(bytes, content, from, c, n)
 }
 
 // Carries on the entries before the byte n, those at that place included, and leaves the bytes.
@@ -202,7 +219,7 @@ pub fn put_recording(
     requires { ⌜ Fits (items (recording (now content) (now entries) (now text))) (out (now bytes) (now numbers) (now texts) c) ⌝ }
     ensures { λ r. ⌜ out (now (bytes .exit)) (now (numbers .exit)) (now (texts .exit)) r ≡ add (items (recording (now (content .entry)) (now (entries .entry)) (now (text .entry))))
         (out (now (bytes .entry)) (now (numbers .entry)) (now (texts .entry)) c) ⌝ }
-    ensures { λ r. ⌜ (r .at ≡ c .at) × (r .k ≡ c .k) ⌝ }
+    ensures { λ r. ⌜ (r .at ≡ c .at) × (r .k ≡ c .k) × RunHeld (c .d) (r .d) (now (content .entry)) (now (bytes .entry)) (now (bytes .exit)) ⌝ }
 {
     let from = Cursor {
         at: 0,

@@ -1,7 +1,11 @@
--- `put` lends the rest of the buffer to the copying leaf; what comes back is the buffer with the part written from `at` on (`lent-back`).
+-- `put` lends the rest of the buffer to the copying leaf; what comes back is the buffer with the part written from `at` on (`lent-back`), so a run more of a finished result (`run-held`).
 use borrow.Author.Needs.{needs}
-use mathlib.Core.Path.{_∙_}
+use mathlib.Core.Path.{refl, _∙_}
+use mathlib.Core.List.{[], _∷_}
+use Rattle.buffer.specs.LendsOn.{LendsOn, ownArrays, touches, loops, calls}
 use Rattle.buffer.proofs.Laws.{lent-back, copied-over}
+use Rattle.buffer.proofs.HeldLaws.{part-held}
+use Rattle.buffer.proofs.put.Code.Mir as code
 use Rattle.buffer.proofs.put.Statement.{statement}
 use Rattle.buffer.proofs.put.Tie as tie
 use Rattle.buffer.proofs.put.Reads as reads
@@ -39,7 +43,10 @@ same-length : tie.Need-same-length
 same-length c = search needs
 
 returns : tie.Need-returns
-returns c = (search needs, lent-back _ _ _ _ (c .before .before .copy .ensures .1 ∙ copied-over _ _))
+returns c =
+    let a = c .before .before .before .before .before .before .before .args in
+    let copied = lent-back _ _ _ _ (c .before .before .copy .ensures .1 ∙ copied-over _ _) in
+    (search needs, copied, part-held (a .at) _ (a .a) (a .b) (a .src .now) (a .out .now) _ (search needs) copied (search needs))
 
 pub put-spec : {M : Type 1} → statement M
 put-spec =
@@ -56,3 +63,8 @@ put-spec =
     add-result
     same-length
     returns)
+
+-- a run goes by one copy, to its place
+pub put-lends-on : LendsOn code.function [] 0 ("bytes::copy" ∷ [])
+unfolding ownArrays touches loops calls
+put-lends-on = refl

@@ -3,6 +3,9 @@ use native.Mathlib.Omega.{arith}
 use borrow.Author.Needs.{needs}
 use Rattle.writer.proofs.Laws.{entry-written, text-written}
 use mathlib.Core.Path.{refl, _∙_}
+use mathlib.Core.List.{[], _∷_}
+use Rattle.buffer.specs.LendsOn.{LendsOn, ownArrays, touches, loops, calls}
+use Rattle.writer.proofs.put_entry.Code.Mir as code
 use Rattle.writer.proofs.put_entry.Statement.{statement}
 use Rattle.writer.proofs.put_entry.Tie as tie
 use Rattle.writer.proofs.put_entry.Reads as reads
@@ -93,3 +96,8 @@ put-entry-spec =
     same-length
     same-length-2
     returns)
+
+-- the text buffer is lent to one `put` of the entry's text, and neither the content nor the data buffer is lent at all
+pub put-entry-lends-on : LendsOn code.function [] 0 ("writer::start_of" ∷ "writer::set_entry" ∷ "buffer::put" ∷ [])
+unfolding ownArrays touches loops calls
+put-entry-lends-on = refl

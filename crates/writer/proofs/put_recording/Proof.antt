@@ -1,12 +1,16 @@
--- `put_recording`: a `keep` of the whole content from its start (`front-start`, `keep-all`).
+-- `put_recording`: a `keep` of the whole content from its start (`front-start`, `keep-all`), so one run (`added-held`).
 use native.Mathlib.Omega.{arith}
 use borrow.Author.Needs.{needs}
 use Rattle.writer.proofs.Steps.{front-start, ready-start, keep-all}
+use Rattle.writer.proofs.HeldLaws.{added-held}
 use Rattle.writer.specs.Write.{out, add}
-use Rattle.recording.specs.Recording.{Item}
+use Rattle.recording.specs.Recording.{Item, recording, items}
+use Rattle.recording.proofs.ItemsLaws.{data-items}
+use Rattle.buffer.specs.LendsOn.{LendsOn, ownArrays, touches, loops, calls}
 use lib.ListN.{length}
 use mathlib.Core.Path.{refl, ap, _∙_}
-use mathlib.Core.List.{List}
+use mathlib.Core.List.{List, [], _∷_}
+use Rattle.writer.proofs.put_recording.Code.Mir as code
 use Rattle.writer.proofs.put_recording.Statement.{statement}
 use Rattle.writer.proofs.put_recording.Tie as tie
 use Rattle.writer.proofs.put_recording.Reads as reads
@@ -40,8 +44,16 @@ returns c =
     let s = start .args in
     let e = front-start (s .content .now) (s .entries .now) (s .text .now) (record { at = 0; k = 0; d = s .c .d; e = s .c .e; t = s .c .t }) refl refl (length (s .content .now))
     ∙ keep-all (s .content .now) (s .entries .now) (s .text .now) in
-    (at-keep .keep .ensures .0 ∙ ap (λ (x : List Item). add x (out (s .bytes .now) (s .numbers .now) (s .texts .now) (s .c))) e, (refl, refl))
+    let r = recording (s .content .now) (s .entries .now) (s .text .now) in
+    let o = out (s .bytes .now) (s .numbers .now) (s .texts .now) (s .c) in
+    let w = at-keep .keep .ensures .0 ∙ ap (λ (x : List Item). add x o) e in
+    (w, (refl, refl, added-held (items r) (s .content .now) o _ w (data-items r)))
 
 pub put-recording-spec : {M : Type 1} → statement M
 put-recording-spec =
     tie.close (tie.spec keep-requires same-length same-length-2 same-length-3 returns)
+
+-- the bytes go by one `keep`
+pub put-recording-lends-on : LendsOn code.function [] 0 ("writer::keep" ∷ [])
+unfolding ownArrays touches loops calls
+put-recording-lends-on = refl

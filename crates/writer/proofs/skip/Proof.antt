@@ -10,11 +10,13 @@ use Rattle.recording.specs.Edit.{front, back, entriesOnly}
 use Rattle.recording.specs.Recording.{Item, numbersOf, entriesOf, textOf, entriesFrom}
 use Rattle.recording.specs.declared.Entry.{Entry}
 use Rattle.buffer.specs.Place.{overAt, part}
+use Rattle.buffer.specs.LendsOn.{LendsOn, ownArrays, touches, loops, calls}
 use lib.ListN.{length, drop}
 use mathlib.Core.Path.{_≡_, refl, sym, ap, _∙_}
 use mathlib.Core.List.{List, [], _∷_}
 use mathlib.Core.Bool.{false}
 use Prim.Native.Nat.{ℕ, _+_, _-_, _≤_, _<_}
+use Rattle.writer.proofs.skip.Code.Mir as code
 use Rattle.writer.proofs.skip.Statement.{statement}
 use Rattle.writer.proofs.skip.Tie as tie
 use Rattle.writer.proofs.skip.Reads as reads
@@ -185,3 +187,8 @@ skip-spec =
     same-length
     same-length-2
     returns)
+
+-- no call is lent the data buffer or the content
+pub skip-lends-on : LendsOn code.function [] 1 ("writer::place_at" ∷ "recording::entry_at" ∷ "writer::put_entry" ∷ "writer::place_at" ∷ [])
+unfolding ownArrays touches loops calls
+skip-lends-on = refl
