@@ -1,9 +1,10 @@
--- A content written in two steps from its start, bytes and entries in one and the entries alone in the other; and the sizes of what that leaves: no entry is dropped.
+-- A content written in two steps from its start, bytes and entries in one and the entries alone in the other; and the one run of data that it leaves, with its size.
 use mathlib.Core.Path.{_≡_, ap, _∙_}
-use mathlib.Core.List.{List, _++_, append-nil}
+use mathlib.Core.List.{List, [], _++_, append-nil}
 use Prim.Native.Nat.{ℕ, _+_, _-_, _≤_}
 use native.Mathlib.Omega.{arith}
-use lib.ListN.{length, take, drop, length-take, length-drop, length-append}
+use lib.ListN.{length, take, drop, length-drop, drop-of-length-le}
+use lib.Seq.{length-take-le}
 use Rattle.recording.specs.Recording.{recording, Item, items, dataOf}
 use Rattle.recording.specs.Edit.{front, back, entriesOnly, edit}
 use Rattle.recording.proofs.EditLaws.{data-back, edit-data}
@@ -54,15 +55,19 @@ module _ (f g : List Item → List Item) (all : List Item) (ds ns ts : List ℕ)
     pub both : (o₂ : Out) → o₂ ≡ add (g (front (length ds - r .at) (left ds ns ts r))) o₁ → o₂ ≡ add all o
     both o₂ v = then one two all o o₁ o₂ e fits first (v ∙ ap (λ (x : List Item). add x o₁) second)
 
--- ── sizes
+-- ── the run that is kept
 module _ (n : ℕ) (ds ns ts : List ℕ) where
+  pub up-to-run : dataOf (edit (cutEnd n ds) (items (recording ds ns ts))) ≡ take n ds
+  up-to-run =
+      let none : drop (length ds - n) (drop n ds) ≡ [] = drop-of-length-le (drop n ds) {i = length ds - n} (omega (arith, length-drop n ds)) in
+      edit-data (cutEnd n ds) (items (recording ds ns ts)) ∙ ap (λ (d : List ℕ). take n d ++ drop (length ds - n) (drop n d)) (data-items (recording ds ns ts))
+      ∙ ap (λ (x : List ℕ). take n ds ++ x) none ∙ append-nil (take n ds)
+
+  pub from-run : dataOf (edit (cutStart n) (items (recording ds ns ts))) ≡ drop n ds
+  from-run = edit-data (cutStart n) (items (recording ds ns ts)) ∙ ap (λ (d : List ℕ). drop n d) (data-items (recording ds ns ts))
+
   pub up-to-data : n ≤ length ds → length (dataOf (edit (cutEnd n ds) (items (recording ds ns ts)))) ≡ n
-  up-to-data h =
-      ap length (edit-data (cutEnd n ds) (items (recording ds ns ts)))
-      ∙ ap (λ (d : List ℕ). length (take n d ++ drop (length ds - n) (drop n d))) (data-items (recording ds ns ts))
-      ∙ (omega (arith, length-append (take n ds) (drop (length ds - n) (drop n ds)), length-take n ds, length-drop (length ds - n) (drop n ds), length-drop n ds))
+  up-to-data h = ap length up-to-run ∙ length-take-le n ds h
 
   pub from-data : length (dataOf (edit (cutStart n) (items (recording ds ns ts)))) ≡ length ds - n
-  from-data =
-      ap length (edit-data (cutStart n) (items (recording ds ns ts)))
-      ∙ ap (λ (d : List ℕ). length (drop n d)) (data-items (recording ds ns ts)) ∙ length-drop n ds
+  from-data = ap length from-run ∙ length-drop n ds

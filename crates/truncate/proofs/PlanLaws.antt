@@ -57,7 +57,7 @@ uncut true x y h z = absurd (false≢true (sym z ∙ h))
 uncut false x y h z = refl
 
 module _ (max : ℕ) (r e : Recording) (p : Plan) where
-  end-items : p ≡ planEnd max (r .dataBytes) (e .dataBytes) → resultItems (truncateEnd max e) r ≡ endItems p r e
+  pub end-items : p ≡ planEnd max (r .dataBytes) (e .dataBytes) → resultItems (truncateEnd max e) r ≡ endItems p r e
   unfolding endItems planEnd resultItems
   end-items q = sym (ap (λ (x : Plan). endItems x r e) q ∙ end-chosen (ltb max (textWidth (r .dataBytes))) _ _ r e)
 
@@ -65,7 +65,7 @@ module _ (max : ℕ) (r e : Recording) (p : Plan) where
   unfolding planEnd number
   end-number q = width-chosen (ltb max (textWidth (r .dataBytes))) _ _ ∙ sym (ap (λ (x : Plan). x .width) q)
 
-  start-items : p ≡ planStart max (r .dataBytes) (e .dataBytes) → resultItems (truncateStart max e) r ≡ startItems p r e
+  pub start-items : p ≡ planStart max (r .dataBytes) (e .dataBytes) → resultItems (truncateStart max e) r ≡ startItems p r e
   unfolding startItems planStart resultItems
   start-items q = sym (ap (λ (x : Plan). startItems x r e) q ∙ start-chosen (ltb max (textWidth (r .dataBytes))) _ _ r e)
 

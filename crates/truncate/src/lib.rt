@@ -1,5 +1,6 @@
 // The two truncating calls (document 01, module 2): a content wider than max is cut, and an ellipsis stands for what is gone.
 // Each call checks both recordings, measures, asks whether the result fits, and only then writes. No entry is dropped, also not of what is cut.
+// What is kept of content and ellipsis is a run each, and goes once, straight to its final place: after each run the data buffer holds the finished result up to there, and beyond it what it held before.
 // `bytes`, `numbers` and `texts` are the lent buffers; `content`, `entries` and `text` the recording that is cut.
 use chars::LEADS;
 use recording::Answer;
@@ -15,14 +16,16 @@ use writer::put_recording;
 use writer::settle;
 use writer::skip;
 ghost use mathlib.Core.Path.{_≡_};
+ghost use mathlib.Core.Bool.{true};
 ghost use Prim.Native.Nat.{_+_, _-_, _≤_};
-ghost use lib.ListN.{length};
+ghost use lib.ListN.{length, take, drop};
+ghost use Rattle.buffer.specs.Held.{HoldsUpTo, RunHeld};
 ghost use Rattle.recording.specs.Recording.{recording, items};
 ghost use Rattle.recording.specs.Edit.{edit};
 ghost use Rattle.writer.specs.Write.{out, add, Fits, Sound, blank};
 ghost use Rattle.layout.specs.Layout.{cutEnd, cutStart, truncateEnd, truncateStart};
 ghost use Rattle.layout.specs.Lent.{lentOf, Leaves};
-ghost use Rattle.truncate.specs.Planned.{endItems, startItems, plusIf};
+ghost use Rattle.truncate.specs.Planned.{endItems, startItems, finishedEnd, finishedStart, plusIf};
 
 // a, and b more if so.
 fn plus_if(more: bool, a: usize, b: usize) -> usize
@@ -52,6 +55,7 @@ fn put_up_to(
     ensures { λ r. ⌜ out (now (bytes .exit)) (now (numbers .exit)) (now (texts .exit)) r ≡ add
         (edit (cutEnd n (now (content .entry))) (items (recording (now (content .entry)) (now (entries .entry)) (now (text .entry)))))
         (out (now (bytes .entry)) (now (numbers .entry)) (now (texts .entry)) c) ⌝ }
+    ensures { λ r. ⌜ RunHeld (c .d) (r .d) (take n (now (content .entry))) (now (bytes .entry)) (now (bytes .exit)) ⌝ }
 {
     let from = Cursor {
         at: 0,
@@ -89,6 +93,7 @@ fn put_from(
     requires { ⌜ Fits (edit (cutStart n) (items (recording (now content) (now entries) (now text)))) (out (now bytes) (now numbers) (now texts) c) ⌝ }
     ensures { λ r. ⌜ out (now (bytes .exit)) (now (numbers .exit)) (now (texts .exit)) r ≡ add
         (edit (cutStart n) (items (recording (now (content .entry)) (now (entries .entry)) (now (text .entry))))) (out (now (bytes .entry)) (now (numbers .entry)) (now (texts .entry)) c) ⌝ }
+    ensures { λ r. ⌜ RunHeld (c .d) (r .d) (drop n (now (content .entry))) (now (bytes .entry)) (now (bytes .exit)) ⌝ }
 {
     let from = Cursor {
         at: 0,
@@ -108,6 +113,64 @@ fn put_from(
         there,
         content.len(),
     )
+}
+
+// Writes the second run of the end call, what is kept of the ellipsis. The first has to stand in the buffer; the content is lent to say so.
+fn put_end_ellipsis(
+    bytes: &mut [u8],
+    numbers: &mut [u32],
+    texts: &mut [u8],
+    content: &[u8],
+    ellipsis: &[u8],
+    ellipsis_entries: &[u32],
+    ellipsis_text: &[u8],
+    p: Plan,
+    c: Cursor,
+) -> Cursor
+    requires { ⌜ Sound (now ellipsis) (now «ellipsis_entries») (now «ellipsis_text») ⌝ }
+    requires { ⌜ (p .cut ≡ true) × (p .content ≤ length (now content)) × (p .ellipsis ≤ length (now ellipsis)) ⌝ }
+    requires { ⌜ (c .d ≡ p .content) × HoldsUpTo (c .d) (finishedEnd p (now content) (now ellipsis)) (now bytes) (now bytes) ⌝ }
+    requires { ⌜ Fits (edit (cutEnd (p .ellipsis) (now ellipsis)) (items (recording (now ellipsis) (now «ellipsis_entries») (now «ellipsis_text»))))
+        (out (now bytes) (now numbers) (now texts) c) ⌝ }
+    ensures { λ r. ⌜ out (now (bytes .exit)) (now (numbers .exit)) (now (texts .exit)) r ≡ add
+        (edit (cutEnd (p .ellipsis) (now (ellipsis .entry))) (items (recording (now (ellipsis .entry)) (now («ellipsis_entries» .entry)) (now («ellipsis_text» .entry)))))
+        (out (now (bytes .entry)) (now (numbers .entry)) (now (texts .entry)) c) ⌝ }
+    ensures { λ r. ⌜ HoldsUpTo (r .d) (finishedEnd p (now (content .entry)) (now (ellipsis .entry))) (now (bytes .entry)) (now (bytes .exit)) ⌝ }
+{
+    put_up_to(
+        bytes,
+        numbers,
+        texts,
+        ellipsis,
+        ellipsis_entries,
+        ellipsis_text,
+        c,
+        p.ellipsis,
+    )
+}
+
+// Writes the second run of the start call, what is kept of the content. The first has to stand in the buffer; the ellipsis is lent to say so.
+fn put_start_content(
+    bytes: &mut [u8],
+    numbers: &mut [u32],
+    texts: &mut [u8],
+    content: &[u8],
+    entries: &[u32],
+    text: &[u8],
+    ellipsis: &[u8],
+    p: Plan,
+    c: Cursor,
+) -> Cursor
+    requires { ⌜ Sound (now content) (now entries) (now text) ⌝ }
+    requires { ⌜ (p .cut ≡ true) × (p .content ≤ length (now content)) ⌝ }
+    requires { ⌜ (c .d ≡ length (now ellipsis) - p .ellipsis) × HoldsUpTo (c .d) (finishedStart p (now content) (now ellipsis)) (now bytes) (now bytes) ⌝ }
+    requires { ⌜ Fits (edit (cutStart (p .content)) (items (recording (now content) (now entries) (now text)))) (out (now bytes) (now numbers) (now texts) c) ⌝ }
+    ensures { λ r. ⌜ out (now (bytes .exit)) (now (numbers .exit)) (now (texts .exit)) r ≡ add
+        (edit (cutStart (p .content)) (items (recording (now (content .entry)) (now (entries .entry)) (now (text .entry)))))
+        (out (now (bytes .entry)) (now (numbers .entry)) (now (texts .entry)) c) ⌝ }
+    ensures { λ r. ⌜ HoldsUpTo (r .d) (finishedStart p (now (content .entry)) (now (ellipsis .entry))) (now (bytes .entry)) (now (bytes .exit)) ⌝ }
+{
+    put_from(bytes, numbers, texts, content, entries, text, c, p.content)
 }
 
 // Writes what the end call keeps: content, then ellipsis.
@@ -131,6 +194,8 @@ fn put_end(
     ensures { λ r. ⌜ out (now (bytes .exit)) (now (numbers .exit)) (now (texts .exit)) r ≡ add
         (endItems p (recording (now (content .entry)) (now (entries .entry)) (now (text .entry)))
         (recording (now (ellipsis .entry)) (now («ellipsis_entries» .entry)) (now («ellipsis_text» .entry)))) (blank (now (bytes .entry)) (now (numbers .entry)) (now (texts .entry))) ⌝ }
+    ensures { λ r. ⌜ (r .d ≡ length (finishedEnd p (now (content .entry)) (now (ellipsis .entry))))
+        × HoldsUpTo (r .d) (finishedEnd p (now (content .entry)) (now (ellipsis .entry))) (now (bytes .entry)) (now (bytes .exit)) ⌝ }
 {
     let start = Cursor {
         at: 0,
@@ -152,15 +217,16 @@ fn put_end(
         start,
         p.content,
     );
-    put_up_to(
+    put_end_ellipsis(
         bytes,
         numbers,
         texts,
+        content,
         ellipsis,
         ellipsis_entries,
         ellipsis_text,
+        p,
         c,
-        p.ellipsis,
     )
 }
 
@@ -185,6 +251,8 @@ fn put_start(
     ensures { λ r. ⌜ out (now (bytes .exit)) (now (numbers .exit)) (now (texts .exit)) r ≡ add
         (startItems p (recording (now (content .entry)) (now (entries .entry)) (now (text .entry)))
         (recording (now (ellipsis .entry)) (now («ellipsis_entries» .entry)) (now («ellipsis_text» .entry)))) (blank (now (bytes .entry)) (now (numbers .entry)) (now (texts .entry))) ⌝ }
+    ensures { λ r. ⌜ (r .d ≡ length (finishedStart p (now (content .entry)) (now (ellipsis .entry))))
+        × HoldsUpTo (r .d) (finishedStart p (now (content .entry)) (now (ellipsis .entry))) (now (bytes .entry)) (now (bytes .exit)) ⌝ }
 {
     let start = Cursor {
         at: 0,
@@ -215,7 +283,17 @@ fn put_start(
         start,
         p.ellipsis,
     );
-    put_from(bytes, numbers, texts, content, entries, text, c, p.content)
+    put_start_content(
+        bytes,
+        numbers,
+        texts,
+        content,
+        entries,
+        text,
+        ellipsis,
+        p,
+        c,
+    )
 }
 
 // Cuts a content wider than max_width at its end and writes the ellipsis after it. The number is the width kept.

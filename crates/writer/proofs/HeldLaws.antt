@@ -1,14 +1,14 @@
 -- What steps of the writer have written, told by runs: items put at the ends are one run, their data (`added-held`); and where a content is carried on, its bytes up to the cursor stand in order (`stands-done`).
 use mathlib.Core.Path.{_≡_, sym, ap, _∙_}
-use mathlib.Core.List.{List, _++_}
+use mathlib.Core.List.{List, [], _++_, append-nil}
 use Prim.Native.Nat.{ℕ, _+_, _-_, _≤_}
 use native.Mathlib.Omega.{arith}
 use lib.ListN.{length, take, drop, length-append}
 use lib.Seq.{take-take, take-append-seam}
 use Rattle.buffer.specs.Place.{overAt, part}
-use Rattle.buffer.specs.Held.{RunHeld}
+use Rattle.buffer.specs.Held.{HoldsUpTo, RunHeld}
 use Rattle.buffer.proofs.Laws.{length-part}
-use Rattle.buffer.proofs.HeldLaws.{run-held, part-over}
+use Rattle.buffer.proofs.HeldLaws.{run-held, held-none, next-first, part-over}
 use Rattle.recording.specs.declared.Entry.{Entry}
 use Rattle.recording.specs.Recording.{Item, itemsFrom, entriesOf, dataOf}
 use Rattle.recording.specs.Edit.{front}
@@ -24,6 +24,17 @@ unfolding add
 added-held is run o o′ w e =
     run-held (o .d) (o′ .d) run (o .dataBytes) (o′ .dataBytes) (ap (λ (x : Out). x .dataBytes) w ∙ ap (λ (x : List ℕ). overAt (o .d) x (o .dataBytes)) e)
     (ap (λ (x : Out). x .d) w ∙ ap (λ (x : List ℕ). o .d + length x) e)
+
+-- from the start on: the first run of a result, and all of it
+module _ (is : List Item) (o o′ : Out) (z : o .d ≡ 0) (w : o′ ≡ add is o) where
+  pub first-held : (run rest finished : List ℕ) → dataOf is ≡ run → finished ≡ run ++ rest → HoldsUpTo (o′ .d) finished (o .dataBytes) (o′ .dataBytes)
+  unfolding RunHeld
+  first-held run rest finished e f =
+      (rw z at (added-held is run o o′ w e)) finished (o .dataBytes) (held-none finished (o .dataBytes)) (next-first run rest finished f)
+
+  pub all-held : (finished : List ℕ) → dataOf is ≡ finished → (o′ .d ≡ length finished) × HoldsUpTo (o′ .d) finished (o .dataBytes) (o′ .dataBytes)
+  unfolding add
+  all-held finished e = (ap (λ (x : Out). x .d) w ∙ (omega (arith, z, ap length e)), first-held finished [] finished e (sym (append-nil finished)))
 
 -- ── a content that is carried on
 module _ (ds ns ts : List ℕ) where

@@ -1,18 +1,38 @@
--- What is written are the items of the plan: one step if nothing is cut, else the content's items and then the ellipsis's.
+-- What is written are the items of the plan: one step if nothing is cut, else the content's items and then the ellipsis's. Their data is the finished result, the content's run first (`first-held`, `all-held`).
 use borrow.Author.Needs.{needs}
-use mathlib.Core.Path.{sym, ap, _∙_}
-use mathlib.Core.List.{List}
+use mathlib.Core.Path.{_≡_, refl, sym, ap, _∙_}
+use mathlib.Core.List.{List, [], _∷_}
+use lib.ListN.{length, take}
+use lib.Seq.{length-take-le}
 use borrow.Author.Tests.{not-true, not-false}
-use Rattle.recording.specs.Recording.{Item, recording}
-use Rattle.writer.specs.Write.{out, add, blank}
+use Rattle.buffer.specs.Held.{HoldsUpTo}
+use Rattle.buffer.specs.LendsOn.{LendsOn, ownArrays, touches, loops, calls}
+use Rattle.buffer.proofs.HeldLaws.{held-self}
+use Rattle.recording.specs.Recording.{Item, recording, items}
+use Rattle.recording.specs.Edit.{edit}
+use Rattle.writer.specs.Write.{Out, out, add, blank}
 use Rattle.writer.proofs.Steps.{fits-first, fits-then, then}
+use Rattle.writer.proofs.HeldLaws.{first-held, all-held}
+use Rattle.layout.specs.Layout.{cutEnd}
+use Rattle.truncate.specs.Planned.{endItems, finishedEnd}
+use Rattle.truncate.proofs.CutLaws.{up-to-run}
 use Rattle.truncate.proofs.PlanLaws.{end-whole, end-cut}
+use Rattle.truncate.proofs.HeldLaws.{end-runs, end-finished}
+use Rattle.truncate.proofs.put_end.Code.Mir as code
 use Rattle.truncate.proofs.put_end.Statement.{statement}
 use Rattle.truncate.proofs.put_end.Tie as tie
 use Rattle.truncate.proofs.put_end.Reads as reads
 use Rattle.truncate.proofs.put_end.Lts as lts
 use Rattle.truncate.proofs.put_up_to.Reads as put-up-to-reads
+use Rattle.truncate.proofs.put_end_ellipsis.Reads as put-end-ellipsis-reads
 use Rattle.writer.proofs.put_recording.Reads as put-recording-reads
+
+-- all of it is written
+held : (s : tie.Start) (o : Out) → let a = s .args in o ≡ add (endItems (a .p) (recording (a .content .now) (a .entries .now) (a .text .now)) (recording (a .ellipsis .now) (a .ellipsis-entries .now) (a .ellipsis-text .now))) (blank (a .bytes .now) (a .numbers .now) (a .texts .now))
+    → (o .d ≡ length (finishedEnd (a .p) (a .content .now) (a .ellipsis .now))) × HoldsUpTo (o .d) (finishedEnd (a .p) (a .content .now) (a .ellipsis .now)) (a .bytes .now) (o .dataBytes)
+held s o w =
+    let a = s .args in
+    all-held (endItems (a .p) (recording (a .content .now) (a .entries .now) (a .text .now)) (recording (a .ellipsis .now) (a .ellipsis-entries .now) (a .ellipsis-text .now))) (blank (a .bytes .now) (a .numbers .now) (a .texts .now)) o refl w _ (end-finished (a .p) (a .content .now) (a .entries .now) (a .text .now) (a .ellipsis .now) (a .ellipsis-entries .now) (a .ellipsis-text .now))
 
 put-recording-requires : tie.Need-put-recording-requires
 unfolding out
@@ -42,7 +62,8 @@ returns c =
     let a = start .args in
     let e = end-whole (a .p) (recording (a .content .now) (a .entries .now) (a .text .now)) (recording (a .ellipsis .now) (a .ellipsis-entries .now) (a .ellipsis-text .now))
     (not-true (a .p .cut) (at-if1 .if1 .taken)) in
-    at-put-recording .put-recording .ensures .0 ∙ ap (λ (x : List Item). add x (blank (a .bytes .now) (a .numbers .now) (a .texts .now))) (sym e)
+    let w = at-put-recording .put-recording .ensures .0 ∙ ap (λ (x : List Item). add x (blank (a .bytes .now) (a .numbers .now) (a .texts .now))) (sym e) in
+    (w, held start _ w)
 
 put-up-to-requires : tie.Need-put-up-to-requires
 unfolding out
@@ -54,17 +75,23 @@ put-up-to-requires c κs =
     (not-false (a .p .cut) (c .before .before .before .if1 .left)) in
     (p .0, (p .1 .1 .0 .0, fits-first _ _ _ _ e (p .1 .1 .1)))
 
-put-up-to-requires-2 : tie.Need-put-up-to-requires-2
+put-end-ellipsis-requires : tie.Need-put-end-ellipsis-requires
 unfolding out
-put-up-to-requires-2 c κs =
+put-end-ellipsis-requires c κs =
     let at-put-up-to = c .before .before .before .before .before .before .before .before .before in
     let at-if1 = at-put-up-to .before .before .before .before in
     let start = at-if1 .before .before .before .before .before .before .before .before .before .before .before in
     let a = start .args in
     let p = start .pre in
-    let e = end-cut (a .p) (recording (a .content .now) (a .entries .now) (a .text .now)) (recording (a .ellipsis .now) (a .ellipsis-entries .now) (a .ellipsis-text .now))
-    (not-false (a .p .cut) (at-if1 .if1 .left)) in
-    (p .1 .0, (p .1 .1 .0 .1, fits-then _ _ _ _ _ e (p .1 .1 .1) (at-put-up-to .put-up-to .ensures)))
+    let cut = not-false (a .p .cut) (at-if1 .if1 .left) in
+    let e = end-cut (a .p) (recording (a .content .now) (a .entries .now) (a .text .now)) (recording (a .ellipsis .now) (a .ellipsis-entries .now) (a .ellipsis-text .now)) cut in
+    let w = at-put-up-to .put-up-to .ensures .0 in
+    let is = edit (cutEnd (a .p .content) (a .content .now)) (items (recording (a .content .now) (a .entries .now) (a .text .now))) in
+    let run = up-to-run (a .p .content) (a .content .now) (a .entries .now) (a .text .now) in
+    let runs = end-runs (a .p) (a .content .now) (a .ellipsis .now) cut in
+    let place = all-held is (blank (a .bytes .now) (a .numbers .now) (a .texts .now)) _ refl w _ run .0 ∙ length-take-le (a .p .content) (a .content .now) (p .1 .1 .0 .0) in
+    let stands = first-held is (blank (a .bytes .now) (a .numbers .now) (a .texts .now)) _ refl w (take (a .p .content) (a .content .now)) (take (a .p .ellipsis) (a .ellipsis .now)) _ run runs in
+    (p .1 .0, ((cut, p .1 .1 .0 .0, p .1 .1 .0 .1), ((place, held-self _ _ _ _ stands), fits-then _ _ _ _ _ e (p .1 .1 .1) w)))
 
 same-length-4 : tie.Need-same-length-4
 same-length-4 c = search needs
@@ -78,15 +105,16 @@ same-length-6 c = search needs
 returns-2 : tie.Need-returns-2
 unfolding out
 returns-2 c =
-    let at-put-up-to2 = c .before .before .before .before .before .before in
-    let at-put-up-to = at-put-up-to2 .before .before .before .before .before .before .before .before .before .before in
+    let at-put-end-ellipsis = c .before .before .before .before .before .before in
+    let at-put-up-to = at-put-end-ellipsis .before .before .before .before .before .before .before .before .before .before in
     let at-if1 = at-put-up-to .before .before .before .before in
     let start = at-if1 .before .before .before .before .before .before .before .before .before .before .before in
     let a = start .args in
     let p = start .pre in
     let e = end-cut (a .p) (recording (a .content .now) (a .entries .now) (a .text .now)) (recording (a .ellipsis .now) (a .ellipsis-entries .now) (a .ellipsis-text .now))
     (not-false (a .p .cut) (at-if1 .if1 .left)) in
-    then _ _ _ _ _ _ e (p .1 .1 .1) (at-put-up-to .put-up-to .ensures) (at-put-up-to2 .put-up-to2 .ensures)
+    let w = then _ _ _ _ _ _ e (p .1 .1 .1) (at-put-up-to .put-up-to .ensures .0) (at-put-end-ellipsis .put-end-ellipsis .ensures .0) in
+    (w, held start _ w)
 
 pub put-end-spec : {M : Type 1} → statement M
 put-end-spec =
@@ -98,8 +126,13 @@ put-end-spec =
     same-length-3
     returns
     put-up-to-requires
-    put-up-to-requires-2
+    put-end-ellipsis-requires
     same-length-4
     same-length-5
     same-length-6
     returns-2)
+
+-- each run goes by one call, and nothing is done between them
+pub put-end-lends-on : LendsOn code.function [] 0 ("writer::put_recording" ∷ "truncate::put_up_to" ∷ "truncate::put_end_ellipsis" ∷ [])
+unfolding ownArrays touches loops calls
+put-end-lends-on = refl

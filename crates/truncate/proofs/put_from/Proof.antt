@@ -1,13 +1,18 @@
--- The cut is two steps of the writer, the entries alone up to n and then bytes and entries: `both` of `proofs/CutLaws.antt`.
+-- The cut is two steps of the writer, the entries alone up to n and then bytes and entries: `both` of `proofs/CutLaws.antt`. It leaves one run of data.
 use native.Mathlib.Omega.{arith}
 use borrow.Author.Needs.{needs}
 use mathlib.Core.Path.{refl}
-use mathlib.Core.List.{List}
-use Rattle.recording.specs.Recording.{Item}
-use Rattle.recording.specs.Edit.{entriesOnly}
+use mathlib.Core.List.{List, [], _∷_}
+use lib.ListN.{drop}
+use Rattle.buffer.specs.LendsOn.{LendsOn, ownArrays, touches, loops, calls}
+use Rattle.recording.specs.Recording.{Item, recording, items}
+use Rattle.recording.specs.Edit.{edit, entriesOnly}
 use Rattle.writer.specs.Write.{out}
 use Rattle.writer.proofs.Steps.{ready-start}
-use Rattle.truncate.proofs.CutLaws.{edit-from, first-room, second-room, both}
+use Rattle.writer.proofs.HeldLaws.{added-held}
+use Rattle.layout.specs.Layout.{cutStart}
+use Rattle.truncate.proofs.CutLaws.{edit-from, first-room, second-room, both, from-run}
+use Rattle.truncate.proofs.put_from.Code.Mir as code
 use Rattle.truncate.proofs.put_from.Statement.{statement}
 use Rattle.truncate.proofs.put_from.Tie as tie
 use Rattle.truncate.proofs.put_from.Reads as reads
@@ -62,10 +67,17 @@ returns c =
     let a = start .args in
     let p = start .pre in
     let k = at-skip .skip .ensures in
-    both entriesOnly (λ (x : List Item). x) _ _ _ _ _ (edit-from (a .n) (a .content .now) (a .entries .now) (a .text .now)) _ refl refl _ (p .1 .1) _ _ (k .0) (k .1 .0)
-    (k .1 .1 .1) _ (at-keep .keep .ensures .0)
+    let w = both entriesOnly (λ (x : List Item). x) _ _ _ _ _ (edit-from (a .n) (a .content .now) (a .entries .now) (a .text .now)) _ refl refl _ (p .1 .1) _ _ (k .0) (k .1 .0)
+    (k .1 .1 .1) _ (at-keep .keep .ensures .0) in
+    let is = edit (cutStart (a .n)) (items (recording (a .content .now) (a .entries .now) (a .text .now))) in
+    (w, added-held is (drop (a .n) (a .content .now)) (out (a .bytes .now) (a .numbers .now) (a .texts .now) (a .c)) _ w (from-run (a .n) (a .content .now) (a .entries .now) (a .text .now)))
 
 pub put-from-spec : {M : Type 1} → statement M
 put-from-spec =
     tie.close
     (tie.spec skip-requires keep-requires same-length same-length-2 same-length-3 returns)
+
+-- the bytes go by one `keep`
+pub put-from-lends-on : LendsOn code.function [] 0 ("writer::skip" ∷ "writer::keep" ∷ [])
+unfolding ownArrays touches loops calls
+put-from-lends-on = refl

@@ -1,13 +1,18 @@
--- The cut is two steps of the writer, bytes and entries up to n and then the entries alone: `both` of `proofs/CutLaws.antt`.
+-- The cut is two steps of the writer, bytes and entries up to n and then the entries alone: `both` of `proofs/CutLaws.antt`. It leaves one run of data.
 use native.Mathlib.Omega.{arith}
 use borrow.Author.Needs.{needs}
 use mathlib.Core.Path.{refl}
-use mathlib.Core.List.{List}
-use Rattle.recording.specs.Recording.{Item}
-use Rattle.recording.specs.Edit.{entriesOnly}
+use mathlib.Core.List.{List, [], _∷_}
+use lib.ListN.{take}
+use Rattle.buffer.specs.LendsOn.{LendsOn, ownArrays, touches, loops, calls}
+use Rattle.recording.specs.Recording.{Item, recording, items}
+use Rattle.recording.specs.Edit.{edit, entriesOnly}
 use Rattle.writer.specs.Write.{out}
 use Rattle.writer.proofs.Steps.{ready-start}
-use Rattle.truncate.proofs.CutLaws.{edit-up-to, first-room, second-room, both}
+use Rattle.writer.proofs.HeldLaws.{added-held}
+use Rattle.layout.specs.Layout.{cutEnd}
+use Rattle.truncate.proofs.CutLaws.{edit-up-to, first-room, second-room, both, up-to-run}
+use Rattle.truncate.proofs.put_up_to.Code.Mir as code
 use Rattle.truncate.proofs.put_up_to.Statement.{statement}
 use Rattle.truncate.proofs.put_up_to.Tie as tie
 use Rattle.truncate.proofs.put_up_to.Reads as reads
@@ -62,10 +67,17 @@ returns c =
     let a = start .args in
     let p = start .pre in
     let k = at-keep .keep .ensures in
-    both (λ (x : List Item). x) entriesOnly _ _ _ _ _ (edit-up-to (a .n) (a .content .now) (a .entries .now) (a .text .now)) _ refl refl _ (p .1 .1) _ _ (k .0) (k .1 .0)
-    (k .1 .1 .1) _ (at-skip .skip .ensures .0)
+    let w = both (λ (x : List Item). x) entriesOnly _ _ _ _ _ (edit-up-to (a .n) (a .content .now) (a .entries .now) (a .text .now)) _ refl refl _ (p .1 .1) _ _ (k .0) (k .1 .0)
+    (k .1 .1 .1) _ (at-skip .skip .ensures .0) in
+    let is = edit (cutEnd (a .n) (a .content .now)) (items (recording (a .content .now) (a .entries .now) (a .text .now))) in
+    (w, added-held is (take (a .n) (a .content .now)) (out (a .bytes .now) (a .numbers .now) (a .texts .now) (a .c)) _ w (up-to-run (a .n) (a .content .now) (a .entries .now) (a .text .now)))
 
 pub put-up-to-spec : {M : Type 1} → statement M
 put-up-to-spec =
     tie.close
     (tie.spec keep-requires skip-requires same-length same-length-2 same-length-3 returns)
+
+-- the bytes go by one `keep`
+pub put-up-to-lends-on : LendsOn code.function [] 0 ("writer::keep" ∷ "writer::skip" ∷ [])
+unfolding ownArrays touches loops calls
+put-up-to-lends-on = refl
