@@ -1,15 +1,18 @@
--- What running code has left: by the promise of a layout call that answers `Done`, the call is not refused, and what it leaves stands at the front of the buffers (`left-in`).
+-- What running code has left: by the promise of a layout call that answers `Done`, the call is not refused, what it leaves stands at the front of the buffers (`left-in`), and beyond its data the buffer is as it was (`held-in`).
 use Prim.Native.Nat.{ℕ}
 use mathlib.Core.Bool.{Bool, true, false, cond}
 use mathlib.Core.Path.{_≡_, refl, sym, ap, _∙_}
 use lib.Dec.{eqb}
-use lib.ListN.{take}
+use lib.ListN.{length, take}
 use borrow.Author.Tests.{eqb-true, eqb-false}
+use Rattle.buffer.specs.Place.{over}
+use Rattle.buffer.specs.Held.{HoldsUpTo}
+use Rattle.buffer.proofs.HeldLaws.{held-all}
 use Rattle.recording.specs.declared.Answer.the-variants.{Done}
-use Rattle.recording.specs.Recording.{Recording, recording}
+use Rattle.recording.specs.Recording.{Recording, recording, dataOf, encode}
 use Rattle.recording.specs.Outcome.{Outcome, refused, done, settle, Lent, lentAfter, Returned, returned, answerOf}
 use Rattle.recording.proofs.FaultLaws.{readBack, read-back}
-use Rattle.layout.specs.Layout.{Job, resultOf, refusal, outcome, contentAfter, after}
+use Rattle.layout.specs.Layout.{Job, resultItems, resultOf, refusal, outcome, contentAfter, after}
 use Rattle.layout.specs.Lent.{frontOf, callIn, Leaves}
 
 module _ (b b′ : Lent) (d e t n : ℕ) where
@@ -21,14 +24,28 @@ module _ (b b′ : Lent) (d e t n : ℕ) where
   unfolding answerOf returned
   none-told k a = ap (λ (x : Returned). x .refusal) a
 
-  pub left-in : (j : Job) (r : Recording) → Leaves j r b b′ (Done d e t n) → (refusal (callIn j b) r ≡ 0) × (frontOf d e t b′ ≡ after (callIn j b) r)
-  unfolding after outcome settle refusal
-  left-in j r h = go (eqb (refusal (callIn j b) r) 0) refl (h .0) (h .1)
+  unrefused : (j : Job) (r : Recording) → Leaves j r b b′ (Done d e t n) → (refusal (callIn j b) r ≡ 0) × (outcome (callIn j b) r ≡ done (resultOf j r))
+  unfolding outcome settle refusal
+  unrefused j r h = go (eqb (refusal (callIn j b) r) 0) refl (h .0)
     where
       told : Bool → Outcome
       told k = cond k (done (resultOf j r)) (refused (refusal (callIn j b) r))
 
-      go : (k : Bool) → eqb (refusal (callIn j b) r) 0 ≡ k → answerOf (Done d e t n) ≡ returned (told k) → b′ ≡ lentAfter (told k) b
-          → (refusal (callIn j b) r ≡ 0) × (frontOf d e t b′ ≡ contentAfter (told k) r)
-      go true q a l = (eqb-true (refusal (callIn j b) r) 0 q, front-is (told true) a l ∙ read-back (resultOf j r) b)
-      go false q a l = absurd (eqb-false (refusal (callIn j b) r) 0 q (sym (none-told (refusal (callIn j b) r) a)))
+      go : (k : Bool) → eqb (refusal (callIn j b) r) 0 ≡ k → answerOf (Done d e t n) ≡ returned (told k) → (refusal (callIn j b) r ≡ 0) × (told k ≡ done (resultOf j r))
+      go true q a = (eqb-true (refusal (callIn j b) r) 0 q, refl)
+      go false q a = absurd (eqb-false (refusal (callIn j b) r) 0 q (sym (none-told (refusal (callIn j b) r) a)))
+
+  pub left-in : (j : Job) (r : Recording) → Leaves j r b b′ (Done d e t n) → (refusal (callIn j b) r ≡ 0) × (frontOf d e t b′ ≡ after (callIn j b) r)
+  unfolding after
+  left-in j r h =
+      let u = unrefused j r h in
+      (u .0, front-is (outcome (callIn j b) r) (h .0) (h .1) ∙ ap (λ (x : Outcome). readBack x b) (u .1) ∙ read-back (resultOf j r) b ∙ sym (ap (λ (x : Outcome). contentAfter x r) (u .1)))
+
+  -- WHERE A CALL ENDS: the data buffer holds all of the finished result, and beyond it what it held before
+  pub held-in : (j : Job) (r : Recording) → Leaves j r b b′ (Done d e t n) → (d ≡ length (dataOf (resultItems j r))) × HoldsUpTo d (dataOf (resultItems j r)) (b .dataBytes) (b′ .dataBytes)
+  unfolding answerOf returned lentAfter resultOf encode
+  held-in j r h =
+      let u = unrefused j r h in
+      let long : d ≡ length (dataOf (resultItems j r)) = ap (λ (x : Returned). x .dataBytes) (h .0 ∙ ap (λ (x : Outcome). returned x) (u .1)) in
+      let data-is : b′ .dataBytes ≡ over (dataOf (resultItems j r)) (b .dataBytes) = ap (λ (x : Lent). x .dataBytes) (h .1 ∙ ap (λ (x : Outcome). lentAfter x b) (u .1)) in
+      (long, rw long (held-all (dataOf (resultItems j r)) (b .dataBytes) (b′ .dataBytes) data-is))

@@ -1,17 +1,21 @@
 -- The writing of a result step by step: what is written and what is still to come are together the whole (`Progress`), and a step moves items from the one to the other (`further`).
-use mathlib.Core.Path.{_≡_, sym, ap, _∙_}
+-- So in each loop over it the data buffer holds the finished result up to where it is written (`held-now`).
+use mathlib.Core.Path.{_≡_, refl, sym, ap, _∙_}
 use mathlib.Core.List.{List, [], _++_, append-assoc, append-nil}
 use Prim.Native.Nat.{ℕ, _+_, _-_, _≤_}
 use native.Mathlib.Omega.{arith}
 use lib.ListN.{length, drop, length-drop}
-use Rattle.recording.specs.Recording.{entriesOf, Item}
+use Rattle.buffer.specs.Held.{HoldsUpTo}
+use Rattle.recording.specs.Recording.{entriesOf, Item, dataOf}
 use Rattle.recording.specs.Edit.{front}
+use Rattle.recording.proofs.EditLaws.{data-append}
 use Rattle.recording.proofs.ItemsLaws.{data-itemsFrom}
 use Rattle.writer.specs.declared.Cursor.{Cursor}
 use Rattle.writer.specs.Write.{Out, add, Fits, Ready, left}
 use Rattle.writer.proofs.Laws.{fits-left, fits-right, add-append, add-long, Long}
 use Rattle.writer.proofs.Carry.{valid-in, add-nil}
 use Rattle.writer.proofs.Steps.{front-all}
+use Rattle.writer.proofs.HeldLaws.{first-held}
 
 pub record Progress (whole to-come : List Item) (o₀ o : Out) : Type 0 where
   pub done : List Item
@@ -24,6 +28,11 @@ progress-first whole to-come o e = record { done = []; wrote = add-nil o; joins 
 -- what is to come, in other words
 pub progress-same : (whole a b : List Item) (o₀ o : Out) → b ≡ a → Progress whole a o₀ o → Progress whole b o₀ o
 progress-same whole a b o₀ o e s = record { done = s .done; wrote = s .wrote; joins = ap (λ (l : List Item). s .done ++ l) e ∙ s .joins }
+
+-- the data buffer holds the finished result up to here, and beyond it what it held at first
+pub held-now : (whole to-come : List Item) (o₀ o : Out) → Progress whole to-come o₀ o → o₀ .d ≡ 0 → HoldsUpTo (o .d) (dataOf whole) (o₀ .dataBytes) (o .dataBytes)
+held-now whole to-come o₀ o s z =
+    first-held (s .done) o₀ o z (s .wrote) (dataOf (s .done)) (dataOf to-come) (dataOf whole) refl (ap (λ (l : List Item). dataOf l) (sym (s .joins)) ∙ data-append (s .done) to-come)
 
 module _ (whole to-come : List Item) (o₀ o : Out) (s : Progress whole to-come o₀ o) (room : Fits whole o₀) where
   all : Fits (s .done ++ to-come) o₀

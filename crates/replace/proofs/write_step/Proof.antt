@@ -59,7 +59,7 @@ skip-requires c κs =
     let k = kept q .keep in
     let b = q .put-bytes in
     let g = is-good (a .content .now) (a .entries .now) (a .text .now) (a .new .now) (a .x) (a .c) _ p in
-    let w = part-wrote _ _ _ _ (a .new .now) (k .result) (b .result) (a .x .from) (a .x .to) (g .within) (b .ensures .1) (b .ensures .0) in (
+    let w = part-wrote _ _ _ _ (a .new .now) (k .result) (b .result) (a .x .from) (a .x .to) (g .within) (b .ensures .1 .0) (b .ensures .0) in (
       ready-skip (a .content .now) (a .entries .now) (a .text .now) (a .new .now) (a .x) (a .c) _ p _ (k .ensures .0) _ w (k .result) (b .result) (b .ensures .0 .0) (b .ensures .0 .1)
           (k .ensures .1 .1 .1) (k .ensures .1 .0) (k .ensures .1 .1 .0),
       (
@@ -93,7 +93,7 @@ returns c =
     let b = q .put-bytes in
     let s = c .before .before .before .before .before .before .skip in
     let g = is-good (a .content .now) (a .entries .now) (a .text .now) (a .new .now) (a .x) (a .c) _ p in
-    let w = part-wrote _ _ _ _ (a .new .now) (k .result) (b .result) (a .x .from) (a .x .to) (g .within) (b .ensures .1) (b .ensures .0) in
+    let w = part-wrote _ _ _ _ (a .new .now) (k .result) (b .result) (a .x .from) (a .x .to) (g .within) (b .ensures .1 .0) (b .ensures .0) in
     turned (a .content .now) (a .entries .now) (a .text .now) (a .new .now) (a .x) (a .c) _ p _ (k .ensures .0) _ w (k .result) (b .result) (b .ensures .0 .0) (b .ensures .0 .1)
     (k .ensures .1 .1 .1) (k .ensures .1 .0) _ _ (s .ensures .0) (s .ensures .1 .0) (s .ensures .1 .1 .0) (s .ensures .1 .1 .1)
 

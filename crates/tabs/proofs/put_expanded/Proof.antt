@@ -175,7 +175,7 @@ skip-requires c κs =
     let b = q .put-bytes in
     let r = k .keep in
     let g = good-tab k in
-    let wrote = part-wrote _ _ _ _ (new s) (k .keep .result) (b .result) 0 (many k) (good-tab k .within) (b .ensures .1) (b .ensures .0) in (
+    let wrote = part-wrote _ _ _ _ (new s) (k .keep .result) (b .result) 0 (many k) (good-tab k .within) (b .ensures .1 .0) (b .ensures .0) in (
       ready-skip (ds s) (ns s) (ts s) (new s) x (head k .loop .c) _ (the-turn k) _ (r .ensures .0) _ wrote (r .result) (b .result) (b .ensures .0 .0) (b .ensures .0 .1)
           (r .ensures .1 .1 .1) (r .ensures .1 .0) (r .ensures .1 .1 .0),
       (
@@ -216,7 +216,7 @@ loop-again c =
     let n = many k in
     let r = c .next-tab2 in
     let b = q .put-bytes in
-    let wrote = part-wrote _ _ _ _ (new s) (k .keep .result) (b .result) 0 (many k) (good-tab k .within) (b .ensures .1) (b .ensures .0) in
+    let wrote = part-wrote _ _ _ _ (new s) (k .keep .result) (b .result) 0 (many k) (good-tab k .within) (b .ensures .1 .0) (b .ensures .0) in
     let t = turned (ds s) (ns s) (ts s) (new s) (tab-record l n) (l .loop .c) _ (the-turn k) _ (k .keep .ensures .0) _ wrote (k .keep .result) (b .result) (b .ensures .0 .0) (b .ensures .0 .1)
     (k .keep .ensures .1 .1 .1) (k .keep .ensures .1 .0) _ _ (w .skip .ensures .0) (w .skip .ensures .1 .0) (w .skip .ensures .1 .1 .0) (w .skip .ensures .1 .1 .1) in (
       at-tab (ds s) (p .at + 1) (p .column + n) (r .result) (r .ensures),
