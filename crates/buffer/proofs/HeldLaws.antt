@@ -1,4 +1,5 @@
--- Writing run by run: a run that comes next takes what the buffer holds of the finished result to the run's end (`run-held`). The idea: what stands and the run are together the result up to there (`take-add`).
+-- Writing run by run: after a run that comes next, the buffer holds the finished result up to the run's end (`run-held`).
+-- The idea: what stands and the run are together the result up to there (`take-add`).
 use mathlib.Core.Path.{_≡_, refl, sym, ap, _∙_}
 use mathlib.Core.List.{List, _++_}
 use Prim.Native.Nat.{ℕ, _+_, _-_, _≤_}

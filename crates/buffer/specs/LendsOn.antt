@@ -5,7 +5,7 @@ use mathlib.Core.Bool.{Bool, true, false, _||_}
 use mathlib.Core.Path.{_≡_}
 use mathlib.Core.List.{List, [], _∷_, _++_}
 use mir.Syntax.{Ty, tyInt, tyBool, tyFloat, tyPtr, tyRef, tyArray, tyUnit, tyStruct, tyEnum, tyNamed, Tys, tnil, tcons, Tyss, ttnil, ttcons, Local, local}
-use mir.Syntax.{Step, deref, field, variant, Place, place, Opd, copy, int, intNeg, intBig, float, opdTrue, opdFalse, opdUnit, ptrConst, Rv, rvOpd, op2, op1, addrOf, aggregate, repeat}
+use mir.Syntax.{Step, deref, field, variant, place, Opd, copy, int, intNeg, intBig, float, opdTrue, opdFalse, opdUnit, ptrConst, Rv, rvOpd, op2, op1, addrOf, aggregate, repeat}
 use mir.Syntax.{Name, Fn, Body, skip, seq, assign, block, loop, cond, switch, exit, return, call, Arms, arm, default, noDefault}
 
 -- ── its own arrays: the locals that are one or have one in them; what a reference points to is not its own

@@ -1,4 +1,5 @@
--- What running code has left: by the promise of a layout call that answers `Done`, the call is not refused, what it leaves stands at the front of the buffers (`left-in`), and beyond its data the buffer is as it was (`held-in`).
+-- What running code has left: by the promise of a layout call that answers `Done`, the call is not refused, what it leaves stands at the front of the buffers (`left-in`),
+-- and the data buffer holds all of the finished result, with what it held before beyond it (`held-in`).
 use Prim.Native.Nat.{ℕ}
 use mathlib.Core.Bool.{Bool, true, false, cond}
 use mathlib.Core.Path.{_≡_, refl, sym, ap, _∙_}

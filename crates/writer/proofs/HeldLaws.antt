@@ -1,4 +1,5 @@
--- What steps of the writer have written, told by runs: items put at the ends are one run, their data (`added-held`); and where a content is carried on, its bytes up to the cursor stand in order (`stands-done`).
+-- What steps of the writer have written, told by runs: items put at the ends are one run, their data (`added-held`);
+-- and where a content is carried on, its bytes up to the cursor stand in order (`stands-done`).
 use mathlib.Core.Path.{_≡_, sym, ap, _∙_}
 use mathlib.Core.List.{List, [], _++_, append-nil}
 use Prim.Native.Nat.{ℕ, _+_, _-_, _≤_}
@@ -45,7 +46,8 @@ module _ (ds ns ts : List ℕ) where
       data-front (n - c .at) (itemsFrom (c .at) ts (drop (c .at) ds) es) ∙ ap (λ (x : List ℕ). take (n - c .at) x) (data-itemsFrom es (c .at) ts (drop (c .at) ds))
 
   pub stands-done : (n : ℕ) (od₀ oe₀ ot₀ od oe ot : List ℕ) (c₀ c : Cursor) (done : List Item) → out od oe ot c ≡ add done (out od₀ oe₀ ot₀ c₀)
-      → done ++ front (n - c .at) (left ds ns ts c) ≡ front (n - c₀ .at) (left ds ns ts c₀) → c .at ≤ n → c₀ .at ≤ n → n ≤ length ds → c₀ .d ≤ length od₀ → Stands c₀ c ds od
+      → done ++ front (n - c .at) (left ds ns ts c) ≡ front (n - c₀ .at) (left ds ns ts c₀) → c .at ≤ n → c₀ .at ≤ n → n ≤ length ds → c₀ .d ≤ length od₀
+      → Stands c₀ c ds od
   unfolding out add
   stands-done n od₀ oe₀ ot₀ od oe ot c₀ c done w rest here begun l room =
       let x : List ℕ = dataOf done in

@@ -42,7 +42,8 @@ returns c =
     let w = at-put-up-to .put-up-to .ensures in
     let all = finishedEnd (a .p) (a .content .now) (a .ellipsis .now) in
     let place = p .1 .1 .0 .0 ∙ sym (length-take-le (a .p .content) (a .content .now) (p .1 .0 .1)) in
-    let next = next-second (take (a .p .content) (a .content .now)) (take (a .p .ellipsis) (a .ellipsis .now)) all (a .c .d) (end-runs (a .p) (a .content .now) (a .ellipsis .now) (p .1 .0 .0)) place in
+    let runs = end-runs (a .p) (a .content .now) (a .ellipsis .now) (p .1 .0 .0) in
+    let next = next-second (take (a .p .content) (a .content .now)) (take (a .p .ellipsis) (a .ellipsis .now)) all (a .c .d) runs place in
     (w .0, (w .1) all (a .bytes .now) (p .1 .1 .0 .1) next)
 
 pub put-end-ellipsis-spec : {M : Type 1} → statement M

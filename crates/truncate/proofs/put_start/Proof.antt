@@ -1,45 +1,57 @@
--- What is written are the items of the plan: the content's alone if nothing is cut, else the ellipsis's and then the content's. Their data is the finished result, the ellipsis's run first (`first-held`, `all-held`).
+-- What is written are the items of the plan: the content's alone if nothing is cut, else the ellipsis's and then the content's. Their data is the finished result (`all-held`).
 use borrow.Author.Needs.{needs}
 use mathlib.Core.Path.{_≡_, refl, sym, ap, _∙_}
 use mathlib.Core.List.{List, [], _∷_}
-use lib.ListN.{length, drop, length-drop}
+use Prim.Native.Nat.{ℕ}
+use lib.ListN.{length}
 use borrow.Author.Tests.{not-true, not-false}
 use Rattle.buffer.specs.Held.{HoldsUpTo}
 use Rattle.buffer.specs.LendsOn.{LendsOn, ownArrays, touches, loops, calls}
 use Rattle.buffer.proofs.HeldLaws.{held-self}
-use Rattle.recording.specs.Recording.{Item, recording, items}
-use Rattle.recording.specs.Edit.{edit}
+use Rattle.recording.specs.Recording.{Recording, recording, Item}
 use Rattle.writer.specs.Write.{Out, out, add, blank}
 use Rattle.writer.proofs.Steps.{fits-first, fits-then, then}
-use Rattle.writer.proofs.HeldLaws.{first-held, all-held}
-use Rattle.layout.specs.Layout.{cutStart}
+use Rattle.writer.proofs.HeldLaws.{all-held}
 use Rattle.truncate.specs.Planned.{startItems, finishedStart}
-use Rattle.truncate.proofs.CutLaws.{from-run}
 use Rattle.truncate.proofs.PlanLaws.{start-whole, start-cut}
-use Rattle.truncate.proofs.HeldLaws.{start-runs, start-finished}
+use Rattle.truncate.proofs.HeldLaws.{start-finished}
 use Rattle.truncate.proofs.put_start.Code.Mir as code
 use Rattle.truncate.proofs.put_start.Statement.{statement}
 use Rattle.truncate.proofs.put_start.Tie as tie
 use Rattle.truncate.proofs.put_start.Reads as reads
 use Rattle.truncate.proofs.put_start.Lts as lts
 use Rattle.truncate.proofs.put_from.Reads as put-from-reads
+use Rattle.truncate.proofs.put_start_ellipsis.Reads as put-start-ellipsis-reads
 use Rattle.truncate.proofs.put_start_content.Reads as put-start-content-reads
 
--- all of it is written
-held : (s : tie.Start) (o : Out) → let a = s .args in o ≡ add (startItems (a .p) (recording (a .content .now) (a .entries .now) (a .text .now)) (recording (a .ellipsis .now) (a .ellipsis-entries .now) (a .ellipsis-text .now))) (blank (a .bytes .now) (a .numbers .now) (a .texts .now))
-    → (o .d ≡ length (finishedStart (a .p) (a .content .now) (a .ellipsis .now))) × HoldsUpTo (o .d) (finishedStart (a .p) (a .content .now) (a .ellipsis .now)) (a .bytes .now) (o .dataBytes)
+-- ── what the call was given: content, ellipsis, buffers; and what it writes
+abbrev content : tie.Start → Recording
+content s = recording (s .args .content .now) (s .args .entries .now) (s .args .text .now)
+
+abbrev ellipsis : tie.Start → Recording
+ellipsis s = recording (s .args .ellipsis .now) (s .args .ellipsis-entries .now) (s .args .ellipsis-text .now)
+
+abbrev lent : tie.Start → Out
+lent s = blank (s .args .bytes .now) (s .args .numbers .now) (s .args .texts .now)
+
+abbrev finished : tie.Start → List ℕ
+finished s = finishedStart (s .args .p) (s .args .content .now) (s .args .ellipsis .now)
+
+held : (s : tie.Start) (o : Out) → o ≡ add (startItems (s .args .p) (content s) (ellipsis s)) (lent s)
+    → (o .d ≡ length (finished s)) × HoldsUpTo (o .d) (finished s) (lent s .dataBytes) (o .dataBytes)
 held s o w =
     let a = s .args in
-    all-held (startItems (a .p) (recording (a .content .now) (a .entries .now) (a .text .now)) (recording (a .ellipsis .now) (a .ellipsis-entries .now) (a .ellipsis-text .now))) (blank (a .bytes .now) (a .numbers .now) (a .texts .now)) o refl w _ (start-finished (a .p) (a .content .now) (a .entries .now) (a .text .now) (a .ellipsis .now) (a .ellipsis-entries .now) (a .ellipsis-text .now))
+    all-held (startItems (a .p) (content s) (ellipsis s)) (lent s) o refl w (finished s)
+    (start-finished (a .p) (a .content .now) (a .entries .now) (a .text .now) (a .ellipsis .now) (a .ellipsis-entries .now) (a .ellipsis-text .now))
 
+-- ── what is asked on the way
 put-from-requires : tie.Need-put-from-requires
 unfolding out
 put-from-requires c κs =
     let start = c .before .before .before .before .before .before .before .before .before .before .before .before .before .before in
     let a = start .args in
     let p = start .pre in
-    let e = start-whole (a .p) (recording (a .content .now) (a .entries .now) (a .text .now)) (recording (a .ellipsis .now) (a .ellipsis-entries .now) (a .ellipsis-text .now))
-    (not-true (a .p .cut) (c .before .before .before .if1 .taken)) in
+    let e = start-whole (a .p) (content start) (ellipsis start) (not-true (a .p .cut) (c .before .before .before .if1 .taken)) in
     (p .0, (p .1 .1 .0 .0, rw e at (p .1 .1 .1)))
 
 same-length : tie.Need-same-length
@@ -58,38 +70,32 @@ returns c =
     let at-if1 = at-put-from .before .before .before .before in
     let start = at-if1 .before .before .before .before .before .before .before .before .before .before .before in
     let a = start .args in
-    let e = start-whole (a .p) (recording (a .content .now) (a .entries .now) (a .text .now)) (recording (a .ellipsis .now) (a .ellipsis-entries .now) (a .ellipsis-text .now))
-    (not-true (a .p .cut) (at-if1 .if1 .taken)) in
-    let w = at-put-from .put-from .ensures .0 ∙ ap (λ (x : List Item). add x (blank (a .bytes .now) (a .numbers .now) (a .texts .now))) (sym e) in
+    let e = start-whole (a .p) (content start) (ellipsis start) (not-true (a .p .cut) (at-if1 .if1 .taken)) in
+    let w = at-put-from .put-from .ensures .0 ∙ ap (λ (x : List Item). add x (lent start)) (sym e) in
     (w, held start _ w)
 
-put-from-requires-2 : tie.Need-put-from-requires-2
+put-start-ellipsis-requires : tie.Need-put-start-ellipsis-requires
 unfolding out
-put-from-requires-2 c κs =
+put-start-ellipsis-requires c κs =
     let start = c .before .before .before .before .before .before .before .before .before .before .before .before .before .before in
     let a = start .args in
     let p = start .pre in
-    let e = start-cut (a .p) (recording (a .content .now) (a .entries .now) (a .text .now)) (recording (a .ellipsis .now) (a .ellipsis-entries .now) (a .ellipsis-text .now))
-    (not-false (a .p .cut) (c .before .before .before .if1 .left)) in
-    (p .1 .0, (p .1 .1 .0 .1, fits-first _ _ _ _ e (p .1 .1 .1)))
+    let cut = not-false (a .p .cut) (c .before .before .before .if1 .left) in
+    let e = start-cut (a .p) (content start) (ellipsis start) cut in
+    (p .1 .0, ((cut, p .1 .1 .0 .1, refl), fits-first _ _ _ _ e (p .1 .1 .1)))
 
 put-start-content-requires : tie.Need-put-start-content-requires
 unfolding out
 put-start-content-requires c κs =
-    let at-put-from2 = c .before .before .before .before .before .before .before .before .before in
-    let at-if1 = at-put-from2 .before .before .before .before in
+    let at-put-start-ellipsis = c .before .before .before .before .before .before .before .before .before in
+    let at-if1 = at-put-start-ellipsis .before .before .before .before in
     let start = at-if1 .before .before .before .before .before .before .before .before .before .before .before in
     let a = start .args in
     let p = start .pre in
     let cut = not-false (a .p .cut) (at-if1 .if1 .left) in
-    let e = start-cut (a .p) (recording (a .content .now) (a .entries .now) (a .text .now)) (recording (a .ellipsis .now) (a .ellipsis-entries .now) (a .ellipsis-text .now)) cut in
-    let w = at-put-from2 .put-from2 .ensures .0 in
-    let is = edit (cutStart (a .p .ellipsis)) (items (recording (a .ellipsis .now) (a .ellipsis-entries .now) (a .ellipsis-text .now))) in
-    let run = from-run (a .p .ellipsis) (a .ellipsis .now) (a .ellipsis-entries .now) (a .ellipsis-text .now) in
-    let runs = start-runs (a .p) (a .content .now) (a .ellipsis .now) cut in
-    let place = all-held is (blank (a .bytes .now) (a .numbers .now) (a .texts .now)) _ refl w _ run .0 ∙ length-drop (a .p .ellipsis) (a .ellipsis .now) in
-    let stands = first-held is (blank (a .bytes .now) (a .numbers .now) (a .texts .now)) _ refl w (drop (a .p .ellipsis) (a .ellipsis .now)) (drop (a .p .content) (a .content .now)) _ run runs in
-    (p .0, ((cut, p .1 .1 .0 .0), ((place, held-self _ _ _ _ stands), fits-then _ _ _ _ _ e (p .1 .1 .1) w)))
+    let e = start-cut (a .p) (content start) (ellipsis start) cut in
+    let w = at-put-start-ellipsis .put-start-ellipsis .ensures in
+    (p .0, ((cut, p .1 .1 .0 .0), ((w .1 .0, held-self _ _ _ _ (w .1 .1)), fits-then _ _ _ _ _ e (p .1 .1 .1) (w .0))))
 
 same-length-4 : tie.Need-same-length-4
 same-length-4 c = search needs
@@ -104,14 +110,13 @@ returns-2 : tie.Need-returns-2
 unfolding out
 returns-2 c =
     let at-put-start-content = c .before .before .before .before .before .before in
-    let at-put-from2 = at-put-start-content .before .before .before .before .before .before .before .before .before .before in
-    let at-if1 = at-put-from2 .before .before .before .before in
+    let at-put-start-ellipsis = at-put-start-content .before .before .before .before .before .before .before .before .before .before in
+    let at-if1 = at-put-start-ellipsis .before .before .before .before in
     let start = at-if1 .before .before .before .before .before .before .before .before .before .before .before in
     let a = start .args in
     let p = start .pre in
-    let e = start-cut (a .p) (recording (a .content .now) (a .entries .now) (a .text .now)) (recording (a .ellipsis .now) (a .ellipsis-entries .now) (a .ellipsis-text .now))
-    (not-false (a .p .cut) (at-if1 .if1 .left)) in
-    let w = then _ _ _ _ _ _ e (p .1 .1 .1) (at-put-from2 .put-from2 .ensures .0) (at-put-start-content .put-start-content .ensures .0) in
+    let e = start-cut (a .p) (content start) (ellipsis start) (not-false (a .p .cut) (at-if1 .if1 .left)) in
+    let w = then _ _ _ _ _ _ e (p .1 .1 .1) (at-put-start-ellipsis .put-start-ellipsis .ensures .0) (at-put-start-content .put-start-content .ensures .0) in
     (w, held start _ w)
 
 pub put-start-spec : {M : Type 1} → statement M
@@ -123,7 +128,7 @@ put-start-spec =
     same-length-2
     same-length-3
     returns
-    put-from-requires-2
+    put-start-ellipsis-requires
     put-start-content-requires
     same-length-4
     same-length-5
@@ -131,6 +136,6 @@ put-start-spec =
     returns-2)
 
 -- each run goes by one call, and nothing is done between them
-pub put-start-lends-on : LendsOn code.function [] 0 ("truncate::put_from" ∷ "truncate::put_from" ∷ "truncate::put_start_content" ∷ [])
+pub put-start-lends-on : LendsOn code.function [] 0 ("truncate::put_from" ∷ "truncate::put_start_ellipsis" ∷ "truncate::put_start_content" ∷ [])
 unfolding ownArrays touches loops calls
 put-start-lends-on = refl

@@ -41,7 +41,8 @@ returns c =
     let w = at-put-from .put-from .ensures in
     let all = finishedStart (a .p) (a .content .now) (a .ellipsis .now) in
     let place = p .1 .1 .0 .0 ∙ sym (length-drop (a .p .ellipsis) (a .ellipsis .now)) in
-    let next = next-second (drop (a .p .ellipsis) (a .ellipsis .now)) (drop (a .p .content) (a .content .now)) all (a .c .d) (start-runs (a .p) (a .content .now) (a .ellipsis .now) (p .1 .0 .0)) place in
+    let runs = start-runs (a .p) (a .content .now) (a .ellipsis .now) (p .1 .0 .0) in
+    let next = next-second (drop (a .p .ellipsis) (a .ellipsis .now)) (drop (a .p .content) (a .content .now)) all (a .c .d) runs place in
     (w .0, (w .1) all (a .bytes .now) (p .1 .1 .0 .1) next)
 
 pub put-start-content-spec : {M : Type 1} → statement M

@@ -171,6 +171,7 @@ write-truncated-end-spec =
     returns-3)
 
 -- the lent buffers go by one call; its arrays are the table of lead bytes, as a constant and as the local that is lent to be read
-pub write-truncated-end-lends-on : LendsOn code.function (tyArray (tyInt w16) 256 ∷ tyArray (tyInt w16) 256 ∷ []) 0 ("recording_check::check_both" ∷ "truncate_plan::measure_end" ∷ "truncate::plus_if" ∷ "truncate::plus_if" ∷ "writer::settle" ∷ "truncate::put_end" ∷ [])
+pub write-truncated-end-lends-on : LendsOn code.function (tyArray (tyInt w16) 256 ∷ tyArray (tyInt w16) 256 ∷ []) 0
+    ("recording_check::check_both" ∷ "truncate_plan::measure_end" ∷ "truncate::plus_if" ∷ "truncate::plus_if" ∷ "writer::settle" ∷ "truncate::put_end" ∷ [])
 unfolding ownArrays touches loops calls
 write-truncated-end-lends-on = refl

@@ -1,4 +1,5 @@
--- `keep`: the loop's state is `State` of Carry with all items written; a turn is `step`, the end is `finish`. In each state the bytes before the cursor stand in order (`stands-done`), as `put_run` asks.
+-- `keep`: the loop's state is `State` of Carry with all items written; a turn is `step`, the end is `finish`.
+-- In each state the bytes before the cursor stand in order (`stands-done`), as `put_run` asks.
 use native.Mathlib.Omega.{arith}
 use borrow.Author.Needs.{needs}
 use Rattle.writer.proofs.Carry.{State, TurnRoom, room-turn, turn-wrote, bytes-wrote, add-nil, fits-now, long-now, whole, entry-place, ok, entry-is, fits-turn, step, front-last, finish}
@@ -112,7 +113,8 @@ module _ (ds ns ts : List ℕ) (n : ℕ) (c₀ : Cursor) (od₀ oe₀ ot₀ od o
         finish same (λ a b. refl) ds ns ts n (out od₀ oe₀ ot₀ c₀) (out od oe ot c) c₀ c p s l room past (out od′ oe ot c₁) c₁
         (bytes-wrote od od′ oe ot (part (c .at) n ds) c c₁ ed (omega (arith, last-size, q .2)) (q .3) (q .4)) (q .0) (q .1)
 
-    run-kept : (od′ : List ℕ) (c₁ : Cursor) → out od′ oe ot c₁ ≡ add (front (n - c₀ .at) (left ds ns ts c₀)) (out od₀ oe₀ ot₀ c₀) → RunHeld (c₀ .d) (c₁ .d) (part (c₀ .at) n ds) od₀ od′
+    run-kept : (od′ : List ℕ) (c₁ : Cursor) → out od′ oe ot c₁ ≡ add (front (n - c₀ .at) (left ds ns ts c₀)) (out od₀ oe₀ ot₀ c₀)
+        → RunHeld (c₀ .d) (c₁ .d) (part (c₀ .at) n ds) od₀ od′
     unfolding out
     run-kept od′ c₁ w = added-held (front (n - c₀ .at) (left ds ns ts c₀)) (part (c₀ .at) n ds) (out od₀ oe₀ ot₀ c₀) (out od′ oe ot c₁) w (data-left ds ns ts c₀ n)
 
