@@ -1,13 +1,13 @@
 -- Writing run by run: after a run that comes next, the buffer holds the finished result up to the run's end (`run-held`).
 -- The idea: what stands and the run are together the result up to there (`take-add`).
 use mathlib.Core.Path.{_≡_, refl, sym, ap, _∙_}
-use mathlib.Core.List.{List, _++_}
+use mathlib.Core.List.{List, [], _∷_, _++_, append-assoc, flatten}
 use Prim.Native.Nat.{ℕ, _+_, _-_, _≤_}
 use native.Mathlib.Omega.{arith}
-use lib.ListN.{length, take, drop, length-take, length-drop}
-use lib.Seq.{take-at, drop-at, take-add, take-append-seam, drop-append-seam, take-length, length-take-le}
+use lib.ListN.{length, take, drop, length-take, length-drop, length-append}
+use lib.Seq.{drop-at, drop-drop, take-add, take-append-seam, drop-append-seam, take-length, length-take-le}
 use Rattle.buffer.specs.Place.{over, overAt, part}
-use Rattle.buffer.specs.Held.{HoldsUpTo, NextIn, RunHeld}
+use Rattle.buffer.specs.Held.{HoldsUpTo, NextIn, RunHeld, written, AfterEachRun}
 use Rattle.buffer.proofs.Laws.{put-over, length-part}
 
 pub run-held : (at to : ℕ) (run old new : List ℕ) → new ≡ overAt at run old → to ≡ at + length run → RunHeld at to run old new
@@ -53,10 +53,27 @@ pub next-second : (a b all : List ℕ) (at : ℕ) → all ≡ a ++ b → at ≡ 
 next-second a b all at e l =
     sym (ap (λ (x : List ℕ). take (length b) (drop at x)) e ∙ ap (λ (x : List ℕ). take (length b) x) (drop-at a b at (sym l)) ∙ take-length b)
 
--- the part of a buffer that was written last
-pub part-over : (at to : ℕ) (new old : List ℕ) → at ≤ length old → to ≡ at + length new → part at to (overAt at new old) ≡ new
-unfolding overAt over
-part-over at to new old h t =
-    let l : length (take at old) ≡ at = length-take-le at old h in
-    let m : length new ≡ to - at = omega (arith, t) in
-    ap (λ (x : List ℕ). take (to - at) x) (drop-at (take at old) (new ++ drop (length new) (drop at old)) at l) ∙ take-at new (drop (length new) (drop at old)) (to - at) m
+-- ── one run after another
+runs-held : (xs : List (List ℕ)) (at : ℕ) (finished former old rest : List ℕ) → HoldsUpTo at finished former old → drop at finished ≡ flatten xs ++ rest
+    → HoldsUpTo (at + length (flatten xs)) finished former (written at xs old)
+unfolding RunHeld written flatten
+runs-held [] at finished former old rest h e = let none : at + 0 ≡ at = omega arith in rw none h
+runs-held (x ∷ xs) at finished former old rest h e =
+    let e′ : drop at finished ≡ x ++ (flatten xs ++ rest) = e ∙ append-assoc x (flatten xs) rest in
+    let next : x ≡ take (length x) (drop at finished) = sym (ap (λ (y : List ℕ). take (length x) y) e′ ∙ take-append-seam x (flatten xs ++ rest)) in
+    let onward : drop (at + length x) finished ≡ flatten xs ++ rest =
+    sym (drop-drop (length x) at finished) ∙ ap (λ (y : List ℕ). drop (length x) y) e′ ∙ drop-append-seam x (flatten xs ++ rest) in
+    let far : at + length (x ++ flatten xs) ≡ (at + length x) + length (flatten xs) = omega (arith, length-append x (flatten xs)) in
+    rw far (runs-held xs (at + length x) finished former (overAt at x old) rest (run-held at (at + length x) x old (overAt at x old) refl refl finished former h next) onward)
+
+flatten-append : (xs ys : List (List ℕ)) → flatten (xs ++ ys) ≡ flatten xs ++ flatten ys
+unfolding flatten
+flatten-append [] ys = refl
+flatten-append (x ∷ xs) ys = ap (λ (y : List ℕ). x ++ y) (flatten-append xs ys) ∙ sym (append-assoc x (flatten xs) (flatten ys))
+
+pub after-each-run : AfterEachRun
+unfolding AfterEachRun
+after-each-run done rest former =
+    let all : List ℕ = flatten (done ++ rest) in
+    let far : 0 + length (flatten done) ≡ length (flatten done) = omega arith in
+    rw far at (runs-held done 0 all former former (flatten rest) (held-none all former) (flatten-append done rest))

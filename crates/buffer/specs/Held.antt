@@ -1,9 +1,9 @@
 -- A buffer that is written run by run: what it holds after each run.
-use Prim.Native.Nat.{ℕ, _≤_}
+use Prim.Native.Nat.{ℕ, _+_, _≤_}
 use mathlib.Core.Path.{_≡_}
-use mathlib.Core.List.{List}
+use mathlib.Core.List.{List, [], _∷_, _++_, flatten}
 use lib.ListN.{length, take, drop}
-use Rattle.buffer.specs.Place.{over}
+use Rattle.buffer.specs.Place.{over, overAt}
 
 -- the buffer holds the finished result up to `at`, and beyond it what it held before
 pub record HoldsUpTo (at : ℕ) (finished former buffer : List ℕ) : Type 0 where
@@ -18,3 +18,12 @@ NextIn finished at run = run ≡ take (length run) (drop at finished)
 -- if it held that result up to `at`, it now holds it up to `to`
 unfoldable pub RunHeld : ℕ → ℕ → List ℕ → List ℕ → List ℕ → Type 0
 RunHeld at to run old new = (finished former : List ℕ) → HoldsUpTo at finished former old → NextIn finished at run → HoldsUpTo to finished former new
+
+-- a buffer after runs were written into it from `at` on, each where the one before ended
+unfoldable pub written : ℕ → List (List ℕ) → List ℕ → List ℕ
+written at [] old = old
+written at (x ∷ xs) old = written (at + length x) xs (overAt at x old)
+
+-- AFTER EACH RUN, whatever their number: some are done and the rest is to come, all of them are the finished result, and `former` is the buffer at first
+unfoldable pub AfterEachRun : Type 0
+AfterEachRun = (done rest : List (List ℕ)) (former : List ℕ) → HoldsUpTo (length (flatten done)) (flatten (done ++ rest)) former (written 0 done former)

@@ -1,9 +1,11 @@
 -- What a function does to memory by itself and what it leaves to the functions that it calls, read off the code that runs (its MIR).
 -- A slice that a function only lends on changes in its calls alone, and what those do is in their contracts.
 use Prim.Native.Nat.{ℕ, suc, _+_}
-use mathlib.Core.Bool.{Bool, true, false, _||_}
+use mathlib.Core.Bool.{Bool, true, false, not, _&&_, _||_}
 use mathlib.Core.Path.{_≡_}
 use mathlib.Core.List.{List, [], _∷_, _++_}
+use lib.Dec.{eqb}
+use lib.Text.{eqt}
 use mir.Syntax.{Ty, tyInt, tyBool, tyFloat, tyPtr, tyRef, tyArray, tyUnit, tyStruct, tyEnum, tyNamed, Tys, tnil, tcons, Tyss, ttnil, ttcons, Local, local}
 use mir.Syntax.{Step, deref, field, variant, place, Opd, copy, int, intNeg, intBig, float, opdTrue, opdFalse, opdUnit, ptrConst, Rv, rvOpd, op2, op1, addrOf, aggregate, repeat}
 use mir.Syntax.{Name, Fn, Body, skip, seq, assign, block, loop, cond, switch, exit, return, call, Arms, arm, default, noDefault}
@@ -134,3 +136,65 @@ unfoldable mutual
 -- A FUNCTION THAT ONLY LENDS ON: it has these arrays of its own, by itself it reads and stores nothing behind a reference, and it has so many loops and these calls
 abbrev pub LendsOn : Fn → List Ty → ℕ → List Name → Type 0
 LendsOn f arrays turns names = _≡_ {A = List Ty × Bool × ℕ × List Name} (ownArrays (f .locals), touches (f .body), loops (f .body), calls (f .body)) (arrays, false, turns, names)
+
+-- ── a local that goes from call to call
+unfoldable pub isWhole : ℕ → Opd → Bool
+isWhole c (copy (place n [])) = eqb n c
+isWhole c (copy (place n (x ∷ s))) = false
+isWhole c (int w n) = false
+isWhole c (intNeg w n) = false
+isWhole c (intBig w n) = false
+isWhole c (float f n) = false
+isWhole c opdTrue = false
+isWhole c opdFalse = false
+isWhole c opdUnit = false
+isWhole c (ptrConst n) = false
+
+unfoldable pub takes : ℕ → List Opd → Bool
+unfolding isWhole
+takes c [] = false
+takes c (o ∷ os) = isWhole c o || takes c os
+
+unfoldable pub isAmong : List Name → Name → Bool
+isAmong [] f = false
+isAmong (n ∷ ns) f = eqt n f || isAmong ns f
+
+-- its address is not taken
+unfoldable pub unlent : ℕ → Rv → Bool
+unlent c (rvOpd o) = true
+unlent c (op2 f a b) = true
+unlent c (op1 f a) = true
+unlent c (addrOf (place n s)) = not (eqb n c)
+unlent c (aggregate os) = true
+unlent c (repeat o n) = true
+
+-- a call of one of these functions takes it whole and leaves its answer in it; no other call changes it
+unfoldable pub inTurn : Bool → Bool → Bool → Bool
+inTurn true taken left = taken && left
+inTurn false taken left = not left
+
+unfoldable mutual
+  unfolding takes isAmong unlent inTurn
+
+  pub onlyBy : List Name → ℕ → Body → Bool
+  onlyBy ns c skip = true
+  onlyBy ns c (seq a b) = onlyBy ns c a && onlyBy ns c b
+  onlyBy ns c (assign (place n s) v) = not (eqb n c) && unlent c v
+  onlyBy ns c (block a) = onlyBy ns c a
+  onlyBy ns c (loop a) = onlyBy ns c a
+  onlyBy ns c (cond o a b) = onlyBy ns c a && onlyBy ns c b
+  onlyBy ns c (switch o arms) = allOnlyBy ns c arms
+  onlyBy ns c (exit n) = true
+  onlyBy ns c return = true
+  onlyBy ns c (call f os (place n s)) = inTurn (isAmong ns f) (takes c os) (eqb n c)
+
+  pub allOnlyBy : List Name → ℕ → Arms → Bool
+  allOnlyBy ns c (arm ks a arms) = onlyBy ns c a && allOnlyBy ns c arms
+  allOnlyBy ns c (default a) = onlyBy ns c a
+  allOnlyBy ns c noDefault = true
+
+-- ONE AFTER ANOTHER: the local c begins as the parameter `from`, and then it is what one call of these functions leaves and the next one takes; nothing else changes it
+pub record Threads (f : Fn) (from c : ℕ) (names : List Name) : Type 0 where
+  pub rest : Body
+  pub begins : f .body ≡ seq (assign (place c []) (rvOpd (copy (place from [])))) rest
+  pub goes-on : onlyBy names c rest ≡ true

@@ -1,3 +1,2 @@
 pub mod Write
 pub mod Sizes
-pub mod Held

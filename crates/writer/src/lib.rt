@@ -18,7 +18,6 @@ ghost use Rattle.recording.specs.Recording.{recording, entriesOf, numbersOf, it
 ghost use Rattle.recording.specs.Edit.{front, back, entriesOnly};
 ghost use Rattle.recording.specs.Refusals.{badShape, dataLimit, textLimit};
 ghost use Rattle.writer.specs.Write.{out, add, Fits, Ready, Sound, left, placeOf, startOf, itemAt};
-ghost use Rattle.writer.specs.Held.{Stands};
 ghost use Rattle.writer.specs.Sizes.{sizesFault, roomOf, settledFault};
 
 // A place in a content (data offset, index of the next entry's first number), and how far the three buffers are written.
@@ -85,25 +84,6 @@ pub fn put_bytes(bytes: &mut [u8], from: &[u8], a: usize, b: usize, c: Cursor) -
     }
 }
 
-// Writes the next run of a content that is carried on, from c's place up to p, at the data's end.
-// The bytes before it, from the place `from` where the carrying began, have to stand there: so no run can be written before the ones that it follows. `from` is lent for that alone.
-pub fn put_run(bytes: &mut [u8], content: &[u8], from: Cursor, c: Cursor, p: usize) -> Cursor
-    requires { ⌜ Stands from c (now content) (now bytes) ⌝ }
-    requires { ⌜ (c .at ≤ p) × (p ≤ length (now content)) × (c .d + (p - c .at) ≤ length (now bytes)) ⌝ }
-    ensures { λ r. ⌜ (r .at ≡ p) × (r .k ≡ c .k) × (r .d ≡ c .d + (p - c .at)) × (r .e ≡ c .e) × (r .t ≡ c .t) ⌝ }
-    ensures { λ r. ⌜ now (bytes .exit) ≡ overAt (c .d) (part (c .at) p (now (content .entry))) (now (bytes .entry)) ⌝ }
-    ensures { λ r. ⌜ RunHeld (c .d) (r .d) (part (c .at) p (now (content .entry))) (now (bytes .entry)) (now (bytes .exit)) ⌝ }
-{
-    let d = put(bytes, c.d, content, c.at, p);
-    Cursor {
-        at: p,
-        k: c.k,
-        d: d,
-        e: c.e,
-        t: c.t,
-    }
-}
-
 // Writes an entry, with its part of the text, at the ends, and passes it.
 pub fn put_entry(numbers: &mut [u32], texts: &mut [u8], text: &[u8], e: Entry, c: Cursor) -> Cursor
     requires { ⌜ badShape (e .kind) (e .start) (e .len) ≡ false ⌝ }
@@ -161,11 +141,18 @@ pub fn keep(
     let mut p = place_at(entries, c.k);
     while p <= n {
         let e = entry_at(entries, c.k);
-        c = put_run(bytes, content, from, c, p);
+        c = put_bytes(bytes, content, c.at, p, c);
         c = put_entry(numbers, texts, text, e, c);
         p = place_at(entries, c.k);
     }
-    put_run(bytes, content, from, c, n)
+    c = put_bytes(bytes, content, c.at, n, c);
+    Cursor {
+        at: n,
+        k: c.k,
+        d: c.d,
+        e: c.e,
+        t: c.t,
+    }
 }
 
 // Carries on the entries before the byte n, those at that place included, and leaves the bytes.

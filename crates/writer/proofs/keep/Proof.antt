@@ -1,13 +1,11 @@
 -- `keep`: the loop's state is `State` of Carry with all items written; a turn is `step`, the end is `finish`.
--- In each state the bytes before the cursor stand in order (`stands-done`), as `put_run` asks.
 use native.Mathlib.Omega.{arith}
 use borrow.Author.Needs.{needs}
 use Rattle.writer.proofs.Carry.{State, TurnRoom, room-turn, turn-wrote, bytes-wrote, add-nil, fits-now, long-now, whole, entry-place, ok, entry-is, fits-turn, step, front-last, finish}
-use Rattle.writer.proofs.HeldLaws.{added-held, data-left, stands-done}
+use Rattle.writer.proofs.HeldLaws.{added-held, data-left}
 use Rattle.recording.proofs.ItemsLaws.{data-bytes}
 use Rattle.buffer.proofs.Laws.{length-part}
 use Rattle.writer.specs.Write.{out, add, Fits, Ready, left, placeOf, itemAt}
-use Rattle.writer.specs.Held.{Stands}
 use Rattle.writer.specs.declared.Cursor.{Cursor}
 use Rattle.recording.specs.Refusals.{badShape}
 use Rattle.recording.specs.Edit.{front, back}
@@ -15,7 +13,7 @@ use Rattle.recording.specs.Recording.{Item, byteItems, numbersOf, entriesOf, te
 use Rattle.recording.specs.declared.Entry.{Entry}
 use Rattle.buffer.specs.Place.{overAt, part}
 use Rattle.buffer.specs.Held.{RunHeld}
-use Rattle.buffer.specs.LendsOn.{LendsOn, ownArrays, touches, loops, calls}
+use Rattle.buffer.specs.LendsOn.{LendsOn, ownArrays, touches, loops, calls, Threads, onlyBy}
 use lib.ListN.{length, drop}
 use mathlib.Core.Path.{_≡_, refl, ap, _∙_}
 use mathlib.Core.List.{List, [], _∷_}
@@ -28,7 +26,7 @@ use Rattle.writer.proofs.keep.Reads as reads
 use Rattle.writer.proofs.keep.Lts as lts
 use Rattle.recording.proofs.entry_at.Reads as entry-at-reads
 use Rattle.writer.proofs.place_at.Reads as place-at-reads
-use Rattle.writer.proofs.put_run.Reads as put-run-reads
+use Rattle.writer.proofs.put_bytes.Reads as put-bytes-reads
 use Rattle.writer.proofs.put_entry.Reads as put-entry-reads
 
 abbrev same : List Item → List Item
@@ -41,10 +39,6 @@ module _ (ds ns ts : List ℕ) (n : ℕ) (c₀ : Cursor) (od₀ oe₀ ot₀ od o
   now-long =
       let g = long-now same (λ a b. refl) ds ns ts n (out od₀ oe₀ ot₀ c₀) (out od oe ot c) c₀ c p s l room in
       (g .dataBytes, g .entryNumbers, g .text)
-
-  up-to-here : c₀ .at ≤ n → Stands c₀ c ds od
-  unfolding out
-  up-to-here b = stands-done ds ns ts n od₀ oe₀ ot₀ od oe ot c₀ c (s .done) (s .wrote) (s .rest) (s .here) b l (omega (arith, room .dataBytes))
 
   module _ (more : p ≤ n) where
     entire : c .k + 4 ≤ length ns
@@ -66,7 +60,7 @@ module _ (ds ns ts : List ℕ) (n : ℕ) (c₀ : Cursor) (od₀ oe₀ ot₀ od o
           (entry-is same (λ a b. refl) ds ns ts n (out od₀ oe₀ ot₀ c₀) (out od oe ot c) c₀ c p s l room more e q)
           (fits-turn same (λ a b. refl) ds ns ts n (out od₀ oe₀ ot₀ c₀) (out od oe ot c) c₀ c p s l room more e q))
 
-      asked : (c₁ : Cursor) → (c₁ .at ≡ p) × (c₁ .k ≡ c .k) × (c₁ .d ≡ c .d + (p - c .at)) × (c₁ .e ≡ c .e) × (c₁ .t ≡ c .t) → length ns ≤ 18446744073709551615
+      asked : (c₁ : Cursor) → (c₁ .at ≡ c .at) × (c₁ .k ≡ c .k) × (c₁ .d ≡ c .d + (p - c .at)) × (c₁ .e ≡ c .e) × (c₁ .t ≡ c .t) → length ns ≤ 18446744073709551615
           → (badShape (e .kind) (e .start) (e .len) ≡ false) × ((e .start + e .len ≤ length ts)
           × (((c₁ .e + 4 ≤ length oe) × (c₁ .t + e .len ≤ length ot)) × ((c₁ .d ≤ 1048576) × (c₁ .t ≤ 65536) × (c₁ .k + 4 ≤ 18446744073709551615))))
       asked c₁ f big =
@@ -82,7 +76,7 @@ module _ (ds ns ts : List ℕ) (n : ℕ) (c₀ : Cursor) (od₀ oe₀ ot₀ od o
           )
 
       turned : (od′ oe′ ot′ : List ℕ) (c₁ c₂ : Cursor) (p′ : ℕ)
-          → od′ ≡ overAt (c .d) (part (c .at) p ds) od → (c₁ .at ≡ p) × (c₁ .k ≡ c .k) × (c₁ .d ≡ c .d + (p - c .at)) × (c₁ .e ≡ c .e) × (c₁ .t ≡ c .t)
+          → od′ ≡ overAt (c .d) (part (c .at) p ds) od → (c₁ .at ≡ c .at) × (c₁ .k ≡ c .k) × (c₁ .d ≡ c .d + (p - c .at)) × (c₁ .e ≡ c .e) × (c₁ .t ≡ c .t)
           → (c₂ .at ≡ e .position) × (c₂ .k ≡ c₁ .k + 4) × (c₂ .d ≡ c₁ .d) × (c₂ .e ≡ c₁ .e + 4) × (c₂ .t ≡ c₁ .t + e .len)
           → oe′ ≡ overAt (c₁ .e) (numbersOf (entriesFrom (c₁ .d) (c₁ .t) (itemAt ts e ∷ []))) oe
           → ot′ ≡ overAt (c₁ .t) (textOf (itemAt ts e ∷ [])) ot
@@ -106,24 +100,26 @@ module _ (ds ns ts : List ℕ) (n : ℕ) (c₀ : Cursor) (od₀ oe₀ ot₀ od o
         let f : Fits (byteItems (part (c .at) n ds)) (out od oe ot c) = rw q at (fits-now same (λ a b. refl) ds ns ts n (out od₀ oe₀ ot₀ c₀) (out od oe ot c) c₀ c p s l room) in
         omega (arith, f .dataBytes, ap length (data-bytes (part (c .at) n ds)), last-size)
 
-    ended : (od′ : List ℕ) (c₁ : Cursor)
-        → od′ ≡ overAt (c .d) (part (c .at) n ds) od → (c₁ .at ≡ n) × (c₁ .k ≡ c .k) × (c₁ .d ≡ c .d + (n - c .at)) × (c₁ .e ≡ c .e) × (c₁ .t ≡ c .t)
-        → (out od′ oe ot c₁ ≡ add (front (n - c₀ .at) (left ds ns ts c₀)) (out od₀ oe₀ ot₀ c₀)) × (left ds ns ts c₁ ≡ back (n - c₀ .at) (left ds ns ts c₀)) × Ready ds ns ts c₁
-    ended od′ c₁ ed q =
-        finish same (λ a b. refl) ds ns ts n (out od₀ oe₀ ot₀ c₀) (out od oe ot c) c₀ c p s l room past (out od′ oe ot c₁) c₁
-        (bytes-wrote od od′ oe ot (part (c .at) n ds) c c₁ ed (omega (arith, last-size, q .2)) (q .3) (q .4)) (q .0) (q .1)
+    ended : (od′ : List ℕ) (c₁ c₂ : Cursor)
+        → od′ ≡ overAt (c .d) (part (c .at) n ds) od → (c₁ .at ≡ c .at) × (c₁ .k ≡ c .k) × (c₁ .d ≡ c .d + (n - c .at)) × (c₁ .e ≡ c .e) × (c₁ .t ≡ c .t)
+        → (c₂ .at ≡ n) × (c₂ .k ≡ c₁ .k) × (c₂ .d ≡ c₁ .d) × (c₂ .e ≡ c₁ .e) × (c₂ .t ≡ c₁ .t)
+        → (out od′ oe ot c₂ ≡ add (front (n - c₀ .at) (left ds ns ts c₀)) (out od₀ oe₀ ot₀ c₀)) × (left ds ns ts c₂ ≡ back (n - c₀ .at) (left ds ns ts c₀)) × Ready ds ns ts c₂
+    ended od′ c₁ c₂ ed q₁ q₂ =
+        finish same (λ a b. refl) ds ns ts n (out od₀ oe₀ ot₀ c₀) (out od oe ot c) c₀ c p s l room past (out od′ oe ot c₂) c₂
+        (bytes-wrote od od′ oe ot (part (c .at) n ds) c c₂ ed (omega (arith, last-size, q₁ .2, q₂ .2)) (q₂ .3 ∙ q₁ .3) (q₂ .4 ∙ q₁ .4))
+        (q₂ .0) (q₂ .1 ∙ q₁ .1)
 
-    run-kept : (od′ : List ℕ) (c₁ : Cursor) → out od′ oe ot c₁ ≡ add (front (n - c₀ .at) (left ds ns ts c₀)) (out od₀ oe₀ ot₀ c₀)
-        → RunHeld (c₀ .d) (c₁ .d) (part (c₀ .at) n ds) od₀ od′
+    run-kept : (od′ : List ℕ) (c₂ : Cursor) → out od′ oe ot c₂ ≡ add (front (n - c₀ .at) (left ds ns ts c₀)) (out od₀ oe₀ ot₀ c₀)
+        → RunHeld (c₀ .d) (c₂ .d) (part (c₀ .at) n ds) od₀ od′
     unfolding out
-    run-kept od′ c₁ w = added-held (front (n - c₀ .at) (left ds ns ts c₀)) (part (c₀ .at) n ds) (out od₀ oe₀ ot₀ c₀) (out od′ oe ot c₁) w (data-left ds ns ts c₀ n)
+    run-kept od′ c₂ w = added-held (front (n - c₀ .at) (left ds ns ts c₀)) (part (c₀ .at) n ds) (out od₀ oe₀ ot₀ c₀) (out od′ oe ot c₂) w (data-left ds ns ts c₀ n)
 
 abbrev Inv-loop : tie.InvT-loop
-Inv-loop bytes₀ numbers₀ texts₀ content entries text from n c₀ p₀ bytes numbers texts c p =
-    State same content entries text n (out bytes₀ numbers₀ texts₀ from) from (out bytes numbers texts c) c p
+Inv-loop bytes₀ numbers₀ texts₀ content entries text n c₀ p₀ bytes numbers texts c p =
+    State same content entries text n (out bytes₀ numbers₀ texts₀ c₀) c₀ (out bytes numbers texts c) c p
 
 abbrev μ-loop : tie.MeasureT-loop
-μ-loop bytes₀ numbers₀ texts₀ content entries text from n c₀ p₀ bytes numbers texts c p =
+μ-loop bytes₀ numbers₀ texts₀ content entries text n c₀ p₀ bytes numbers texts c p =
     length entries - c .k
 
 place-at-requires : tie.Need-place-at-requires Inv-loop μ-loop
@@ -147,78 +143,76 @@ entry-at-requires c κs =
     entire _ _ _ _ _ _ _ _ _ _ _ _ _ (c .before .loop .inv) (c .before .before .before .before .before .before .before .before .before .pre .1 .0 .1)
     (c .before .before .before .before .before .before .before .before .before .pre .1 .1) (c .loop-test .taken)
 
-put-run-requires : tie.Need-put-run-requires Inv-loop μ-loop
-put-run-requires c κs =
+put-bytes-requires : tie.Need-put-bytes-requires Inv-loop μ-loop
+put-bytes-requires c κs =
     let pre = c .before .before .before .before .before .before .before .before .before .before .before .pre in
     let more = c .before .before .loop-test .taken in
     let f = fine _ _ _ _ _ _ _ _ _ _ _ _ _ (c .before .before .before .loop .inv) (pre .1 .0 .1) (pre .1 .1) more _ (c .before .entry-at .ensures) in
     let r = roomy _ _ _ _ _ _ _ _ _ _ _ _ _ (c .before .before .before .loop .inv) (pre .1 .0 .1) (pre .1 .1) more _ (c .before .entry-at .ensures) in
-    let u = up-to-here _ _ _ _ _ _ _ _ _ _ _ _ _ (c .before .before .before .loop .inv) (pre .1 .0 .1) (pre .1 .1) (pre .1 .0 .0) in
-    (u, (omega (arith, f .0, f .3), omega (arith, more, pre .1 .0 .1), r .dataBytes))
+    (omega (arith, f .0, f .3), omega (arith, more, pre .1 .0 .1), r .dataBytes)
 
 put-entry-requires : tie.Need-put-entry-requires Inv-loop μ-loop
 put-entry-requires c κs =
-    let at-put-run = c .before .before .before .before in
-    let at-entry-at = at-put-run .before .before in
+    let at-put-bytes = c .before .before .before .before in
+    let at-entry-at = at-put-bytes .before .before in
     let at-loop-test = at-entry-at .before in
     let at-loop = at-loop-test .before in
     let start = at-loop .before .before .before .before .before .before .before .before in
     let pre = start .pre in
     asked _ _ _ _ _ _ _ _ _ _ _ _ _ (at-loop .loop .inv) (pre .1 .0 .1) (pre .1 .1)
     (at-loop-test .loop-test .taken) _ (at-entry-at .entry-at .ensures) _
-    (at-put-run .put-run .ensures .0)
+    (at-put-bytes .put-bytes .ensures .0)
     (omega (arith, start .good))
 
 place-at-requires-2 : tie.Need-place-at-requires-2 Inv-loop μ-loop
 place-at-requires-2 c κs =
     let at-put-entry = c .before .before .before .before in
-    let at-put-run = at-put-entry .before .before .before .before .before in
-    let at-loop-test = at-put-run .before .before .before in
+    let at-put-bytes = at-put-entry .before .before .before .before .before in
+    let at-loop-test = at-put-bytes .before .before .before in
     let at-loop = at-loop-test .before in
     let start = at-loop .before .before .before .before .before .before .before .before in
     let pre = start .pre in
     let w = entire _ _ _ _ _ _ _ _ _ _ _ _ _ (at-loop .loop .inv) (pre .1 .0 .1)
     (pre .1 .1) (at-loop-test .loop-test .taken) in
-    omega (arith, w, at-put-run .put-run .ensures .0 .1, at-put-entry .put-entry .ensures .0 .1)
+    omega (arith, w, at-put-bytes .put-bytes .ensures .0 .1, at-put-entry .put-entry .ensures .0 .1)
 
 loop-less : tie.Need-loop-less Inv-loop μ-loop
 loop-less c =
     let at-put-entry = c .before .before .before .before .before in
-    let at-put-run = at-put-entry .before .before .before .before .before in
-    let at-loop-test = at-put-run .before .before .before in
+    let at-put-bytes = at-put-entry .before .before .before .before .before in
+    let at-loop-test = at-put-bytes .before .before .before in
     let at-loop = at-loop-test .before in
     let start = at-loop .before .before .before .before .before .before .before .before in
     let pre = start .pre in
     let w = entire _ _ _ _ _ _ _ _ _ _ _ _ _ (at-loop .loop .inv)
     (pre .1 .0 .1) (pre .1 .1) (at-loop-test .loop-test .taken) in
-    omega (arith, w, at-put-run .put-run .ensures .0 .1, at-put-entry .put-entry .ensures .0 .1)
+    omega (arith, w, at-put-bytes .put-bytes .ensures .0 .1, at-put-entry .put-entry .ensures .0 .1)
 
 loop-again : tie.Need-loop-again Inv-loop μ-loop
 loop-again c =
     let at-put-entry = c .before .before .before .before .before in
-    let at-put-run = at-put-entry .before .before .before .before .before in
-    let at-entry-at = at-put-run .before .before in
+    let at-put-bytes = at-put-entry .before .before .before .before .before in
+    let at-entry-at = at-put-bytes .before .before in
     let at-loop-test = at-entry-at .before in
     let at-loop = at-loop-test .before in
     let start = at-loop .before .before .before .before .before .before .before .before in
     let pre = start .pre in
-    let b = at-put-run .put-run .ensures in
+    let b = at-put-bytes .put-bytes .ensures in
     let e = at-put-entry .put-entry .ensures in
     turned _ _ _ _ _ _ _ _ _ _ _ _ _ (at-loop .loop .inv) (pre .1 .0 .1)
     (pre .1 .1) (at-loop-test .loop-test .taken) _
     (at-entry-at .entry-at .ensures) _ _ _ _ _ _ (b .1 .0) (b .0) (e .0) (e .1 .0) (e .1 .1)
     (c .place-at2 .ensures)
 
-put-run-requires-2 : tie.Need-put-run-requires-2 Inv-loop μ-loop
-put-run-requires-2 c κs =
+put-bytes-requires-2 : tie.Need-put-bytes-requires-2 Inv-loop μ-loop
+put-bytes-requires-2 c κs =
     let s = c .before .before .loop .inv in
     let pre = c .before .before .before .before .before .before .before .before .before .before .pre in
-    let u = up-to-here _ _ _ _ _ _ _ _ _ _ _ _ _ s (pre .1 .0 .1) (pre .1 .1) (pre .1 .0 .0) in
-    (u, (s .here, pre .1 .0 .1, last-room _ _ _ _ _ _ _ _ _ _ _ _ _ s (pre .1 .0 .1) (pre .1 .1) (c .before .loop-test .left)))
+    (s .here, pre .1 .0 .1, last-room _ _ _ _ _ _ _ _ _ _ _ _ _ s (pre .1 .0 .1) (pre .1 .1) (c .before .loop-test .left))
 
 same-length : tie.Need-same-length Inv-loop μ-loop
 same-length c =
-    c .before .before .put-run2 .kept .0 ∙ now-long _ _ _ _ _ _ _ _ _ _ _ _ _ (c .before .before .before .before .before .loop .inv)
+    c .before .before .put-bytes2 .kept .0 ∙ now-long _ _ _ _ _ _ _ _ _ _ _ _ _ (c .before .before .before .before .before .loop .inv)
     (c .before .before .before .before .before .before .before .before .before .before .before .before .before .pre .1 .0 .1)
     (c .before .before .before .before .before .before .before .before .before .before .before .before .before .pre .1 .1) .0
 
@@ -237,12 +231,11 @@ same-length-3 c =
 returns : tie.Need-returns Inv-loop μ-loop
 returns c =
     let pre = c .before .before .before .before .before .before .before .before .before .before .before .before .before .pre in
-    let b = c .before .before .put-run2 .ensures in
+    let b = c .before .before .put-bytes2 .ensures in
     let s = c .before .before .before .before .before .loop .inv in
     let past = c .before .before .before .before .loop-test .left in
-    let r = c .before .before .put-run2 .result in
-    let e = ended _ _ _ _ _ _ _ _ _ _ _ _ _ s (pre .1 .0 .1) (pre .1 .1) past _ r (b .1 .0) (b .0) in
-    (e .0, (e .1, (e .2, b .0 .0, run-kept _ _ _ _ _ _ _ _ _ _ _ _ _ s (pre .1 .0 .1) (pre .1 .1) past _ r (e .0))))
+    let e = ended _ _ _ _ _ _ _ _ _ _ _ _ _ s (pre .1 .0 .1) (pre .1 .1) past _ _ _ (b .1 .0) (b .0) (refl, refl, refl, refl, refl) in
+    (e .0, (e .1, (e .2, refl, run-kept _ _ _ _ _ _ _ _ _ _ _ _ _ s (pre .1 .0 .1) (pre .1 .1) past _ _ (e .0))))
 
 pub keep-spec : {M : Type 1} → statement M
 keep-spec =
@@ -253,18 +246,23 @@ keep-spec =
     place-at-requires
     loop-holds
     entry-at-requires
-    put-run-requires
+    put-bytes-requires
     put-entry-requires
     place-at-requires-2
     loop-less
     loop-again
-    put-run-requires-2
+    put-bytes-requires-2
     same-length
     same-length-2
     same-length-3
     returns)
 
--- the bytes go by `put_run` alone: once a turn, and once at the end
-pub keep-lends-on : LendsOn code.function [] 1 ("writer::place_at" ∷ "recording::entry_at" ∷ "writer::put_run" ∷ "writer::put_entry" ∷ "writer::place_at" ∷ "writer::put_run" ∷ [])
+-- the bytes go by `put_bytes` alone: once a turn, and once at the end
+pub keep-lends-on : LendsOn code.function [] 1 ("writer::place_at" ∷ "recording::entry_at" ∷ "writer::put_bytes" ∷ "writer::put_entry" ∷ "writer::place_at" ∷ "writer::put_bytes" ∷ [])
 unfolding ownArrays touches loops calls
 keep-lends-on = refl
+
+-- and each run where the one before ended: the cursor c begins as `from`, and is what one writing call leaves and the next one takes
+pub keep-threads : Threads code.function 7 9 ("writer::put_bytes" ∷ "writer::put_entry" ∷ [])
+unfolding onlyBy
+keep-threads = record { rest = code.t-2; begins = refl; goes-on = refl }
