@@ -7,7 +7,7 @@ use mathlib.Core.List.{List, [], _∷_, _++_}
 use lib.Dec.{eqb}
 use lib.Text.{eqt}
 use mir.Syntax.{Ty, tyInt, tyBool, tyFloat, tyPtr, tyRef, tyArray, tyUnit, tyStruct, tyEnum, tyNamed, Tys, tnil, tcons, Tyss, ttnil, ttcons, Local, local}
-use mir.Syntax.{Step, deref, field, variant, place, Opd, copy, int, intNeg, intBig, float, opdTrue, opdFalse, opdUnit, ptrConst, Rv, rvOpd, op2, op1, addrOf, aggregate, repeat}
+use mir.Syntax.{Step, deref, field, variant, Place, place, Opd, copy, int, intNeg, intBig, float, opdTrue, opdFalse, opdUnit, ptrConst, Rv, rvOpd, op2, op1, addrOf, aggregate, repeat}
 use mir.Syntax.{Name, Fn, Body, skip, seq, assign, block, loop, cond, switch, exit, return, call, Arms, arm, default, noDefault}
 
 -- ── its own arrays: the locals that are one or have one in them; what a reference points to is not its own
@@ -41,6 +41,40 @@ unfolding hasArray onlyIf
 ownArrays [] = []
 ownArrays (local t h ∷ ls) = onlyIf (hasArray t) t ++ ownArrays ls
 
+-- ── the places that operands and values read, and those whose address is taken, which is no access
+unfoldable pub read : Opd → List Place
+read (copy p) = p ∷ []
+read (int w n) = []
+read (intNeg w n) = []
+read (intBig w n) = []
+read (float f n) = []
+read opdTrue = []
+read opdFalse = []
+read opdUnit = []
+read (ptrConst n) = []
+
+unfoldable pub allRead : List Opd → List Place
+unfolding read
+allRead [] = []
+allRead (o ∷ os) = read o ++ allRead os
+
+unfoldable pub readBy : Rv → List Place
+unfolding allRead
+readBy (rvOpd o) = read o
+readBy (op2 f a b) = read a ++ read b
+readBy (op1 f a) = read a
+readBy (addrOf p) = []
+readBy (aggregate os) = allRead os
+readBy (repeat o n) = read o
+
+unfoldable pub lentBy : Rv → List Place
+lentBy (rvOpd o) = []
+lentBy (op2 f a b) = []
+lentBy (op1 f a) = []
+lentBy (addrOf p) = p ∷ []
+lentBy (aggregate os) = []
+lentBy (repeat o n) = []
+
 -- ── its own reads and stores behind a pointer or a reference: an element of a slice or of an array
 unfoldable pub behind : List Step → Bool
 behind [] = false
@@ -48,47 +82,25 @@ behind (deref t ∷ s) = true
 behind (field n ∷ s) = behind s
 behind (variant n ∷ s) = behind s
 
-unfoldable pub reads : Opd → Bool
+unfoldable pub anyBehind : List Place → Bool
 unfolding behind
-reads (copy (place n s)) = behind s
-reads (int w n) = false
-reads (intNeg w n) = false
-reads (intBig w n) = false
-reads (float f n) = false
-reads opdTrue = false
-reads opdFalse = false
-reads opdUnit = false
-reads (ptrConst n) = false
-
-unfoldable pub anyReads : List Opd → Bool
-unfolding reads
-anyReads [] = false
-anyReads (o ∷ os) = reads o || anyReads os
-
--- taking an address is no access
-unfoldable pub valueReads : Rv → Bool
-unfolding anyReads
-valueReads (rvOpd o) = reads o
-valueReads (op2 f a b) = reads a || reads b
-valueReads (op1 f a) = reads a
-valueReads (addrOf p) = false
-valueReads (aggregate os) = anyReads os
-valueReads (repeat o n) = reads o
+anyBehind [] = false
+anyBehind (place n s ∷ ps) = behind s || anyBehind ps
 
 unfoldable mutual
-  unfolding valueReads
+  unfolding anyBehind readBy
 
   pub touches : Body → Bool
   touches skip = false
   touches (seq a b) = touches a || touches b
-  touches (assign (place n s) v) = behind s || valueReads v
+  touches (assign p v) = anyBehind (p ∷ readBy v)
   touches (block a) = touches a
   touches (loop a) = touches a
-  touches (cond o a b) = reads o || touches a || touches b
-  touches (switch o arms) = reads o || anyTouches arms
+  touches (cond o a b) = anyBehind (read o) || touches a || touches b
+  touches (switch o arms) = anyBehind (read o) || anyTouches arms
   touches (exit n) = false
   touches return = false
-  touches (call f os (place n s)) = anyReads os || behind s
+  touches (call f os p) = anyBehind (p ∷ allRead os)
 
   pub anyTouches : Arms → Bool
   anyTouches (arm ks a arms) = touches a || anyTouches arms
@@ -137,36 +149,20 @@ unfoldable mutual
 abbrev pub LendsOn : Fn → List Ty → ℕ → List Name → Type 0
 LendsOn f arrays turns names = _≡_ {A = List Ty × Bool × ℕ × List Name} (ownArrays (f .locals), touches (f .body), loops (f .body), calls (f .body)) (arrays, false, turns, names)
 
--- ── a local that goes from call to call
-unfoldable pub isWhole : ℕ → Opd → Bool
-isWhole c (copy (place n [])) = eqb n c
-isWhole c (copy (place n (x ∷ s))) = false
-isWhole c (int w n) = false
-isWhole c (intNeg w n) = false
-isWhole c (intBig w n) = false
-isWhole c (float f n) = false
-isWhole c opdTrue = false
-isWhole c opdFalse = false
-isWhole c opdUnit = false
-isWhole c (ptrConst n) = false
+-- ── a local that goes from call to call: c is the local's number
+-- it is among these places as a whole; it, or a part of it, is
+unfoldable pub isWhole : ℕ → List Place → Bool
+isWhole c [] = false
+isWhole c (place n [] ∷ ps) = eqb n c || isWhole c ps
+isWhole c (place n (x ∷ s) ∷ ps) = isWhole c ps
 
-unfoldable pub takes : ℕ → List Opd → Bool
-unfolding isWhole
-takes c [] = false
-takes c (o ∷ os) = isWhole c o || takes c os
+unfoldable pub isIn : ℕ → List Place → Bool
+isIn c [] = false
+isIn c (place n s ∷ ps) = eqb n c || isIn c ps
 
 unfoldable pub isAmong : List Name → Name → Bool
 isAmong [] f = false
 isAmong (n ∷ ns) f = eqt n f || isAmong ns f
-
--- its address is not taken
-unfoldable pub unlent : ℕ → Rv → Bool
-unlent c (rvOpd o) = true
-unlent c (op2 f a b) = true
-unlent c (op1 f a) = true
-unlent c (addrOf (place n s)) = not (eqb n c)
-unlent c (aggregate os) = true
-unlent c (repeat o n) = true
 
 -- a call of one of these functions takes it whole and leaves its answer in it; no other call changes it
 unfoldable pub inTurn : Bool → Bool → Bool → Bool
@@ -174,19 +170,19 @@ inTurn true taken left = taken && left
 inTurn false taken left = not left
 
 unfoldable mutual
-  unfolding takes isAmong unlent inTurn
+  unfolding isWhole isIn isAmong inTurn allRead lentBy
 
   pub onlyBy : List Name → ℕ → Body → Bool
   onlyBy ns c skip = true
   onlyBy ns c (seq a b) = onlyBy ns c a && onlyBy ns c b
-  onlyBy ns c (assign (place n s) v) = not (eqb n c) && unlent c v
+  onlyBy ns c (assign p v) = not (isIn c (p ∷ lentBy v))
   onlyBy ns c (block a) = onlyBy ns c a
   onlyBy ns c (loop a) = onlyBy ns c a
   onlyBy ns c (cond o a b) = onlyBy ns c a && onlyBy ns c b
   onlyBy ns c (switch o arms) = allOnlyBy ns c arms
   onlyBy ns c (exit n) = true
   onlyBy ns c return = true
-  onlyBy ns c (call f os (place n s)) = inTurn (isAmong ns f) (takes c os) (eqb n c)
+  onlyBy ns c (call f os p) = inTurn (isAmong ns f) (isWhole c (allRead os)) (isIn c (p ∷ []))
 
   pub allOnlyBy : List Name → ℕ → Arms → Bool
   allOnlyBy ns c (arm ks a arms) = onlyBy ns c a && allOnlyBy ns c arms
