@@ -47,7 +47,7 @@ returns c =
     let k = c .before .before .before .before .before .before .keep in
     let n = ap (λ (x : ℕ). a .end - x) (s .ensures .1 .1 .1) in (
       laws.line-wrote _ _ _ _ _ _ _ (p .1 .1) (s .ensures .0) (s .ensures .1 .0) n _ (k .ensures .0),
-      (laws.line-left _ _ _ _ _ _ _ (p .1 .1) (s .ensures .0) (s .ensures .1 .0) n _ (k .ensures .1 .0), k .ensures .1 .1),
+      (laws.line-left _ _ _ _ _ _ _ (p .1 .1) (s .ensures .0) (s .ensures .1 .0) n _ (k .ensures .1 .0), (k .ensures .1 .1 .0, k .ensures .1 .1 .1)),
     )
 
 pub put-line-spec : {M : Type 1} → statement M
