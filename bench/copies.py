@@ -1,4 +1,4 @@
-"""Reads the trace of `copies.c`, prints a row for each truncating call, and fails if a count is not what `copies` says."""
+"""Reads the trace of `copies.c`, prints a row for each truncating call, and fails if a count is not what `README.md` says."""
 import sys
 from collections import Counter
 
@@ -38,7 +38,7 @@ def main():
     content, *buffers = map(place, at[2:])
     traced = parts(sys.stdin, at[1])
     elsewhere, failed = {}, False
-    print("| call | content | entries | data, entries, text stored | stored elsewhere: measuring, rest, places | passes: measuring, copying |")
+    print("| call | content | entries | data, entries, text stored | elsewhere by measuring, by the rest, places | passes measuring, copying |")
     print("|---|---|---|---|---|---|")
     for (call, calling), (kept, measuring) in zip(traced, traced):
         name, (size, count, *left), (first, end) = call[0], map(int, call[1:]), map(int, kept)
@@ -55,7 +55,8 @@ def main():
         if copied != [int(first <= i < end) for i in range(size)]:
             wrong.append("a kept byte is not read once beside measuring, or another one is")
         passes = sum(measured[byte] for byte in content) / size, sum(copied) / size
-        print(f"| `{name.replace(',', '`, ')} | {size} | {count} | {', '.join(map(str, left))} | {by_measuring}, {rest[0]}, {rest[1]} | {passes[0]:.2f}, {passes[1]:.2f} |")
+        numbers = ", ".join(map(str, left)), f"{by_measuring}, {rest[0]}, {rest[1]}", f"{passes[0]:.2f}, {passes[1]:.2f}"
+        print(f"| `{name.replace(',', '`, ')} | {size} | {count} | {' | '.join(numbers)} |")
         for what in wrong:
             print(f"copies: {what}")
         failed = failed or wrong != []
