@@ -11,7 +11,7 @@ use bench::timing::{Pair, measure};
 use oracle::Lists;
 use ruszvedok::lent::{self, View};
 
-const ROUNDS: usize = 60;
+const ROUNDS: usize = 200;
 const ELLIPSIS: &[u8] = b"...";
 
 /// A content, whether it is cut (to half of its width) or kept whole, and at which end. Each byte is one column wide.
@@ -90,7 +90,7 @@ fn main() -> Result<(), String> {
                         let text = Input::new(Kind::Ascii, size, 1).texts.remove(0);
                         Call { content: labelled(text, size / apart).to_lists(), cut, end }
                     };
-                    row += &format!(" {:.1} | {:.2} |", against(Call::copy, call())?, against(Call::measure_and_copy, call())?);
+                    row += &format!(" {:.0} | {:.2} |", against(Call::copy, call())?, against(Call::measure_and_copy, call())?);
                 }
                 println!("{row}");
             }
