@@ -6,7 +6,7 @@ use std::rc::Rc;
 
 use bench::inputs::{Input, Numbers, ROWS, SHORT_ROWS, SIZES, Size, TABBED};
 use bench::ours;
-use bench::recordings::{Answer, Left, view};
+use bench::recordings::{self, Answer, Left, view};
 use bench::room::Room;
 use bench::timing::Pair;
 use oracle::original::{FormatRecorder, Formatter};
@@ -123,18 +123,8 @@ fn row(text: &[u8]) -> Row {
 }
 
 fn labelled(data: Vec<u8>, count: usize) -> Row {
-    let entries = (0..count)
-        .map(|i| {
-            let at = data.len() * i / count;
-            match i % 2 {
-                0 => Entry { at, kind: Kind::Push, text: b"working_copy"[..4 + i % 8].to_vec() },
-                _ => Entry { at, kind: Kind::Pop, text: vec![] },
-            }
-        })
-        .collect();
-    let width = original::text_width(&data);
-    let recording = Recording { data, entries };
-    Row { lists: recording.to_lists(), recorder: recording.to_recorder(), recording, width }
+    let recording = recordings::labelled(data, count);
+    Row { lists: recording.to_lists(), recorder: recording.to_recorder(), width: original::text_width(&recording.data), recording }
 }
 
 fn rows(input: &Input) -> Vec<Row> {

@@ -15,6 +15,20 @@ pub fn view(lists: &Lists) -> View<'_> {
     View { data: &lists.data, entries: &lists.entries, text: &lists.text }
 }
 
+/// A text with that many pushes and pops of labels, evenly apart.
+pub fn labelled(data: Vec<u8>, count: usize) -> Recording {
+    let entries = (0..count)
+        .map(|i| {
+            let at = data.len() * i / count;
+            match i % 2 {
+                0 => Entry { at, kind: Kind::Push, text: b"working_copy"[..4 + i % 8].to_vec() },
+                _ => Entry { at, kind: Kind::Pop, text: vec![] },
+            }
+        })
+        .collect();
+    Recording { data, entries }
+}
+
 /// Data of characters of every width, ill-formed bytes, and in some of it words, spaces and line ends.
 pub fn content(numbers: &mut Numbers) -> Vec<u8> {
     let mut made = vec![];
