@@ -116,29 +116,6 @@ fn put_from(
     )
 }
 
-// Writes the first run of the end call, what is kept of the content. The ellipsis is lent to say what the finished result is.
-fn put_end_content(
-    bytes: &mut [u8],
-    numbers: &mut [u32],
-    texts: &mut [u8],
-    content: &[u8],
-    entries: &[u32],
-    text: &[u8],
-    ellipsis: &[u8],
-    p: Plan,
-    c: Cursor,
-) -> Cursor
-    requires { ⌜ Sound (now content) (now entries) (now text) ⌝ }
-    requires { ⌜ (p .cut ≡ true) × (p .content ≤ length (now content)) × (c .d ≡ 0) ⌝ }
-    requires { ⌜ Fits (edit (cutEnd (p .content) (now content)) (items (recording (now content) (now entries) (now text)))) (out (now bytes) (now numbers) (now texts) c) ⌝ }
-    ensures { λ r. ⌜ out (now (bytes .exit)) (now (numbers .exit)) (now (texts .exit)) r ≡ add
-        (edit (cutEnd (p .content) (now (content .entry))) (items (recording (now (content .entry)) (now (entries .entry)) (now (text .entry)))))
-        (out (now (bytes .entry)) (now (numbers .entry)) (now (texts .entry)) c) ⌝ }
-    ensures { λ r. ⌜ (r .d ≡ p .content) × HoldsUpTo (r .d) (finishedEnd p (now (content .entry)) (now (ellipsis .entry))) (now (bytes .entry)) (now (bytes .exit)) ⌝ }
-{
-    put_up_to(bytes, numbers, texts, content, entries, text, c, p.content)
-}
-
 // Writes the second run of the end call, what is kept of the ellipsis. The first has to stand in the buffer; the content is lent to say so.
 fn put_end_ellipsis(
     bytes: &mut [u8],
@@ -162,40 +139,6 @@ fn put_end_ellipsis(
     ensures { λ r. ⌜ HoldsUpTo (r .d) (finishedEnd p (now (content .entry)) (now (ellipsis .entry))) (now (bytes .entry)) (now (bytes .exit)) ⌝ }
 {
     put_up_to(
-        bytes,
-        numbers,
-        texts,
-        ellipsis,
-        ellipsis_entries,
-        ellipsis_text,
-        c,
-        p.ellipsis,
-    )
-}
-
-// Writes the first run of the start call, what is kept of the ellipsis. The content is lent to say what the finished result is.
-fn put_start_ellipsis(
-    bytes: &mut [u8],
-    numbers: &mut [u32],
-    texts: &mut [u8],
-    content: &[u8],
-    ellipsis: &[u8],
-    ellipsis_entries: &[u32],
-    ellipsis_text: &[u8],
-    p: Plan,
-    c: Cursor,
-) -> Cursor
-    requires { ⌜ Sound (now ellipsis) (now «ellipsis_entries») (now «ellipsis_text») ⌝ }
-    requires { ⌜ (p .cut ≡ true) × (p .ellipsis ≤ length (now ellipsis)) × (c .d ≡ 0) ⌝ }
-    requires { ⌜ Fits (edit (cutStart (p .ellipsis)) (items (recording (now ellipsis) (now «ellipsis_entries») (now «ellipsis_text»))))
-        (out (now bytes) (now numbers) (now texts) c) ⌝ }
-    ensures { λ r. ⌜ out (now (bytes .exit)) (now (numbers .exit)) (now (texts .exit)) r ≡ add
-        (edit (cutStart (p .ellipsis)) (items (recording (now (ellipsis .entry)) (now («ellipsis_entries» .entry)) (now («ellipsis_text» .entry)))))
-        (out (now (bytes .entry)) (now (numbers .entry)) (now (texts .entry)) c) ⌝ }
-    ensures { λ r. ⌜ (r .d ≡ length (now (ellipsis .entry)) - p .ellipsis)
-        × HoldsUpTo (r .d) (finishedStart p (now (content .entry)) (now (ellipsis .entry))) (now (bytes .entry)) (now (bytes .exit)) ⌝ }
-{
-    put_from(
         bytes,
         numbers,
         texts,
@@ -265,16 +208,15 @@ fn put_end(
     if !p.cut {
         return put_recording(bytes, numbers, texts, content, entries, text, start);
     }
-    let c = put_end_content(
+    let c = put_up_to(
         bytes,
         numbers,
         texts,
         content,
         entries,
         text,
-        ellipsis,
-        p,
         start,
+        p.content,
     );
     put_end_ellipsis(
         bytes,
@@ -332,16 +274,15 @@ fn put_start(
             p.content,
         );
     }
-    let c = put_start_ellipsis(
+    let c = put_from(
         bytes,
         numbers,
         texts,
-        content,
         ellipsis,
         ellipsis_entries,
         ellipsis_text,
-        p,
         start,
+        p.ellipsis,
     );
     put_start_content(
         bytes,

@@ -1,4 +1,4 @@
--- `put` lends the rest of the buffer to the copying leaf; what comes back is the buffer with the part written from `at` on (`lent-back`), so a run more of a finished result (`run-held`).
+-- `put` lends the rest of the buffer to the copying leaf; what comes back is the buffer with the part written from `at` on (`lent-back`), which is one run more (`part-held`).
 use borrow.Author.Needs.{needs}
 use mathlib.Core.Path.{refl, _∙_}
 use mathlib.Core.List.{[], _∷_}
