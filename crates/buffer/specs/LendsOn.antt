@@ -11,6 +11,7 @@ use mir.Syntax.{Step, deref, field, variant, Place, place, Opd, copy, int, intNe
 use mir.Syntax.{Name, Fn, Body, skip, seq, assign, block, loop, cond, switch, exit, return, call, Arms, arm, default, noDefault}
 
 -- ── its own arrays: the locals that are one or have one in them; what a reference points to is not its own
+-- a type that is an array or has one in it; of a type that is only named nothing is known
 unfoldable mutual
   pub hasArray : Ty → Bool
   hasArray (tyInt w) = false
@@ -32,16 +33,19 @@ unfoldable mutual
   anyVariant ttnil = false
   anyVariant (ttcons ts vs) = anyArray ts || anyVariant vs
 
+-- the type, if so
 unfoldable pub onlyIf : Bool → Ty → List Ty
 onlyIf true t = t ∷ []
 onlyIf false t = []
 
+-- the types of its own arrays, in the order of its locals
 unfoldable pub ownArrays : List Local → List Ty
 unfolding hasArray onlyIf
 ownArrays [] = []
 ownArrays (local t h ∷ ls) = onlyIf (hasArray t) t ++ ownArrays ls
 
 -- ── the places that operands and values read, and those whose address is taken, which is no access
+-- what an operand reads
 unfoldable pub read : Opd → List Place
 read (copy p) = p ∷ []
 read (int w n) = []
@@ -53,11 +57,13 @@ read opdFalse = []
 read opdUnit = []
 read (ptrConst n) = []
 
+-- what several read
 unfoldable pub allRead : List Opd → List Place
 unfolding read
 allRead [] = []
 allRead (o ∷ os) = read o ++ allRead os
 
+-- what a value reads
 unfoldable pub readBy : Rv → List Place
 unfolding allRead
 readBy (rvOpd o) = read o
@@ -67,6 +73,7 @@ readBy (addrOf p) = []
 readBy (aggregate os) = allRead os
 readBy (repeat o n) = read o
 
+-- what a value is the address of
 unfoldable pub lentBy : Rv → List Place
 lentBy (rvOpd o) = []
 lentBy (op2 f a b) = []
@@ -76,17 +83,20 @@ lentBy (aggregate os) = []
 lentBy (repeat o n) = []
 
 -- ── its own reads and stores behind a pointer or a reference: an element of a slice or of an array
+-- these steps go through one
 unfoldable pub behind : List Step → Bool
 behind [] = false
 behind (deref t ∷ s) = true
 behind (field n ∷ s) = behind s
 behind (variant n ∷ s) = behind s
 
+-- one of the places is behind one
 unfoldable pub anyBehind : List Place → Bool
 unfolding behind
 anyBehind [] = false
 anyBehind (place n s ∷ ps) = behind s || anyBehind ps
 
+-- the code reads or stores at such a place
 unfoldable mutual
   unfolding anyBehind readBy
 
@@ -150,16 +160,18 @@ abbrev pub LendsOn : Fn → List Ty → ℕ → List Name → Type 0
 LendsOn f arrays turns names = _≡_ {A = List Ty × Bool × ℕ × List Name} (ownArrays (f .locals), touches (f .body), loops (f .body), calls (f .body)) (arrays, false, turns, names)
 
 -- ── a local that goes from call to call: c is the local's number
--- it is among these places as a whole; it, or a part of it, is
+-- it is among these places, as a whole
 unfoldable pub isWhole : ℕ → List Place → Bool
 isWhole c [] = false
 isWhole c (place n [] ∷ ps) = eqb n c || isWhole c ps
 isWhole c (place n (x ∷ s) ∷ ps) = isWhole c ps
 
+-- it, or a part of it, is among these places
 unfoldable pub isIn : ℕ → List Place → Bool
 isIn c [] = false
 isIn c (place n s ∷ ps) = eqb n c || isIn c ps
 
+-- a function is one of these
 unfoldable pub isAmong : List Name → Name → Bool
 isAmong [] f = false
 isAmong (n ∷ ns) f = eqt n f || isAmong ns f
@@ -169,6 +181,7 @@ unfoldable pub inTurn : Bool → Bool → Bool → Bool
 inTurn true taken left = taken && left
 inTurn false taken left = not left
 
+-- the code changes it by calls of these functions alone, each of which takes it whole, and its address is not taken
 unfoldable mutual
   unfolding isWhole isIn isAmong inTurn allRead lentBy
 

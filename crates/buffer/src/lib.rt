@@ -6,7 +6,7 @@ ghost use lib.ListN.{length};
 ghost use Rattle.buffer.specs.Place.{overAt, part};
 ghost use Rattle.buffer.specs.Held.{RunHeld};
 
-// Copies the bytes of src from a up to b into out from `at` on, and returns the place after them. All bytes that this library writes go this way, run by run (`RunHeld`).
+// Copies the bytes of src from a up to b into out from `at` on, and returns the place after them. The layout calls write every byte this way, run by run (`RunHeld`).
 pub fn put(out: &mut [u8], at: usize, src: &[u8], a: usize, b: usize) -> usize
     requires { ⌜ (a ≤ b) × (b ≤ length (now src)) × (at + (b - a) ≤ length (now out)) ⌝ }
     ensures { λ r. ⌜ (r ≡ at + (b - a)) × (now (out .exit) ≡ overAt at (part a b (now (src .entry))) (now (out .entry)))
