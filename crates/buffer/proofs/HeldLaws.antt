@@ -7,7 +7,7 @@ use native.Mathlib.Omega.{arith}
 use lib.ListN.{length, take, drop, length-take, length-drop, length-append}
 use lib.Seq.{drop-at, drop-drop, take-add, take-append-seam, drop-append-seam, take-length, length-take-le}
 use Rattle.buffer.specs.Place.{over, overAt, part}
-use Rattle.buffer.specs.Held.{HoldsUpTo, NextIn, RunHeld, written, AfterEachRun}
+use Rattle.buffer.specs.Held.{HoldsUpTo, NextIn, RunHeld, RunsHeld, AfterEachRun}
 use Rattle.buffer.proofs.Laws.{put-over, length-part}
 
 pub run-held : (at to : ℕ) (run old new : List ℕ) → new ≡ overAt at run old → to ≡ at + length run → RunHeld at to run old new
@@ -54,17 +54,17 @@ next-second a b all at e l =
     sym (ap (λ (x : List ℕ). take (length b) (drop at x)) e ∙ ap (λ (x : List ℕ). take (length b) x) (drop-at a b at (sym l)) ∙ take-length b)
 
 -- ── one run after another
-runs-held : (xs : List (List ℕ)) (at : ℕ) (finished former old rest : List ℕ) → HoldsUpTo at finished former old → drop at finished ≡ flatten xs ++ rest
-    → HoldsUpTo (at + length (flatten xs)) finished former (written at xs old)
-unfolding RunHeld written flatten
-runs-held [] at finished former old rest h e = let none : at + 0 ≡ at = omega arith in rw none h
-runs-held (x ∷ xs) at finished former old rest h e =
+runs-held : (xs : List (List ℕ)) (at : ℕ) (finished former old new rest : List ℕ) → RunsHeld at xs old new → HoldsUpTo at finished former old → drop at finished ≡ flatten xs ++ rest
+    → HoldsUpTo (at + length (flatten xs)) finished former new
+unfolding RunHeld RunsHeld flatten
+runs-held [] at finished former old new rest s h e = let none : at + 0 ≡ at = omega arith in rw (none, s) h
+runs-held (x ∷ xs) at finished former old new rest s h e =
     let e′ : drop at finished ≡ x ++ (flatten xs ++ rest) = e ∙ append-assoc x (flatten xs) rest in
     let next : x ≡ take (length x) (drop at finished) = sym (ap (λ (y : List ℕ). take (length x) y) e′ ∙ take-append-seam x (flatten xs ++ rest)) in
     let onward : drop (at + length x) finished ≡ flatten xs ++ rest =
     sym (drop-drop (length x) at finished) ∙ ap (λ (y : List ℕ). drop (length x) y) e′ ∙ drop-append-seam x (flatten xs ++ rest) in
     let far : at + length (x ++ flatten xs) ≡ (at + length x) + length (flatten xs) = omega (arith, length-append x (flatten xs)) in
-    rw far (runs-held xs (at + length x) finished former (overAt at x old) rest (run-held at (at + length x) x old (overAt at x old) refl refl finished former h next) onward)
+    rw far (runs-held xs (at + length x) finished former (s .0) new rest (s .2) ((s .1) finished former h next) onward)
 
 flatten-append : (xs ys : List (List ℕ)) → flatten (xs ++ ys) ≡ flatten xs ++ flatten ys
 unfolding flatten
@@ -73,7 +73,7 @@ flatten-append (x ∷ xs) ys = ap (λ (y : List ℕ). x ++ y) (flatten-append xs
 
 pub after-each-run : AfterEachRun
 unfolding AfterEachRun
-after-each-run done rest former =
+after-each-run done rest former buffer s =
     let all : List ℕ = flatten (done ++ rest) in
     let far : 0 + length (flatten done) ≡ length (flatten done) = omega arith in
-    rw far at (runs-held done 0 all former former (flatten rest) (held-none all former) (flatten-append done rest))
+    rw far at (runs-held done 0 all former former buffer (flatten rest) s (held-none all former) (flatten-append done rest))

@@ -3,7 +3,7 @@ use Prim.Native.Nat.{ℕ, _+_, _≤_}
 use mathlib.Core.Path.{_≡_}
 use mathlib.Core.List.{List, [], _∷_, _++_, flatten}
 use lib.ListN.{length, take, drop}
-use Rattle.buffer.specs.Place.{over, overAt}
+use Rattle.buffer.specs.Place.{over}
 
 -- the buffer holds the finished result up to `at`, and beyond it what it held before
 pub record HoldsUpTo (at : ℕ) (finished former buffer : List ℕ) : Type 0 where
@@ -19,11 +19,11 @@ NextIn finished at run = run ≡ take (length run) (drop at finished)
 unfoldable pub RunHeld : ℕ → ℕ → List ℕ → List ℕ → List ℕ → Type 0
 RunHeld at to run old new = (finished former : List ℕ) → HoldsUpTo at finished former old → NextIn finished at run → HoldsUpTo to finished former new
 
--- a buffer after runs were written into it from `at` on, each where the one before ended
-unfoldable pub written : ℕ → List (List ℕ) → List ℕ → List ℕ
-written at [] old = old
-written at (x ∷ xs) old = written (at + length x) xs (overAt at x old)
+-- buffers that calls leave one after another from `old` to `new`, each call with the promise of a run that begins where the one before ended
+unfoldable pub RunsHeld : ℕ → List (List ℕ) → List ℕ → List ℕ → Type 0
+RunsHeld at [] old new = new ≡ old
+RunsHeld at (x ∷ xs) old new = (next : List ℕ) × RunHeld at (at + length x) x old next × RunsHeld (at + length x) xs next new
 
 -- AFTER EACH RUN, whatever their number: some are done and the rest is to come, all of them are the finished result, and `former` is the buffer at first
 unfoldable pub AfterEachRun : Type 0
-AfterEachRun = (done rest : List (List ℕ)) (former : List ℕ) → HoldsUpTo (length (flatten done)) (flatten (done ++ rest)) former (written 0 done former)
+AfterEachRun = (done rest : List (List ℕ)) (former buffer : List ℕ) → RunsHeld 0 done former buffer → HoldsUpTo (length (flatten done)) (flatten (done ++ rest)) former buffer

@@ -1,6 +1,6 @@
 -- What a function does to memory by itself and what it leaves to the functions that it calls, read off the code that runs (its MIR).
 -- A slice that a function only lends on changes in its calls alone, and what those do is in their contracts.
-use Prim.Native.Nat.{ℕ, suc, _+_}
+use Prim.Native.Nat.{ℕ, suc}
 use mathlib.Core.Bool.{Bool, true, false, not, _&&_, _||_}
 use mathlib.Core.Path.{_≡_}
 use mathlib.Core.List.{List, [], _∷_, _++_}
@@ -96,68 +96,60 @@ unfolding behind
 anyBehind [] = false
 anyBehind (place n s ∷ ps) = behind s || anyBehind ps
 
--- the code reads or stores at such a place
+-- ── the code as a list of what it does, in the order of its text: a value is stored, an operand decides which way to go, a loop begins, a function is called
+pub data Act : Type 0 where
+  stores : Place → Rv → Act
+  decides : Opd → Act
+  turns : Act
+  makes : Name → List Opd → Place → Act
+
 unfoldable mutual
-  unfolding anyBehind readBy
+  pub acts : Body → List Act
+  acts skip = []
+  acts (seq a b) = acts a ++ acts b
+  acts (assign p v) = stores p v ∷ []
+  acts (block a) = acts a
+  acts (loop a) = turns ∷ acts a
+  acts (cond o a b) = decides o ∷ (acts a ++ acts b)
+  acts (switch o arms) = decides o ∷ armActs arms
+  acts (exit n) = []
+  acts return = []
+  acts (call f os p) = makes f os p ∷ []
 
-  pub touches : Body → Bool
-  touches skip = false
-  touches (seq a b) = touches a || touches b
-  touches (assign p v) = anyBehind (p ∷ readBy v)
-  touches (block a) = touches a
-  touches (loop a) = touches a
-  touches (cond o a b) = anyBehind (read o) || touches a || touches b
-  touches (switch o arms) = anyBehind (read o) || anyTouches arms
-  touches (exit n) = false
-  touches return = false
-  touches (call f os p) = anyBehind (p ∷ allRead os)
+  pub armActs : Arms → List Act
+  armActs (arm ks a arms) = acts a ++ armActs arms
+  armActs (default a) = acts a
+  armActs noDefault = []
 
-  pub anyTouches : Arms → Bool
-  anyTouches (arm ks a arms) = touches a || anyTouches arms
-  anyTouches (default a) = touches a
-  anyTouches noDefault = false
+-- it reads or stores at a place behind a pointer or a reference
+unfoldable pub touches : List Act → Bool
+unfolding anyBehind readBy
+touches [] = false
+touches (stores p v ∷ rest) = anyBehind (p ∷ readBy v) || touches rest
+touches (decides o ∷ rest) = anyBehind (read o) || touches rest
+touches (turns ∷ rest) = touches rest
+touches (makes f os p ∷ rest) = anyBehind (p ∷ allRead os) || touches rest
 
--- ── the functions that it calls, in the order of the text
-unfoldable mutual
-  pub calls : Body → List Name
-  calls skip = []
-  calls (seq a b) = calls a ++ calls b
-  calls (assign p v) = []
-  calls (block a) = calls a
-  calls (loop a) = calls a
-  calls (cond o a b) = calls a ++ calls b
-  calls (switch o arms) = armCalls arms
-  calls (exit n) = []
-  calls return = []
-  calls (call f os p) = f ∷ []
+-- the functions that it calls
+unfoldable pub calls : List Act → List Name
+calls [] = []
+calls (stores p v ∷ rest) = calls rest
+calls (decides o ∷ rest) = calls rest
+calls (turns ∷ rest) = calls rest
+calls (makes f os p ∷ rest) = f ∷ calls rest
 
-  pub armCalls : Arms → List Name
-  armCalls (arm ks a arms) = calls a ++ armCalls arms
-  armCalls (default a) = calls a
-  armCalls noDefault = []
-
--- ── its loops
-unfoldable mutual
-  pub loops : Body → ℕ
-  loops skip = 0
-  loops (seq a b) = loops a + loops b
-  loops (assign p v) = 0
-  loops (block a) = loops a
-  loops (loop a) = suc (loops a)
-  loops (cond o a b) = loops a + loops b
-  loops (switch o arms) = armLoops arms
-  loops (exit n) = 0
-  loops return = 0
-  loops (call f os p) = 0
-
-  pub armLoops : Arms → ℕ
-  armLoops (arm ks a arms) = loops a + armLoops arms
-  armLoops (default a) = loops a
-  armLoops noDefault = 0
+-- its loops
+unfoldable pub loops : List Act → ℕ
+loops [] = 0
+loops (stores p v ∷ rest) = loops rest
+loops (decides o ∷ rest) = loops rest
+loops (turns ∷ rest) = suc (loops rest)
+loops (makes f os p ∷ rest) = loops rest
 
 -- A FUNCTION THAT ONLY LENDS ON: it has these arrays of its own, by itself it reads and stores nothing behind a reference, and it has so many loops and these calls
 abbrev pub LendsOn : Fn → List Ty → ℕ → List Name → Type 0
-LendsOn f arrays turns names = _≡_ {A = List Ty × Bool × ℕ × List Name} (ownArrays (f .locals), touches (f .body), loops (f .body), calls (f .body)) (arrays, false, turns, names)
+LendsOn f arrays turned names = _≡_ {A = List Ty × Bool × ℕ × List Name} (ownArrays (f .locals), touches (acts (f .body)), loops (acts (f .body)), calls (acts (f .body)))
+    (arrays, false, turned, names)
 
 -- ── a local that goes from call to call: c is the local's number
 -- it is among these places, as a whole
@@ -182,28 +174,16 @@ inTurn true taken left = taken && left
 inTurn false taken left = not left
 
 -- the code changes it by calls of these functions alone, each of which takes it whole, and its address is not taken
-unfoldable mutual
-  unfolding isWhole isIn isAmong inTurn allRead lentBy
-
-  pub onlyBy : List Name → ℕ → Body → Bool
-  onlyBy ns c skip = true
-  onlyBy ns c (seq a b) = onlyBy ns c a && onlyBy ns c b
-  onlyBy ns c (assign p v) = not (isIn c (p ∷ lentBy v))
-  onlyBy ns c (block a) = onlyBy ns c a
-  onlyBy ns c (loop a) = onlyBy ns c a
-  onlyBy ns c (cond o a b) = onlyBy ns c a && onlyBy ns c b
-  onlyBy ns c (switch o arms) = allOnlyBy ns c arms
-  onlyBy ns c (exit n) = true
-  onlyBy ns c return = true
-  onlyBy ns c (call f os p) = inTurn (isAmong ns f) (isWhole c (allRead os)) (isIn c (p ∷ []))
-
-  pub allOnlyBy : List Name → ℕ → Arms → Bool
-  allOnlyBy ns c (arm ks a arms) = onlyBy ns c a && allOnlyBy ns c arms
-  allOnlyBy ns c (default a) = onlyBy ns c a
-  allOnlyBy ns c noDefault = true
+unfoldable pub onlyBy : List Name → ℕ → List Act → Bool
+unfolding isWhole isIn isAmong inTurn allRead lentBy
+onlyBy ns c [] = true
+onlyBy ns c (stores p v ∷ rest) = not (isIn c (p ∷ lentBy v)) && onlyBy ns c rest
+onlyBy ns c (decides o ∷ rest) = onlyBy ns c rest
+onlyBy ns c (turns ∷ rest) = onlyBy ns c rest
+onlyBy ns c (makes f os p ∷ rest) = inTurn (isAmong ns f) (isWhole c (allRead os)) (isIn c (p ∷ [])) && onlyBy ns c rest
 
 -- ONE AFTER ANOTHER: the local c begins as the parameter `from`, and then it is what one call of these functions leaves and the next one takes; nothing else changes it
 pub record Threads (f : Fn) (from c : ℕ) (names : List Name) : Type 0 where
-  pub rest : Body
-  pub begins : f .body ≡ seq (assign (place c []) (rvOpd (copy (place from [])))) rest
+  pub rest : List Act
+  pub begins : acts (f .body) ≡ stores (place c []) (rvOpd (copy (place from []))) ∷ rest
   pub goes-on : onlyBy names c rest ≡ true

@@ -2,7 +2,7 @@
 use borrow.Author.Needs.{needs}
 use mathlib.Core.Path.{refl, _∙_}
 use mathlib.Core.List.{[], _∷_}
-use Rattle.buffer.specs.LendsOn.{LendsOn, ownArrays, touches, loops, calls}
+use Rattle.buffer.specs.LendsOn.{LendsOn, ownArrays, acts, touches, loops, calls}
 use Rattle.buffer.proofs.Laws.{lent-back, copied-over}
 use Rattle.buffer.proofs.HeldLaws.{part-held}
 use Rattle.buffer.proofs.put.Code.Mir as code
@@ -66,5 +66,5 @@ put-spec =
 
 -- a run goes by one copy, to its place
 pub put-lends-on : LendsOn code.function [] 0 ("bytes::copy" ∷ [])
-unfolding ownArrays touches loops calls
+unfolding ownArrays acts touches loops calls
 put-lends-on = refl

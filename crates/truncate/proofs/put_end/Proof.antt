@@ -9,7 +9,7 @@ use lib.ListN.{length, take}
 use lib.Seq.{length-take-le}
 use borrow.Author.Tests.{not-true, not-false}
 use Rattle.buffer.specs.Held.{HoldsUpTo}
-use Rattle.buffer.specs.LendsOn.{LendsOn, ownArrays, touches, loops, calls}
+use Rattle.buffer.specs.LendsOn.{LendsOn, ownArrays, acts, touches, loops, calls}
 use Rattle.buffer.proofs.HeldLaws.{held-self}
 use Rattle.recording.specs.Recording.{Recording, recording, Item, items}
 use Rattle.recording.specs.Edit.{edit}
@@ -155,5 +155,5 @@ put-end-spec =
 
 -- each run goes by one call, and nothing is done between them
 pub put-end-lends-on : LendsOn code.function [] 0 ("writer::put_recording" ∷ "truncate::put_up_to" ∷ "truncate::put_end_ellipsis" ∷ [])
-unfolding ownArrays touches loops calls
+unfolding ownArrays acts touches loops calls
 put-end-lends-on = refl

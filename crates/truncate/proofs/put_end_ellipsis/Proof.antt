@@ -5,7 +5,7 @@ use mathlib.Core.List.{[], _∷_}
 use lib.ListN.{take}
 use lib.Seq.{length-take-le}
 use Rattle.buffer.specs.Held.{RunHeld}
-use Rattle.buffer.specs.LendsOn.{LendsOn, ownArrays, touches, loops, calls}
+use Rattle.buffer.specs.LendsOn.{LendsOn, ownArrays, acts, touches, loops, calls}
 use Rattle.buffer.proofs.HeldLaws.{next-second}
 use Rattle.writer.specs.Write.{out}
 use Rattle.truncate.specs.Planned.{finishedEnd}
@@ -51,5 +51,5 @@ put-end-ellipsis-spec = tie.close (tie.spec put-up-to-requires same-length same-
 
 -- the run goes by one call
 pub put-end-ellipsis-lends-on : LendsOn code.function [] 0 ("truncate::put_up_to" ∷ [])
-unfolding ownArrays touches loops calls
+unfolding ownArrays acts touches loops calls
 put-end-ellipsis-lends-on = refl

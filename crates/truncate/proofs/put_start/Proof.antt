@@ -8,7 +8,7 @@ use mathlib.Core.Bool.{true}
 use lib.ListN.{length, drop, length-drop}
 use borrow.Author.Tests.{not-true, not-false}
 use Rattle.buffer.specs.Held.{HoldsUpTo}
-use Rattle.buffer.specs.LendsOn.{LendsOn, ownArrays, touches, loops, calls}
+use Rattle.buffer.specs.LendsOn.{LendsOn, ownArrays, acts, touches, loops, calls}
 use Rattle.buffer.proofs.HeldLaws.{held-self}
 use Rattle.recording.specs.Recording.{Recording, recording, Item, items}
 use Rattle.recording.specs.Edit.{edit}
@@ -153,5 +153,5 @@ put-start-spec =
 
 -- each run goes by one call, and nothing is done between them
 pub put-start-lends-on : LendsOn code.function [] 0 ("truncate::put_from" ∷ "truncate::put_from" ∷ "truncate::put_start_content" ∷ [])
-unfolding ownArrays touches loops calls
+unfolding ownArrays acts touches loops calls
 put-start-lends-on = refl

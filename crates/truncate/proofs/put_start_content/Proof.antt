@@ -4,7 +4,7 @@ use mathlib.Core.Path.{refl, sym, _∙_}
 use mathlib.Core.List.{[], _∷_}
 use lib.ListN.{drop, length-drop}
 use Rattle.buffer.specs.Held.{RunHeld}
-use Rattle.buffer.specs.LendsOn.{LendsOn, ownArrays, touches, loops, calls}
+use Rattle.buffer.specs.LendsOn.{LendsOn, ownArrays, acts, touches, loops, calls}
 use Rattle.buffer.proofs.HeldLaws.{next-second}
 use Rattle.writer.specs.Write.{out}
 use Rattle.truncate.specs.Planned.{finishedStart}
@@ -50,5 +50,5 @@ put-start-content-spec = tie.close (tie.spec put-from-requires same-length same-
 
 -- the run goes by one call
 pub put-start-content-lends-on : LendsOn code.function [] 0 ("truncate::put_from" ∷ [])
-unfolding ownArrays touches loops calls
+unfolding ownArrays acts touches loops calls
 put-start-content-lends-on = refl

@@ -13,7 +13,7 @@ use Rattle.recording.specs.Recording.{Item, byteItems, numbersOf, entriesOf, te
 use Rattle.recording.specs.declared.Entry.{Entry}
 use Rattle.buffer.specs.Place.{overAt, part}
 use Rattle.buffer.specs.Held.{RunHeld}
-use Rattle.buffer.specs.LendsOn.{LendsOn, ownArrays, touches, loops, calls, Threads, onlyBy}
+use Rattle.buffer.specs.LendsOn.{LendsOn, ownArrays, acts, touches, loops, calls, Threads, onlyBy}
 use lib.ListN.{length, drop}
 use mathlib.Core.Path.{_≡_, refl, ap, _∙_}
 use mathlib.Core.List.{List, [], _∷_}
@@ -259,10 +259,10 @@ keep-spec =
 
 -- the bytes go by `put_bytes` alone: once a turn, and once at the end
 pub keep-lends-on : LendsOn code.function [] 1 ("writer::place_at" ∷ "recording::entry_at" ∷ "writer::put_bytes" ∷ "writer::put_entry" ∷ "writer::place_at" ∷ "writer::put_bytes" ∷ [])
-unfolding ownArrays touches loops calls
+unfolding ownArrays acts touches loops calls
 keep-lends-on = refl
 
 -- and each run where the one before ended: the cursor c begins as `from`, and is what one writing call leaves and the next one takes
 pub keep-threads : Threads code.function 7 9 ("writer::put_bytes" ∷ "writer::put_entry" ∷ [])
-unfolding onlyBy
-keep-threads = record { rest = code.t-2; begins = refl; goes-on = refl }
+unfolding acts onlyBy
+keep-threads = record { rest = acts code.t-2; begins = refl; goes-on = refl }

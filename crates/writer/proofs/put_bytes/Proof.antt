@@ -2,7 +2,7 @@
 use borrow.Author.Needs.{needs}
 use mathlib.Core.Path.{refl}
 use mathlib.Core.List.{[], _∷_}
-use Rattle.buffer.specs.LendsOn.{LendsOn, ownArrays, touches, loops, calls}
+use Rattle.buffer.specs.LendsOn.{LendsOn, ownArrays, acts, touches, loops, calls}
 use Rattle.writer.proofs.put_bytes.Code.Mir as code
 use Rattle.writer.proofs.put_bytes.Statement.{statement}
 use Rattle.writer.proofs.put_bytes.Tie as tie
@@ -26,5 +26,5 @@ put-bytes-spec = tie.close (tie.spec put-requires same-length returns)
 
 -- the run goes by one `put`
 pub put-bytes-lends-on : LendsOn code.function [] 0 ("buffer::put" ∷ [])
-unfolding ownArrays touches loops calls
+unfolding ownArrays acts touches loops calls
 put-bytes-lends-on = refl

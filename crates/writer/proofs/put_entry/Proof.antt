@@ -4,7 +4,7 @@ use borrow.Author.Needs.{needs}
 use Rattle.writer.proofs.Laws.{entry-written, text-written}
 use mathlib.Core.Path.{refl, _∙_}
 use mathlib.Core.List.{[], _∷_}
-use Rattle.buffer.specs.LendsOn.{LendsOn, ownArrays, touches, loops, calls}
+use Rattle.buffer.specs.LendsOn.{LendsOn, ownArrays, acts, touches, loops, calls}
 use Rattle.writer.proofs.put_entry.Code.Mir as code
 use Rattle.writer.proofs.put_entry.Statement.{statement}
 use Rattle.writer.proofs.put_entry.Tie as tie
@@ -99,5 +99,5 @@ put-entry-spec =
 
 -- the text buffer is lent to one `put` of the entry's text, and neither the content nor the data buffer is lent at all
 pub put-entry-lends-on : LendsOn code.function [] 0 ("writer::start_of" ∷ "writer::set_entry" ∷ "buffer::put" ∷ [])
-unfolding ownArrays touches loops calls
+unfolding ownArrays acts touches loops calls
 put-entry-lends-on = refl

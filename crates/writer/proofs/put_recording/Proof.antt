@@ -6,7 +6,7 @@ use Rattle.writer.proofs.HeldLaws.{added-held}
 use Rattle.writer.specs.Write.{out, add}
 use Rattle.recording.specs.Recording.{Item, recording, items}
 use Rattle.recording.proofs.ItemsLaws.{data-items}
-use Rattle.buffer.specs.LendsOn.{LendsOn, ownArrays, touches, loops, calls}
+use Rattle.buffer.specs.LendsOn.{LendsOn, ownArrays, acts, touches, loops, calls}
 use lib.ListN.{length}
 use mathlib.Core.Path.{refl, ap, _∙_}
 use mathlib.Core.List.{List, [], _∷_}
@@ -55,5 +55,5 @@ put-recording-spec =
 
 -- the bytes go by one `keep`
 pub put-recording-lends-on : LendsOn code.function [] 0 ("writer::keep" ∷ [])
-unfolding ownArrays touches loops calls
+unfolding ownArrays acts touches loops calls
 put-recording-lends-on = refl

@@ -10,7 +10,7 @@ use Rattle.recording.specs.Edit.{front, back, entriesOnly}
 use Rattle.recording.specs.Recording.{Item, numbersOf, entriesOf, textOf, entriesFrom}
 use Rattle.recording.specs.declared.Entry.{Entry}
 use Rattle.buffer.specs.Place.{overAt, part}
-use Rattle.buffer.specs.LendsOn.{LendsOn, ownArrays, touches, loops, calls}
+use Rattle.buffer.specs.LendsOn.{LendsOn, ownArrays, acts, touches, loops, calls}
 use lib.ListN.{length, drop}
 use mathlib.Core.Path.{_≡_, refl, sym, ap, _∙_}
 use mathlib.Core.List.{List, [], _∷_}
@@ -190,5 +190,5 @@ skip-spec =
 
 -- no call is lent the data buffer or the content
 pub skip-lends-on : LendsOn code.function [] 1 ("writer::place_at" ∷ "recording::entry_at" ∷ "writer::put_entry" ∷ "writer::place_at" ∷ [])
-unfolding ownArrays touches loops calls
+unfolding ownArrays acts touches loops calls
 skip-lends-on = refl
