@@ -10,7 +10,7 @@ use lib.ListN.{length, take, drop, getD, take-append-drop, length-drop, length-a
 use lib.Seq.{take-append-seam, length-take-le, drop-cons, drop-drop}
 use Rattle.chars.specs.Utf8.{Row, within, table37, leads, rowIn, rowOf, matched, tailLen, complete, codePoint}
 use Rattle.chars.specs.Width.{Range, ranges, widthIn, charWidth}
-use Rattle.chars.specs.Chars.{Character, charAt, charIn, charsFrom, chars, bytesOf, widthOf}
+use Rattle.chars.specs.Chars.{Character, charAt, charIn, charsFrom, chars, bytesOf, wide, widthOf}
 use Rattle.chars.proofs.Table.{and-left, and-right}
 
 -- ── the bytes of the characters
@@ -64,6 +64,7 @@ pub record Read (c : Character) (rest : List ℕ) : Type 0 where
   pub more : List ℕ
   pub text : c .text ≡ first ∷ more
   pub code : c .code ≡ cond (complete first more) (codePoint (first ∷ more)) 0xFFFD
+  pub columns : c .columns ≡ charWidth (c .code)
   pub ok : c .ok ≡ complete first more
   pub stops : tailLen first (more ++ rest) ≡ length more
 
@@ -75,7 +76,7 @@ Valid (c ∷ cs) = Read c (bytesOf cs) × Valid cs
 read-head : (b : ℕ) (bs : List ℕ) → Read (charAt b bs) (drop (tailLen b bs) bs)
 unfolding charAt
 read-head b bs =
-    record { first = b; more = take (tailLen b bs) bs; text = refl; code = refl; ok = refl; stops = rw (take-append-drop (tailLen b bs) bs) (sym (length-take-le (tailLen b bs) bs (tail-le b bs))) }
+    record { first = b; more = take (tailLen b bs) bs; text = refl; code = refl; columns = refl; ok = refl; stops = rw (take-append-drop (tailLen b bs) bs) (sym (length-take-le (tailLen b bs) bs (tail-le b bs))) }
 
 valid-from : (k : ℕ) (bs : List ℕ) → Valid (charsFrom k bs)
 valid-from zero [] = tt
@@ -97,12 +98,12 @@ valid-clean [] h = refl
 valid-clean (c ∷ cs) h =
     let R : Read c (bytesOf cs) = h .0 in
     rw (R .text, R .stops, take-append-seam (R .more) (bytesOf cs), from-skip (R .more) (bytesOf cs), valid-clean cs (h .1))
-    (λ i. record { text = R .first ∷ R .more; code = sym (R .code) i; ok = sym (R .ok) i } ∷ cs)
+    (λ i. record { text = R .first ∷ R .more; code = sym (R .code) i; columns = sym (R .columns ∙ ap charWidth (R .code)) i; ok = sym (R .ok) i } ∷ cs)
 
 read-prefix : (c : Character) (x y : List ℕ) → Read c (x ++ y) → Read c x
 unfolding tailLen
 read-prefix c x y R =
-    record { first = R .first; more = R .more; text = R .text; code = R .code; ok = R .ok; stops = matched-prefix (tail (rowOf (R .first))) (R .more) x y (R .stops) }
+    record { first = R .first; more = R .more; text = R .text; code = R .code; columns = R .columns; ok = R .ok; stops = matched-prefix (tail (rowOf (R .first))) (R .more) x y (R .stops) }
 
 pub valid-prefix : (xs ys : List Character) → Valid (xs ++ ys) → Valid xs
 valid-prefix [] ys h = tt
@@ -150,6 +151,11 @@ char-next s at more =
     let bs : List ℕ = drop (suc at) s in
     let n : at + length (charAt b bs .text) ≡ suc at + tailLen b bs = omega (arith, length-text b bs) in
     rw (drop-cons s at 0 more, n, ← drop-drop (tailLen b bs) (suc at) s, chars-skip (tailLen b bs) bs)
+
+-- its width is that of its code point
+pub char-columns : (s : List ℕ) (at : ℕ) → wide (charIn at s) ≡ charWidth (charIn at s .code)
+unfolding charIn charAt
+char-columns s at = refl
 
 -- ── bounds: a character has one to four bytes, none of them past the end, and its width is at most 2
 abbrev allShort : List Row → Bool
@@ -213,4 +219,4 @@ module _ (s : List ℕ) (at : ℕ) (more : at < length s) where
 -- a text is at most twice as wide as it is long
 pub width-bound : (cs : List Character) → Valid cs → widthOf cs ≤ 2 * length (bytesOf cs)
 width-bound [] h = omega arith
-width-bound (c ∷ cs) h = omega (arith, width-two (c .code), width-bound cs (h .1), length-append (c .text) (bytesOf cs), ap length (h .0 .text))
+width-bound (c ∷ cs) h = omega (arith, h .0 .columns, width-two (c .code), width-bound cs (h .1), length-append (c .text) (bytesOf cs), ap length (h .0 .text))

@@ -12,7 +12,7 @@ use Rattle.chars.specs.Utf8.{span, table37, rowOf, tailLen, complete}
 use Rattle.chars.specs.Width.{Range, ranges, widthIn, charWidth}
 use Rattle.chars.specs.Chars.{Character, charAt, charIn, chars, bytesOf, wide, widthOf, allOk}
 use Rattle.chars.specs.Cut.{keptWithin, leadingZeroWidth}
-use Rattle.chars.proofs.CharsLaws.{chars-end, char-next}
+use Rattle.chars.proofs.CharsLaws.{chars-end, char-next, char-columns}
 use Rattle.chars.proofs.CutLaws.{longest}
 use Rattle.chars.proofs.ReaderLaws.{in-span, above}
 use Rattle.chars.proofs.Table.{and-left, and-right}
@@ -35,6 +35,9 @@ module _ (s : List ℕ) (at : ℕ) (ascii : getD s at 0 < 128) where
   unfolding charIn charAt tailLen complete
   ascii-code = simp (ascii-row (getD s at 0) ascii)
 
+  ascii-wide : wide (charIn at s) ≡ charWidth (getD s at 0)
+  ascii-wide = char-columns s at ∙ ap charWidth ascii-code
+
 -- each range starts at m or later
 abbrev allFrom : ℕ → List Range → Bool
 allFrom m [] = true
@@ -52,7 +55,7 @@ unfolding charWidth ranges
 printable-width a p q = simp (above 0x00 0x1F a p) (before-all 127 a (tail ranges) tt (omega arith))
 
 pub plain : (s : List ℕ) (at : ℕ) → 32 ≤ getD s at 0 → getD s at 0 ≤ 126 → (length (charIn at s .text) ≡ 1) × (wide (charIn at s) ≡ 1)
-plain s at p q = (ascii-len s at (omega arith), ap charWidth (ascii-code s at (omega arith)) ∙ printable-width (getD s at 0) p q)
+plain s at p q = (ascii-len s at (omega arith), ascii-wide s at (omega arith) ∙ printable-width (getD s at 0) p q)
 
 -- a control character below 20 is one byte and has no width
 control-width : (a : ℕ) → a < 32 → charWidth a ≡ 0
@@ -60,7 +63,7 @@ unfolding charWidth ranges
 control-width a h = simp (in-span 0x00 0x1F a (omega arith) (omega arith))
 
 pub control : (s : List ℕ) (at : ℕ) → getD s at 0 < 32 → (length (charIn at s .text) ≡ 1) × (wide (charIn at s) ≡ 0)
-control s at h = (ascii-len s at (omega arith), ap charWidth (ascii-code s at (omega arith)) ∙ control-width (getD s at 0) h)
+control s at h = (ascii-len s at (omega arith), ascii-wide s at (omega arith) ∙ control-width (getD s at 0) h)
 
 -- ── the character at `at`, of which n is the length and w the width
 module _ (s : List ℕ) (at n w : ℕ) (more : at < length s) (e : n ≡ length (charIn at s .text)) (f : w ≡ wide (charIn at s)) where

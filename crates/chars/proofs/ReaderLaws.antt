@@ -10,6 +10,7 @@ use lib.Seq.{getD-drop}
 use borrow.Author.Tests.{ne-eqb, le-leb, lt-leb}
 use Rattle.chars.specs.Utf8.{Row, within, table37, leads, rowIn, rowOf, matched, tailLen, complete, codePoint}
 use Rattle.chars.specs.Leads.{columns}
+use Rattle.chars.specs.Width.{charWidth}
 use Rattle.chars.specs.Chars.{charAt, charIn}
 use Rattle.chars.specs.Read.{readOf}
 use Rattle.chars.specs.declared.Read.{Read}
@@ -136,7 +137,7 @@ char-padded a bs =
     let t = row-solid a in
     let e : take (matched cs (padded 3 bs)) (padded 3 bs) ≡ take (matched cs bs) bs =
     matched-padded 3 cs bs (and-left (solid cs) (leb (length cs) 3) t) (leb→le (length cs) 3 (and-right (solid cs) (leb (length cs) 3) t)) in
-    rw (three bs) (ap (λ (more : List ℕ). record { text = a ∷ more; code = cond (complete a more) (codePoint (a ∷ more)) 0xFFFD; ok = complete a more }) e)
+    rw (three bs) (ap (λ (more : List ℕ). let code = cond (complete a more) (codePoint (a ∷ more)) 0xFFFD in record { text = a ∷ more; code = code; columns = charWidth code; ok = complete a more }) e)
 
 -- ── the character at a place, from the four bytes from there on
 pub read-in : (s : List ℕ) (at b c d : ℕ) → b ≡ getD s (at + 1) 0 → c ≡ getD s (at + 2) 0 → d ≡ getD s (at + 3) 0 → charAt (getD s at 0) (b ∷ c ∷ d ∷ []) ≡ charIn at s

@@ -111,7 +111,7 @@ matched-low (c ∷ cs) (b ∷ m) x y h l e = go (within (c .low) (c .high) b) e 
 read-low : (c : Character) (x y : List ℕ) → Low y → Read c x → Read c (x ++ y)
 unfolding tailLen
 read-low c x y l R =
-    record { first = R .first; more = R .more; text = R .text; code = R .code; ok = R .ok; stops = matched-low (tail (rowOf (R .first))) (R .more) x y (high (R .first)) l (R .stops) }
+    record { first = R .first; more = R .more; text = R .text; code = R .code; columns = R .columns; ok = R .ok; stops = matched-low (tail (rowOf (R .first))) (R .more) x y (high (R .first)) l (R .stops) }
 
 valid-low : (xs ys : List Character) → Low (bytesOf ys) → Valid xs → Valid ys → Valid (xs ++ ys)
 valid-low [] ys l v w = w
@@ -140,12 +140,12 @@ seam-next s n m h p q =
 
 -- ── a byte 20 is one character, one column wide
 abbrev pub blank : Character
-blank = record { text = 0x20 ∷ []; code = 0x20; ok = true }
+blank = record { text = 0x20 ∷ []; code = 0x20; columns = 1; ok = true }
 
 pub chars-blank : (s : List ℕ) → chars (0x20 ∷ s) ≡ blank ∷ chars s
-unfolding chars charAt tailLen rowOf table37 complete
+unfolding chars charAt tailLen rowOf table37 complete charWidth ranges
 chars-blank s = refl
 
 pub width-blank : (s : List ℕ) → textWidth (0x20 ∷ s) ≡ suc (textWidth s)
-unfolding textWidth charWidth ranges
+unfolding textWidth
 width-blank s = ap widthOf (chars-blank s) ∙ omega arith

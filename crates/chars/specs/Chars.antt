@@ -6,17 +6,19 @@ use lib.ListN.{take, drop, getD}
 use Rattle.chars.specs.Utf8.{tailLen, complete, codePoint}
 use Rattle.chars.specs.Width.{charWidth}
 
--- a character: its bytes, its code point, and whether the bytes are a well-formed sequence
+-- a character: its bytes, its code point, how many columns it takes, and whether the bytes are a well-formed sequence
 pub record Character : Type 0 where
   pub text : List ℕ
   pub code : ℕ
+  pub columns : ℕ
   pub ok : Bool
 
 -- the character that the byte b leads, where the bytes bs follow
 unfoldable pub charAt : ℕ → List ℕ → Character
 charAt b bs =
     let more = take (tailLen b bs) bs in
-    record { text = b ∷ more; code = cond (complete b more) (codePoint (b ∷ more)) 0xFFFD; ok = complete b more }
+    let code = cond (complete b more) (codePoint (b ∷ more)) 0xFFFD in
+    record { text = b ∷ more; code = code; columns = charWidth code; ok = complete b more }
 
 -- the character that starts at the offset `at` of a text
 unfoldable pub charIn : ℕ → List ℕ → Character
@@ -38,7 +40,7 @@ bytesOf (c ∷ cs) = c .text ++ bytesOf cs
 
 -- the width of a character
 abbrev pub wide : Character → ℕ
-wide c = charWidth (c .code)
+wide c = c .columns
 
 -- the width of a text is the sum over its characters
 abbrev pub widthOf : List Character → ℕ

@@ -145,15 +145,15 @@ fn inside(first: u32, last: u32, code: u32) -> bool
 }
 
 // Whether a code point is in the range whose numbers start at k.
-fn in_range(t: &[u32; 57], k: usize, code: u32) -> bool
-    requires { ⌜ k + 1 < 57 ⌝ }
+fn in_range(t: &[u32; 63], k: usize, code: u32) -> bool
+    requires { ⌜ k + 1 < 63 ⌝ }
     ensures { λ r. ⌜ r ≡ within (getD (now (t .entry)) k 0) (getD (now (t .entry)) (k + 1) 0) code ⌝ }
 {
     inside(t[k], t[k + 1], code)
 }
 
 // The width that the table t of ranges gives a code point. Its numbers are read through a reference: a local array would be written out at each step of the proof.
-fn width_in(t: &[u32; 57], code: u32) -> u32
+fn width_in(t: &[u32; 63], code: u32) -> u32
     requires { ⌜ now t ≡ rangeNumbers ⌝ }
     ensures { λ r. ⌜ r ≡ charWidth code ⌝ }
     ensures { λ r. ⌜ r ≤ 2 ⌝ }
@@ -214,6 +214,12 @@ fn width_in(t: &[u32; 57], code: u32) -> u32
     }
     if in_range(t, 54, code) {
         return t[56];
+    }
+    if in_range(t, 57, code) {
+        return t[59];
+    }
+    if in_range(t, 60, code) {
+        return t[62];
     }
     1
 }
@@ -686,7 +692,7 @@ pub const LEADS: [u16; 256] = [
 ];
 
 // Three numbers for each range of code points: first, last, width. All others have width 1.
-const RANGES: [u32; 57] = [
+const RANGES: [u32; 63] = [
     0x0000,
     0x001F,
     0,
@@ -743,5 +749,11 @@ const RANGES: [u32; 57] = [
     2,
     0x30000,
     0x3FFFD,
+    2,
+    0x1F600,
+    0x1F64F,
+    2,
+    0x1F680,
+    0x1F6C5,
     2,
 ];

@@ -5,6 +5,7 @@ use mathlib.Core.Path.{_∙_, ap, sym}
 use mathlib.Core.Bool.{Bool, cond}
 use Prim.Native.Nat.{ℕ}
 use Rattle.chars.specs.Width.{charWidth}
+use Rattle.chars.proofs.CharsLaws.{char-columns}
 use Rattle.chars.specs.declared.Read.{Read}
 use Rattle.chars.proofs.seen_any.Statement.{statement}
 use Rattle.chars.proofs.seen_any.Tie as tie
@@ -37,7 +38,7 @@ returns c =
     let e = w .before .read-char .ensures .0 in
     let n = ap (λ (x : Read). x .len) e in
     let o = ap {B = ℕ} (λ (b : Bool). cond b 1 0) (sym (ap (λ (x : Read). x .ok) e) ∙ c .before .if1 .taken) in
-    let v = w .char-width .ensures .0 ∙ ap (λ (x : Read). charWidth (x .code)) e in
+    let v = w .char-width .ensures .0 ∙ ap (λ (x : Read). charWidth (x .code)) e ∙ sym (char-columns _ _) in
     ((omega arith, omega arith, omega arith), (omega arith, omega arith, omega arith))
 
 mul-result-2 : tie.Need-mul-result-2
@@ -52,7 +53,7 @@ returns-2 c =
     let e = w .before .read-char .ensures .0 in
     let n = ap (λ (x : Read). x .len) e in
     let o = ap {B = ℕ} (λ (b : Bool). cond b 1 0) (sym (ap (λ (x : Read). x .ok) e) ∙ c .before .if1 .left) in
-    let v = w .char-width .ensures .0 ∙ ap (λ (x : Read). charWidth (x .code)) e in
+    let v = w .char-width .ensures .0 ∙ ap (λ (x : Read). charWidth (x .code)) e ∙ sym (char-columns _ _) in
     ((omega arith, omega arith, omega arith), (omega arith, omega arith, omega arith))
 
 pub seen-any-spec : {M : Type 1} → statement M

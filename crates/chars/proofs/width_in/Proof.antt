@@ -200,6 +200,26 @@ start-19 c = start-18 (c .before .before)
 past-19 : (c : tie.Else19) → Past 19 (start-19 c .args .code)
 past-19 c = miss _ (start-19 c .pre) _ _ _ row-19 (past-18 (c .before .before)) _ (c .before .in-range19 .ensures) (c .if19 .left)
 
+row-20 : RowAt 19 57
+unfolding ranges rangeNumbers
+row-20 = record { there = tt; first = refl; last = refl; columns = refl; narrow = tt }
+
+abbrev start-20 : tie.Else20 → tie.Start
+start-20 c = start-19 (c .before .before)
+
+past-20 : (c : tie.Else20) → Past 20 (start-20 c .args .code)
+past-20 c = miss _ (start-20 c .pre) _ _ _ row-20 (past-19 (c .before .before)) _ (c .before .in-range20 .ensures) (c .if20 .left)
+
+row-21 : RowAt 20 60
+unfolding ranges rangeNumbers
+row-21 = record { there = tt; first = refl; last = refl; columns = refl; narrow = tt }
+
+abbrev start-21 : tie.Else21 → tie.Start
+start-21 c = start-20 (c .before .before)
+
+past-21 : (c : tie.Else21) → Past 21 (start-21 c .args .code)
+past-21 c = miss _ (start-21 c .pre) _ _ _ row-21 (past-20 (c .before .before)) _ (c .before .in-range21 .ensures) (c .if21 .left)
+
 pub width-in-spec : {M : Type 1} → statement M
 unfolding ranges
 width-in-spec =
@@ -243,4 +263,8 @@ width-in-spec =
     (λ c. hit _ (start-17 (c .before .before .before) .pre) _ _ _ row-18 (past-17 (c .before .before .before)) _ (c .before .before .in-range18 .ensures) (c .before .if18 .taken))
     (λ c κs. search needs) (λ c. search needs)
     (λ c. hit _ (start-18 (c .before .before .before) .pre) _ _ _ row-19 (past-18 (c .before .before .before)) _ (c .before .before .in-range19 .ensures) (c .before .if19 .taken))
-    (λ c. (past-all _ (past-19 c), search needs)))
+    (λ c κs. search needs) (λ c. search needs)
+    (λ c. hit _ (start-19 (c .before .before .before) .pre) _ _ _ row-20 (past-19 (c .before .before .before)) _ (c .before .before .in-range20 .ensures) (c .before .if20 .taken))
+    (λ c κs. search needs) (λ c. search needs)
+    (λ c. hit _ (start-20 (c .before .before .before) .pre) _ _ _ row-21 (past-20 (c .before .before .before)) _ (c .before .before .in-range21 .ensures) (c .before .if21 .taken))
+    (λ c. (past-all _ (past-21 c), search needs)))
