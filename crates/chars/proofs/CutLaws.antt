@@ -104,30 +104,37 @@ length-reverse (c ∷ cs) =
     ap (λ (l : List Character). length (bytesOf l)) (reverse-cons c cs) ∙ ap length (bytes-append (reverse cs) (c ∷ []))
     ∙ omega (arith, length-append (bytesOf (reverse cs)) (c .text ++ []), length-append (c .text) [], length-append (c .text) (bytesOf cs), length-reverse cs)
 
+length-back : (m : ℕ) (cs : List Character) → length (bytesOf (keptWithin m (reverse cs))) ≡ length (bytesOf (longest m cs))
+length-back m cs = ap (λ (l : List Character). length (bytesOf l)) (kept-back m cs) ∙ length-reverse (longest m cs)
+
 -- ── the two cuts, as offsets and as what is kept
 pub start-pos : (m : ℕ) (d : List ℕ) → truncateStartPos m d ≡ length d - length (bytesOf (longest m (chars d)))
 unfolding truncateStartPos
-start-pos m d = ap (λ (n : ℕ). length d - n) (ap (λ (l : List Character). length (bytesOf l)) (kept-back m (chars d)) ∙ length-reverse (longest m (chars d)))
+start-pos m d = ap (λ (n : ℕ). length d - n) (length-back m (chars d))
 
 pub start-width : (m : ℕ) (d : List ℕ) → truncateStartWidth m d ≡ widthOf (longest m (chars d))
 unfolding truncateStartWidth
 start-width m d = ap widthOf (kept-back m (chars d)) ∙ width-reverse (longest m (chars d))
 
-split-bytes : (d : List ℕ) (xs ys : List Character) → chars d ≡ xs ++ ys → d ≡ bytesOf xs ++ bytesOf ys
-split-bytes d xs ys e = sym (bytes-chars d) ∙ ap bytesOf e ∙ bytes-append xs ys
+split-bytes : (d : List ℕ) (cs xs ys : List Character) → bytesOf cs ≡ d → cs ≡ xs ++ ys → d ≡ bytesOf xs ++ bytesOf ys
+split-bytes d cs xs ys b e = sym b ∙ ap bytesOf e ∙ bytes-append xs ys
 
 -- the end cutter keeps the bytes of the first characters that stay within the width
 pub kept-end : (m : ℕ) (d : List ℕ) → take (truncateEndPos m d) d ≡ bytesOf (keptWithin m (chars d))
 unfolding truncateEndPos
 kept-end m d =
-    ap (λ (l : List ℕ). take (length (bytesOf (keptWithin m (chars d)))) l) (split-bytes d (keptWithin m (chars d)) (keptRest m (chars d)) (split-kept m (chars d)))
+    ap (λ (l : List ℕ). take (length (bytesOf (keptWithin m (chars d)))) l) (split-bytes d (chars d) (keptWithin m (chars d)) (keptRest m (chars d)) (bytes-chars d) (split-kept m (chars d)))
     ∙ take-append-seam (bytesOf (keptWithin m (chars d))) (bytesOf (keptRest m (chars d)))
 
 -- the start cutter keeps the bytes of the longest ending within the width
+-- whatever the widths of the characters cs of d
+pub kept-from : (m : ℕ) (cs : List Character) (d : List ℕ) → bytesOf cs ≡ d → drop (length d - length (bytesOf (keptWithin m (reverse cs)))) d ≡ bytesOf (longest m cs)
+kept-from m cs d b =
+    let e : d ≡ bytesOf (beforeLongest m cs) ++ bytesOf (longest m cs) = split-bytes d cs (beforeLongest m cs) (longest m cs) b (split-longest m cs) in
+    let k : length d - length (bytesOf (keptWithin m (reverse cs))) ≡ length (bytesOf (beforeLongest m cs)) =
+    omega (arith, length-back m cs, ap length e, length-append (bytesOf (beforeLongest m cs)) (bytesOf (longest m cs))) in
+    ap (λ (j : ℕ). drop j d) k ∙ ap (λ (l : List ℕ). drop (length (bytesOf (beforeLongest m cs))) l) e ∙ drop-append-seam (bytesOf (beforeLongest m cs)) (bytesOf (longest m cs))
+
 pub kept-start : (m : ℕ) (d : List ℕ) → drop (truncateStartPos m d) d ≡ bytesOf (longest m (chars d))
-kept-start m d =
-    let e : d ≡ bytesOf (beforeLongest m (chars d)) ++ bytesOf (longest m (chars d)) = split-bytes d (beforeLongest m (chars d)) (longest m (chars d)) (split-longest m (chars d)) in
-    let k : truncateStartPos m d ≡ length (bytesOf (beforeLongest m (chars d))) =
-    start-pos m d ∙ omega (arith, ap length e, length-append (bytesOf (beforeLongest m (chars d))) (bytesOf (longest m (chars d)))) in
-    ap (λ (j : ℕ). drop j d) k ∙ ap (λ (l : List ℕ). drop (length (bytesOf (beforeLongest m (chars d)))) l) e
-    ∙ drop-append-seam (bytesOf (beforeLongest m (chars d))) (bytesOf (longest m (chars d)))
+unfolding truncateStartPos
+kept-start m d = kept-from m (chars d) d (bytes-chars d)

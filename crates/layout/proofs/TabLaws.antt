@@ -10,6 +10,7 @@ use mathlib.Core.Logic.{_≢_}
 use lib.ListN.{getD}
 use borrow.Author.Tests.{eqb-true, eqb-false}
 use Rattle.chars.specs.Utf8.{table37, rowOf, tailLen, complete}
+use Rattle.chars.specs.Width.{ranges, charWidth}
 use Rattle.chars.specs.Chars.{Character, charAt, chars, bytesOf, wide, widthOf, textWidth}
 use Rattle.chars.proofs.CharsLaws.{bytes-chars, bytes-append, Read, chars-beginning, chars-rest, width-append}
 use Rattle.chars.proofs.SeamLaws.{High, more-high, low-alone, Low, chars-low, width-none, blank, chars-blank, width-blank}
@@ -132,8 +133,8 @@ module _ (s : ℕ) (line : Bytes) (ch : Character) where
 
 -- ── a tab is read as one character, whatever follows
 abbrev pub tab-char : Character
-tab-char = record { text = 0x09 ∷ []; code = 0x09; ok = true }
+tab-char = record { text = 0x09 ∷ []; code = 0x09; columns = 0; ok = true }
 
 pub chars-tab : (y : Bytes) → chars (0x09 ∷ y) ≡ tab-char ∷ chars y
-unfolding chars charAt tailLen rowOf table37 complete
+unfolding chars charAt tailLen rowOf table37 complete charWidth ranges
 chars-tab y = refl

@@ -9,8 +9,8 @@ use lib.Dec.{ltb, eqb}
 use lib.ListN.{length, take, drop, length-append}
 use borrow.Author.Tests.{eqb-true}
 use lib.Seq.{drop-drop, take-at, drop-at, take-all}
-use Rattle.chars.specs.Chars.{bytesOf}
-use Rattle.chars.proofs.CharsLaws.{valid-clean}
+use Rattle.chars.specs.Chars.{Character, bytesOf}
+use Rattle.chars.proofs.CharsLaws.{bytes-append, valid-clean}
 use Rattle.recording.specs.Coloured.{Coloured, values}
 use Rattle.recording.specs.Edit.{labelsAt}
 use Rattle.recording.specs.Recording.{isNil, Bytes}
@@ -23,7 +23,7 @@ use Rattle.layout.proofs.BreakLaws.{WordOk, Spaced, breaking-chain, bre
 use Rattle.layout.proofs.ByteWordLaws.{ChainFrom, Chain, NoNewline, RunOk, Next, lines-none, runs-ok, runs-chain, runs-unrun}
 use Rattle.layout.proofs.GroupLaws.{concat, all-concat, groups-concat, Joined, JoinedAll, groups-joined, joined-groups, groups-some}
 use Rattle.layout.proofs.StepLaws.{length-values}
-use Rattle.layout.proofs.WordLaws.{spaces, joinWords, full, full-append, full-fitted, length-full}
+use Rattle.layout.proofs.WordLaws.{joinWords, full, blanks, flat, bytes-flat, full-append, full-fitted, length-full}
 use Rattle.layout.proofs.LineLaws.{some-lines}
 
 -- ── a line as it is shown: the last word without its whitespace
@@ -165,14 +165,20 @@ stable-all : (w : ℕ) (b : Bool) (ls : List Bytes) → AllOf (AllOf NoNewline) 
 stable-all w b [] h = tt
 stable-all w b (l ∷ ls) h = all-append (Stable w b) (texts (wrappedLine w b l)) (textsOf w b ls) (stable-fitted w b l (h .0)) (stable-all w b ls (h .1))
 
--- no line holds a 0A
-full-closed : (g : List Word) → (z : Bytes) × (full g ≡ full (closed g) ++ z)
-full-closed [] = ([], refl)
-full-closed (v ∷ []) = (spaces (v .space), rw (append-nil (spaces (v .space)), append-nil (bytesOf (v .body))))
-full-closed (v ∷ u ∷ us) =
-    let r : (z : Bytes) × (full (u ∷ us) ≡ full (closed (u ∷ us)) ++ z) = full-closed (u ∷ us) in
-    (r .0, rw (r .1, append-assoc (bytesOf (v .body)) (spaces (v .space) ++ full (closed (u ∷ us))) (r .0), append-assoc (spaces (v .space)) (full (closed (u ∷ us))) (r .0)))
+-- what is shown of a line is its beginning
+pub flat-closed : (g : List Word) → (z : List Character) × (flat g ≡ flat (closed g) ++ z)
+flat-closed [] = ([], refl)
+flat-closed (v ∷ []) = (blanks (v .space), rw (append-nil (blanks (v .space)), append-nil (v .body)))
+flat-closed (v ∷ u ∷ us) =
+    let r : (z : List Character) × (flat (u ∷ us) ≡ flat (closed (u ∷ us)) ++ z) = flat-closed (u ∷ us) in
+    (r .0, rw (r .1, append-assoc (v .body) (blanks (v .space) ++ flat (closed (u ∷ us))) (r .0), append-assoc (blanks (v .space)) (flat (closed (u ∷ us))) (r .0)))
 
+full-closed : (g : List Word) → (z : Bytes) × (full g ≡ full (closed g) ++ z)
+full-closed g =
+    let r = flat-closed g in
+    (bytesOf (r .0), sym (bytes-flat g) ∙ ap bytesOf (r .1) ∙ bytes-append (flat (closed g)) (r .0) ∙ ap (λ (x : Bytes). x ++ bytesOf (r .0)) (bytes-flat (closed g)))
+
+-- no line holds a 0A
 texts-none : (gs : List (List Word)) → AllOf NoNewline (full (concat gs)) → AllOf (AllOf NoNewline) (texts gs)
 texts-none [] h = tt
 texts-none (g ∷ gs) h =
@@ -243,26 +249,29 @@ cut-group d at g z h =
     let e : (at + shownLen g) - at ≡ shownLen g = omega arith in
     rw (e, h, full-closed g .1, append-assoc (full (closed g)) (full-closed g .0) z) (take-at (full (closed g)) (full-closed g .0 ++ z) (shownLen g) (length-text g))
 
-cuts-spans : (d : Bytes) (at : ℕ) (gs : List (List Word)) (z : Bytes) → drop at d ≡ full (concat gs) ++ z → cuts d (groupLines at gs) ≡ texts gs
+pub cuts-spans : (d : Bytes) (at : ℕ) (gs : List (List Word)) (z : Bytes) → drop at d ≡ full (concat gs) ++ z → cuts d (groupLines at gs) ≡ texts gs
 cuts-spans d at [] z h = refl
 cuts-spans d at (g ∷ gs) z h =
     let e : drop at d ≡ full g ++ (full (concat gs) ++ z) = h ∙ rw (full-append g (concat gs)) (append-assoc (full g) (full (concat gs)) z) in
     let n : drop (at + wholeLen g) d ≡ full (concat gs) ++ z = sym (drop-drop (wholeLen g) at d) ∙ rw e (drop-at (full g) (full (concat gs) ++ z) (wholeLen g) (length-full g)) in
     rw (cut-group d at g (full (concat gs) ++ z) e, cuts-spans d (at + wholeLen g) gs z n)
 
+-- the lines behind the first one
+pub line-behind : (d : Bytes) (at : ℕ) (l m : Bytes) (ls : List Bytes) → drop at d ≡ joinLines (l ∷ m ∷ ls) → drop (suc (at + length l)) d ≡ joinLines (m ∷ ls)
+line-behind d at l m ls h =
+    let k : (at + length l) + 1 ≡ suc (at + length l) = omega arith in
+    rw (← k, ← drop-drop 1 (at + length l) d, ← drop-drop (length l) at d, h, drop-at l (0x0A ∷ joinLines (m ∷ ls)) (length l) refl)
+
 pub cuts-all : (w : ℕ) (b : Bool) (d : Bytes) (at : ℕ) (ls : List Bytes) → drop at d ≡ joinLines ls → cuts d (linesFrom w b at ls) ≡ textsOf w b ls
 cuts-all w b d at [] h = refl
 cuts-all w b d at (l ∷ []) h =
     cuts-append d (groupLines at (wrappedLine w b l)) [] ∙ rw (cuts-spans d at (wrappedLine w b l) [] (h ∙ sym (append-nil l) ∙ ap (λ (x : Bytes). x ++ []) (sym (full-fitted w b l))))
 cuts-all w b d at (l ∷ m ∷ ls) h =
-    let n : drop (suc (at + length l)) d ≡ joinLines (m ∷ ls) =
-    let k : (at + length l) + 1 ≡ suc (at + length l) = omega arith in
-    rw (← k, ← drop-drop 1 (at + length l) d, ← drop-drop (length l) at d, h, drop-at l (0x0A ∷ joinLines (m ∷ ls)) (length l) refl) in
     cuts-append d (groupLines at (wrappedLine w b l)) (linesFrom w b (suc (at + length l)) (m ∷ ls))
     ∙ rw (
       cuts-spans d at (wrappedLine w b l) (0x0A ∷ joinLines (m ∷ ls)) (h ∙ ap (λ (x : Bytes). x ++ 0x0A ∷ joinLines (m ∷ ls)) (sym (full-fitted w b l))),
       cuts-all w b d
-          (suc (at + length l)) (m ∷ ls) n,
+          (suc (at + length l)) (m ∷ ls) (line-behind d at l m ls h),
     )
 
 pub wrapped-values : (w : ℕ) (b : Bool) (cs : List Coloured) → values (wrapped (wrapLines w b (values cs)) cs) ≡ joinLines (textsOf w b (splitLines (values cs)))

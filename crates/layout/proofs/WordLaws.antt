@@ -9,6 +9,7 @@ use lib.ListN.{length, length-append}
 use borrow.Author.Tests.{eqb-true}
 use Rattle.chars.specs.Chars.{Character, bytesOf, wide}
 use Rattle.chars.proofs.CharsLaws.{bytes-chars, bytes-append}
+use Rattle.chars.proofs.SeamLaws.{blank}
 use Rattle.recording.specs.Recording.{isNil}
 use Rattle.layout.specs.Wrap.{groups, splitLines, Word, ByteWord, byteWord, spaceBefore, byteBefore, byteWords, wordsOf, inHead, headsAsWords, splitWord}
 use Rattle.layout.specs.Wrap.{splitWords, splitWordsAtWidth, fitsLine, fullWidth, firstFit, Line, shownLen, wholeLen, groupLines, wrappedLine, linesFrom, wrapLines}
@@ -49,48 +50,73 @@ unrun-runs (b ∷ l) = go (eqb b 0x20) refl (unrun-runs l)
     go true e h = unrun-space (byteWords l) ∙ rw (h, eqb-true b 0x20 e)
     go false e h = unrun-byte b (byteWords l) ∙ rw h
 
--- the words of a line
+-- the words of a line: their bytes, and their characters
 abbrev pub full : List Word → List ℕ
 full [] = []
 full (v ∷ vs) = bytesOf (v .body) ++ (spaces (v .space) ++ full vs)
+
+abbrev pub blanks : ℕ → List Character
+blanks zero = []
+blanks (suc n) = blank ∷ blanks n
+
+abbrev pub flat : List Word → List Character
+flat [] = []
+flat (v ∷ vs) = v .body ++ (blanks (v .space) ++ flat vs)
+
+bytes-blanks : (n : ℕ) → bytesOf (blanks n) ≡ spaces n
+bytes-blanks zero = refl
+bytes-blanks (suc n) = ap (λ (r : List ℕ). 0x20 ∷ r) (bytes-blanks n)
+
+pub bytes-flat : (vs : List Word) → bytesOf (flat vs) ≡ full vs
+bytes-flat [] = refl
+bytes-flat (v ∷ vs) =
+    rw (bytes-append (v .body) (blanks (v .space) ++ flat vs), bytes-append (blanks (v .space)) (flat vs), bytes-blanks (v .space), bytes-flat vs)
 
 pub full-runs : (rs : List ByteWord) → full (wordsOf rs) ≡ joinWords rs
 full-runs [] = refl
 full-runs (r ∷ rs) = rw (bytes-chars (r .text), full-runs rs)
 
+pub flat-append : (us vs : List Word) → flat (us ++ vs) ≡ flat us ++ flat vs
+flat-append [] vs = refl
+flat-append (u ∷ us) vs =
+    rw (flat-append us vs, append-assoc (u .body) (blanks (u .space) ++ flat us) (flat vs), append-assoc (blanks (u .space)) (flat us) (flat vs))
+
 pub full-append : (us vs : List Word) → full (us ++ vs) ≡ full us ++ full vs
-full-append [] vs = refl
-full-append (u ∷ us) vs =
-    rw (full-append us vs, append-assoc (bytesOf (u .body)) (spaces (u .space) ++ full us) (full vs), append-assoc (spaces (u .space)) (full us) (full vs))
+full-append us vs = rw (← bytes-flat (us ++ vs), ← bytes-flat us, ← bytes-flat vs, flat-append us vs) (bytes-append (flat us) (flat vs))
 
-full-heads : (n : ℕ) (hs : List (List Character)) → 0 < length hs → full (headsAsWords n hs) ≡ bytesOf (concat hs) ++ spaces n
-full-heads n [] z = absurd (omega arith)
-full-heads n (h ∷ []) z = rw (append-nil (spaces n), append-nil h)
-full-heads n (h ∷ g ∷ gs) z =
-    rw (full-heads n (g ∷ gs) (omega arith), bytes-append h (concat (g ∷ gs)), append-assoc (bytesOf h) (bytesOf (concat (g ∷ gs))) (spaces n))
+flat-heads : (n : ℕ) (hs : List (List Character)) → 0 < length hs → flat (headsAsWords n hs) ≡ concat hs ++ blanks n
+flat-heads n [] z = absurd (omega arith)
+flat-heads n (h ∷ []) z = rw (append-nil (blanks n), append-nil h)
+flat-heads n (h ∷ g ∷ gs) z = rw (flat-heads n (g ∷ gs) (omega arith), append-assoc h (concat (g ∷ gs)) (blanks n))
 
-full-broken : (w : ℕ) (v : Word) → full (splitWord w v) ≡ bytesOf (v .body) ++ spaces (v .space)
-full-broken w v =
-    full-heads (v .space) (groups (inHead w) wide (v .body)) (groups-some (inHead w) wide (v .body))
+flat-broken : (w : ℕ) (v : Word) → flat (splitWord w v) ≡ v .body ++ blanks (v .space)
+flat-broken w v =
+    flat-heads (v .space) (groups (inHead w) wide (v .body)) (groups-some (inHead w) wide (v .body))
     ∙ rw (groups-concat (inHead w) wide (v .body))
 
-full-brokenAll : (w : ℕ) (vs : List Word) → full (splitWords w vs) ≡ full vs
-full-brokenAll w [] = refl
-full-brokenAll w (v ∷ vs) =
-    rw (full-append (splitWord w v) (splitWords w vs), full-broken w v, full-brokenAll w vs) (append-assoc (bytesOf (v .body)) (spaces (v .space)) (full vs))
+flat-brokenAll : (w : ℕ) (vs : List Word) → flat (splitWords w vs) ≡ flat vs
+flat-brokenAll w [] = refl
+flat-brokenAll w (v ∷ vs) =
+    rw (flat-append (splitWord w v) (splitWords w vs), flat-broken w v, flat-brokenAll w vs) (append-assoc (v .body) (blanks (v .space)) (flat vs))
 
-pub full-breaking : (w : ℕ) (b : Bool) (vs : List Word) → full (splitWordsAtWidth w b vs) ≡ full vs
+pub flat-breaking : (w : ℕ) (b : Bool) (vs : List Word) → flat (splitWordsAtWidth w b vs) ≡ flat vs
 unfolding splitWordsAtWidth
-full-breaking w b vs = go (b && ltb 0 w)
+flat-breaking w b vs = go (b && ltb 0 w)
   where
-    go : (t : Bool) → full (cond t (splitWords w vs) vs) ≡ full vs
-    go true = full-brokenAll w vs
+    go : (t : Bool) → flat (cond t (splitWords w vs) vs) ≡ flat vs
+    go true = flat-brokenAll w vs
     go false = refl
 
+-- breaking and fitting
+pub flat-fitted : (w : ℕ) (b : Bool) (vs : List Word) → flat (concat (firstFit w (splitWordsAtWidth w b vs))) ≡ flat vs
+unfolding firstFit
+flat-fitted w b vs = rw (groups-concat (fitsLine w) fullWidth (splitWordsAtWidth w b vs)) (flat-breaking w b vs)
+
 pub full-fitted : (w : ℕ) (b : Bool) (l : List ℕ) → full (concat (wrappedLine w b l)) ≡ l
-unfolding wrappedLine firstFit
+unfolding wrappedLine
 full-fitted w b l =
-    rw (groups-concat (fitsLine w) fullWidth (splitWordsAtWidth w b (wordsOf (byteWords l)))) (full-breaking w b (wordsOf (byteWords l)) ∙ full-runs (byteWords l) ∙ unrun-runs l)
+    let vs : List Word = wordsOf (byteWords l) in
+    sym (bytes-flat (concat (firstFit w (splitWordsAtWidth w b vs)))) ∙ ap bytesOf (flat-fitted w b vs) ∙ bytes-flat vs ∙ full-runs (byteWords l) ∙ unrun-runs l
 
 -- ── lengths
 pub length-full : (vs : List Word) → length (full vs) ≡ wholeLen vs
