@@ -240,7 +240,7 @@ values-wrapped (l ∷ m ∷ ls) cs =
     values-append (stretch (l .first) (l .end) cs) (record { val = 0x0A; labels = labelsOf (l .end) cs } ∷ wrapped (m ∷ ls) cs)
     ∙ rw (values-stretch (l .first) (l .end) cs, values-wrapped (m ∷ ls) cs)
 
-cuts-append : (d : Bytes) (x y : List Line) → cuts d (x ++ y) ≡ cuts d x ++ cuts d y
+pub cuts-append : (d : Bytes) (x y : List Line) → cuts d (x ++ y) ≡ cuts d x ++ cuts d y
 cuts-append d [] y = refl
 cuts-append d (l ∷ x) y = ap (λ (r : List Bytes). take (l .end - l .first) (drop (l .first) d) ∷ r) (cuts-append d x y)
 

@@ -173,6 +173,10 @@ pins =
     row (charWidths (0x1FFFF ∷ 0x20000 ∷ 0x2FFFD ∷ 0x2FFFE ∷ [])) (numbers (1 ∷ 2 ∷ 2 ∷ 1 ∷ [])) ∷
     -- U+30000 to U+3FFFD: both ends, and one past each
     row (charWidths (0x2FFFF ∷ 0x30000 ∷ 0x3FFFD ∷ 0x3FFFE ∷ [])) (numbers (1 ∷ 2 ∷ 2 ∷ 1 ∷ [])) ∷
+    -- U+1F600 to U+1F64F: both ends, and one past each
+    row (charWidths (0x1F5FF ∷ 0x1F600 ∷ 0x1F64F ∷ 0x1F650 ∷ [])) (numbers (1 ∷ 2 ∷ 2 ∷ 1 ∷ [])) ∷
+    -- U+1F680 to U+1F6C5: both ends, and one past each
+    row (charWidths (0x1F67F ∷ 0x1F680 ∷ 0x1F6C5 ∷ 0x1F6C6 ∷ [])) (numbers (1 ∷ 2 ∷ 2 ∷ 1 ∷ [])) ∷
     -- width, a wide character
     row (widthOf (0xE6 ∷ 0x9C ∷ 0xA8 ∷ [])) (numbers (2 ∷ [])) ∷
     -- width, a combining mark
@@ -225,6 +229,29 @@ pins =
     row (linesOf 1 true (0xE6 ∷ 0x9C ∷ 0x61 ∷ 0x80 ∷ [])) (lines (line 0 2 1 ∷ line 2 3 1 ∷ line 3 4 1 ∷ [])) ∷
     -- wrap: a lone word may be wider than the width
     row (linesOf 3 false (0xE6 ∷ 0x9C ∷ 0xA8 ∷ 0xE6 ∷ 0x9C ∷ 0xA8 ∷ 0x20 ∷ 0x61 ∷ [])) (lines (line 0 6 4 ∷ line 7 8 1 ∷ [])) ∷
+    -- width, a face
+    row (widthOf (0xF0 ∷ 0x9F ∷ 0x98 ∷ 0x80 ∷ [])) (numbers (2 ∷ [])) ∷
+    -- width, a face without its last byte: one maximal subpart, one column
+    row (widthOf (0xF0 ∷ 0x9F ∷ 0x98 ∷ [])) (numbers (1 ∷ [])) ∷
+    -- wrap: two faces and the space between them are five columns
+    row (linesOf 4 false (0xF0 ∷ 0x9F ∷ 0x98 ∷ 0x80 ∷ 0x20 ∷ 0xF0 ∷ 0x9F ∷ 0x98 ∷ 0x80 ∷ [])) (lines (line 0 4 2 ∷ line 5 9 2 ∷ [])) ∷
+    -- wrap: breaking at width 1: a face is one head, two columns wide
+    row (linesOf 1 true (0xF0 ∷ 0x9F ∷ 0x98 ∷ 0x80 ∷ 0xF0 ∷ 0x9F ∷ 0x98 ∷ 0x80 ∷ [])) (lines (line 0 4 2 ∷ line 4 8 2 ∷ [])) ∷
+    -- wrap: breaking at width 1: a face without its last byte
+    row (linesOf 1 true (0xF0 ∷ 0x9F ∷ 0x98 ∷ 0x61 ∷ [])) (lines (line 0 3 1 ∷ line 3 4 1 ∷ [])) ∷
+    -- end cutter: of two faces one is kept, and its label ends where it ended
+    row (call (truncateEnd 3 (recording (0x2E ∷ []) [] [])) roomy
+    (recording (0xF0 ∷ 0x9F ∷ 0x98 ∷ 0x80 ∷ 0xF0 ∷ 0x9F ∷ 0x98 ∷ 0x80 ∷ []) (0 ∷ 0 ∷ 0 ∷ 1 ∷ 4 ∷ 1 ∷ 0 ∷ 0 ∷ []) (0x78 ∷ [])))
+    (outcomeOf (done (record { recording = recording (0xF0 ∷ 0x9F ∷ 0x98 ∷ 0x80 ∷ 0x2E ∷ []) (0 ∷ 0 ∷ 0 ∷ 1 ∷ 4 ∷ 1 ∷ 0 ∷ 0 ∷ []) (0x78 ∷ []); lines = []; number = 3 }))) ∷
+    -- start cutter: a face that does not fit goes whole
+    row (call (truncateStart 2 (recording (0x2E ∷ []) [] [])) roomy (recording (0x61 ∷ 0xF0 ∷ 0x9F ∷ 0x98 ∷ 0x80 ∷ []) [] []))
+    (outcomeOf (done (record { recording = recording (0x2E ∷ []) [] []; lines = []; number = 1 }))) ∷
+    -- end cutter: a face without its last byte is kept as one column
+    row (call (truncateEnd 1 (recording [] [] [])) roomy (recording (0xF0 ∷ 0x9F ∷ 0x98 ∷ 0x61 ∷ []) [] []))
+    (outcomeOf (done (record { recording = recording (0xF0 ∷ 0x9F ∷ 0x98 ∷ []) [] []; lines = []; number = 1 }))) ∷
+    -- padding: a truck is two columns of the width asked for
+    row (call (padCentered 5 (recording (0x2E ∷ []) [] [])) roomy (recording (0xF0 ∷ 0x9F ∷ 0x9A ∷ 0x9A ∷ []) [] []))
+    (outcomeOf (done (record { recording = recording (0x2E ∷ 0xF0 ∷ 0x9F ∷ 0x9A ∷ 0x9A ∷ 0x2E ∷ 0x2E ∷ []) [] []; lines = []; number = 0 }))) ∷
     -- start cutter: leading zero-width characters are removed also when nothing was cut
     row (call (truncateStart 4 (recording [] [] [])) roomy (recording (0xCC ∷ 0x81 ∷ 0x61 ∷ []) [] []))
     (outcomeOf (done (record { recording = recording (0x61 ∷ []) [] []; lines = []; number = 1 }))) ∷

@@ -23,7 +23,7 @@ shownBytes (l ∷ ls) = (l .end - l .first) + shownBytes ls
 unfoldable pub linesOf : List Line → Lines
 linesOf ls = record { count = length ls; bytes = shownBytes ls }
 
-abbrev noRecording : Recording
+abbrev pub noRecording : Recording
 noRecording = record { dataBytes = []; entryNumbers = []; text = [] }
 
 -- the call is lent a line list only

@@ -1,0 +1,7 @@
+pub mod CharacterLaws
+pub mod PieceLaws
+pub mod AlikeLaws
+pub mod PublishedLaws
+pub mod TablesLaws
+pub mod RangeLaws
+pub mod RequestLaws

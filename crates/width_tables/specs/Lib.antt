@@ -1,0 +1,3 @@
+pub mod ByTable
+pub mod Tables
+pub mod FacesAndTrucks
