@@ -9,9 +9,14 @@ pub enum Kind {
     Mixed,
     /// Any bytes.
     Random,
+    /// Words of letters and digits, and as many of pictures (document 02, Q-5), which have four bytes and width 2.
+    Pictures,
 }
 
 pub const KINDS: [(Kind, &str); 3] = [(Kind::Ascii, "ASCII"), (Kind::Mixed, "mixed CJK"), (Kind::Random, "random bytes")];
+
+/// Taken instead of these if asked for.
+pub const PICTURES: [(Kind, &str); 1] = [(Kind::Pictures, "pictures")];
 
 pub type Size = (usize, &'static str);
 
@@ -24,19 +29,47 @@ pub const SHORT_ROWS: [Size; 2] = [(80, "80 B"), (64 << 10, "64 KiB")];
 /// For expanding tabs at stops of 8: with a tab in about 18 bytes a result can be longer by two fifths.
 pub const TABBED: [Size; 3] = [(80, "80 B"), (64 << 10, "64 KiB"), (700_000, "700 kB")];
 
-/// Numbers from a seed (xorshift).
-pub struct Numbers(u64);
+/// What short random texts are about: the characters that `damaged` and `recordings::content` make often.
+#[derive(Clone, Copy)]
+pub enum About {
+    /// The edges of document 01's width ranges and of the sequence lengths.
+    Ranges,
+    /// The edges of the two ranges of pictures (document 02, Q-5).
+    Pictures,
+    /// Half of the texts are about the ones, half about the others.
+    Both,
+}
+
+/// Numbers from a seed (xorshift), and what the texts that are made with them are about.
+pub struct Numbers {
+    state: u64,
+    about: About,
+}
 
 impl Numbers {
+    /// For texts about the edges of document 01's ranges.
     pub fn new(seed: u64) -> Self {
-        Self(seed | 1)
+        Self { state: seed | 1, about: About::Ranges }
+    }
+
+    pub fn about(self, about: About) -> Self {
+        Self { about, ..self }
     }
 
     pub fn next(&mut self) -> u64 {
-        self.0 ^= self.0 << 13;
-        self.0 ^= self.0 >> 7;
-        self.0 ^= self.0 << 17;
-        self.0.wrapping_mul(0x2545_F491_4F6C_DD1D) >> 16
+        self.state ^= self.state << 13;
+        self.state ^= self.state >> 7;
+        self.state ^= self.state << 17;
+        self.state.wrapping_mul(0x2545_F491_4F6C_DD1D) >> 16
+    }
+
+    /// Whether the next text is about pictures. A number is taken for it only where both are possible: the others have the same texts as before there were pictures.
+    pub fn pictures(&mut self) -> bool {
+        match self.about {
+            About::Ranges => false,
+            About::Pictures => true,
+            About::Both => self.within(0, 1) == 0,
+        }
     }
 
     /// A number from `first` to `last`.
@@ -65,6 +98,12 @@ fn other_letter(numbers: &mut Numbers) -> char {
     char::from_u32(numbers.within(first, last) as u32).unwrap()
 }
 
+/// A face or a truck.
+fn picture(numbers: &mut Numbers) -> char {
+    let (first, last) = if numbers.within(0, 1) == 0 { (0x1F600, 0x1F64F) } else { (0x1F680, 0x1F6C5) };
+    char::from_u32(numbers.within(first, last) as u32).unwrap()
+}
+
 /// A text of exactly `size` bytes.
 pub fn text(kind: Kind, size: usize, numbers: &mut Numbers) -> Vec<u8> {
     if kind == Kind::Random {
@@ -72,9 +111,13 @@ pub fn text(kind: Kind, size: usize, numbers: &mut Numbers) -> Vec<u8> {
     }
     let mut made = String::with_capacity(size + 4);
     while made.len() < size {
-        let other = kind == Kind::Mixed && numbers.within(0, 1) == 0;
+        let other = kind != Kind::Ascii && numbers.within(0, 1) == 0;
         for _ in 0..numbers.within(1, 9) {
-            made.push(if other { other_letter(numbers) } else { letter(numbers) });
+            made.push(match kind {
+                Kind::Mixed if other => other_letter(numbers),
+                Kind::Pictures if other => picture(numbers),
+                _ => letter(numbers),
+            });
         }
         made.push(' ');
     }
@@ -119,19 +162,24 @@ impl Input {
     }
 }
 
-/// A short text of characters at and beside the edges of the width ranges and of the sequence lengths, some of them damaged:
+/// At and beside the edges of document 01's width ranges and of the sequence lengths.
+const EDGES: [u32; 58] = [
+    0x00, 0x0A, 0x1B, 0x1F, 0x20, 0x5B, 0x7E, 0x7F, 0x80, 0x9F, 0xA0, 0x2FF, 0x300, 0x36F, 0x370, 0x7FF, 0x800, 0x10FF, 0x1100, 0x115F, 0x1160,
+    0x200A, 0x200B, 0x200F, 0x20D0, 0x20F0, 0x20F1, 0x2E7F, 0x2E80, 0x303E, 0x303F, 0x3041, 0x33FF, 0x4DBF, 0x4DC0, 0x4E00, 0xA4CF, 0xA4D0, 0xAC00,
+    0xD7A3, 0xD7FF, 0xE000, 0xF900, 0xFAFF, 0xFE00, 0xFE0F, 0xFE10, 0xFE20, 0xFE6F, 0xFF00, 0xFF60, 0xFFE6, 0xFFFD, 0x1FFFF, 0x20000, 0x2FFFD,
+    0x3FFFE, 0x10FFFF,
+];
+/// At and beside the edges of the two ranges of pictures; a combining mark and a wide character of three bytes.
+const PICTURE_EDGES: [u32; 10] = [0x1F5FF, 0x1F600, 0x1F64F, 0x1F650, 0x1F67F, 0x1F680, 0x1F6C5, 0x1F6C6, 0x301, 0x6728];
+
+/// A short text of characters at and beside the edges that the numbers are about, of letters, spaces and others, some of them damaged:
 /// bytes left out, changed or put in.
 pub fn damaged(numbers: &mut Numbers) -> Vec<u8> {
-    const EDGES: [u32; 58] = [
-        0x00, 0x0A, 0x1B, 0x1F, 0x20, 0x5B, 0x7E, 0x7F, 0x80, 0x9F, 0xA0, 0x2FF, 0x300, 0x36F, 0x370, 0x7FF, 0x800, 0x10FF, 0x1100, 0x115F, 0x1160,
-        0x200A, 0x200B, 0x200F, 0x20D0, 0x20F0, 0x20F1, 0x2E7F, 0x2E80, 0x303E, 0x303F, 0x3041, 0x33FF, 0x4DBF, 0x4DC0, 0x4E00, 0xA4CF, 0xA4D0, 0xAC00,
-        0xD7A3, 0xD7FF, 0xE000, 0xF900, 0xFAFF, 0xFE00, 0xFE0F, 0xFE10, 0xFE20, 0xFE6F, 0xFF00, 0xFF60, 0xFFE6, 0xFFFD, 0x1FFFF, 0x20000, 0x2FFFD,
-        0x3FFFE, 0x10FFFF,
-    ];
+    let edges = if numbers.pictures() { &PICTURE_EDGES[..] } else { &EDGES[..] };
     let mut made = String::new();
     for _ in 0..numbers.within(0, 12) {
         made.push(match numbers.within(0, 9) {
-            0..4 => char::from_u32(EDGES[numbers.within(0, EDGES.len() as u64 - 1) as usize]).unwrap(),
+            0..4 => char::from_u32(edges[numbers.within(0, edges.len() as u64 - 1) as usize]).unwrap(),
             4 => ' ',
             5..7 => letter(numbers),
             7 => char::from_u32(numbers.within(0, 0x10FFFF) as u32).unwrap_or('\n'),

@@ -1,17 +1,17 @@
-//! Times the library against the Rust originals: `bench [--rounds N] [--one] [CASE...]`; or `bench --count [CASE...]`, which `count` runs.
+//! Times the library against the Rust originals: `bench [--rounds N] [--one] [--pictures] [CASE...]`; or `bench --count [CASE...]`, which `count` runs.
 mod cases;
 
 use std::process::ExitCode;
 
-use bench::inputs::{Input, KINDS, Kind};
+use bench::inputs::{Input, KINDS, Kind, PICTURES};
 use bench::timing;
 use cases::{CASES, Case};
 
-fn table(case: &Case, rounds: usize, many: usize) -> Result<(), String> {
+fn table(case: &Case, kinds: &[(Kind, &str)], rounds: usize, many: usize) -> Result<(), String> {
     println!("\n### {}\n", case.name);
     let heads: Vec<_> = case.sizes.iter().map(|(_, name)| *name).collect();
     println!("| input | {} |\n|---|{}", heads.join(" | "), "---|".repeat(heads.len()));
-    for (kind, name) in KINDS {
+    for &(kind, name) in kinds {
         let mut row = format!("| {name} |");
         for &(size, size_name) in case.sizes {
             let pair = (case.sides)(&Input::new(kind, size, many)).map_err(|e| format!("{}, {name}, {size_name}: {e}", case.name))?;
@@ -29,13 +29,14 @@ fn once(case: &Case) -> Result<(), String> {
 }
 
 fn main() -> ExitCode {
-    let (mut rounds, mut many, mut count, mut names) = (30, 64, false, vec![]);
+    let (mut rounds, mut many, mut count, mut kinds, mut names) = (30, 64, false, &KINDS[..], vec![]);
     let mut words = std::env::args().skip(1);
     while let Some(word) = words.next() {
         match word.as_str() {
             "--rounds" => rounds = words.next().and_then(|n| n.parse().ok()).filter(|n| *n > 0).expect("--rounds N"),
             "--one" => many = 1,
             "--count" => count = true,
+            "--pictures" => kinds = &PICTURES,
             _ => names.push(word),
         }
     }
@@ -48,7 +49,7 @@ fn main() -> ExitCode {
         println!("The shortest of {rounds} rounds in turns; short inputs are {many} text(s) in a row.");
     }
     for case in CASES.iter().filter(|case| names.is_empty() || names.iter().any(|name| name == case.name)) {
-        let done = if count { once(case) } else { table(case, rounds, many) };
+        let done = if count { once(case) } else { table(case, kinds, rounds, many) };
         if let Err(difference) = done {
             eprintln!("bench: the sides differ: {difference}");
             return ExitCode::FAILURE;

@@ -32,6 +32,7 @@ pub fn labelled(data: Vec<u8>, count: usize) -> Recording {
 /// Data of characters of every width, ill-formed bytes, and in some of it words, spaces and line ends.
 pub fn content(numbers: &mut Numbers) -> Vec<u8> {
     let mut made = vec![];
+    let few = if numbers.pictures() { "😀\u{301}x 🚚字\n" } else { "木\u{301}x é字\n" };
     // One in fifty is long.
     let (pieces, run) = if numbers.within(0, 49) == 0 { (40, 70) } else { (4, 9) };
     for _ in 0..numbers.within(0, pieces) {
@@ -39,7 +40,7 @@ pub fn content(numbers: &mut Numbers) -> Vec<u8> {
             0 => made.extend(damaged(numbers)),
             1 => (0..numbers.within(0, run)).for_each(|_| made.push(numbers.within(b'a' as u64, b'z' as u64) as u8)),
             2 => (0..numbers.within(1, 3)).for_each(|_| made.push(b" \n \r\n\t"[numbers.within(0, 5) as usize])),
-            _ => (0..numbers.within(0, 6)).for_each(|_| made.extend("木\u{301}x é字\n".chars().nth(numbers.within(0, 6) as usize).unwrap().to_string().bytes())),
+            _ => (0..numbers.within(0, 6)).for_each(|_| made.extend(few.chars().nth(numbers.within(0, 6) as usize).unwrap().to_string().bytes())),
         }
     }
     made

@@ -1,11 +1,16 @@
-"""The model's own tests: document 01's cases C1 to C16, with document 02's widths of lines, tab stops and indent taken off; its reading of UTF-8 against Python's decoder; and laws, on random inputs."""
+"""The model's own tests: document 01's cases C1 to C16, with document 02's widths of lines, tab stops, indent taken off and pictures; its reading of UTF-8 against Python's decoder; and laws, on
+random inputs."""
 import random
+from contextlib import contextmanager
 
 import lists
+import random_calls
+import ruszvedok_model
 
 from runs import NAMES
-from ruszvedok_model import balanced, call, chars, coloured, listed_lines, recording, text_width, width_of, wraplist
+from ruszvedok_model import (CALLS, PICTURES, TEXT_CALLS, Recording, balanced, call, char_width, chars, coloured, listed_lines, recording, text_width, width_of, wraplist)
 
+FACE, TRUCK = "\U0001F600".encode(), "\U0001F680".encode()
 WRAPS = [
     ("C1", b"oak 12 ft b", 5, False, [0, 3, 3, 4, 9, 5, 10, 11, 1]),
     ("C2", b"", 5, False, [0, 0, 0]),
@@ -15,6 +20,9 @@ WRAPS = [
     ("C5, break 0", b"abcde", 2, False, [0, 5, 5]),
     ("C6", b"ab c", 0, True, [0, 2, 2, 3, 4, 1]),
     ("C7", b"\xE6\x9C\xA8a", 1, True, [0, 3, 2, 3, 4, 1]),
+    ("Q-5, C7 of a face", FACE + b"a", 1, True, [0, 4, 2, 4, 5, 1]),
+    ("Q-5, a column is left before a truck", b"a" + TRUCK + b" b", 2, True, [0, 1, 1, 1, 5, 2, 6, 7, 1]),
+    ("Q-5, its last byte in the next word", FACE[:3] + b" " + FACE[3:], 2, False, [0, 3, 1, 4, 5, 1]),
 ]
 SPRUCE, DOTS = recording(b"spruce"), recording(b"..")
 DATA = [
@@ -33,6 +41,13 @@ DATA = [
     ("Q-3, once from each line", ("write_unindented", recording(b"aaaa\naaa\naa"), recording(b"aa")), b"aa\na\n", 0),
     ("Q-3, an empty prefix", ("write_unindented", recording(b"a\n\nb"), recording(b"", (0, 2, 0, 1), b"R")), b"a\n\nb", 0),
     ("Q-3, bytes and no characters", ("write_unindented", recording(b"\xE6\x9C\xA8"), recording(b"\xE6\x9C")), b"\xA8", 0),
+    ("Q-5, a face passes the width", ("write_truncated_end", recording(b"a" + FACE + b"b"), DOTS, 3), b"a..", 3),
+    ("Q-5, from the end back", ("write_truncated_start", recording(b"b" + TRUCK + b"a"), DOTS, 3), b"..a", 3),
+    ("Q-5, an ellipsis that has one", ("write_truncated_end", SPRUCE, recording(FACE + b"."), 4), b"s" + FACE + b".", 4),
+    ("Q-5, two columns are not filled", ("write_padded_end", recording(FACE), recording(b"."), 3), FACE + b".", 0),
+    ("Q-5, without its last byte it has one", ("write_padded_end", recording(FACE[:3]), recording(b"."), 3), FACE[:3] + b"..", 0),
+    ("Q-5, a tab behind a truck", ("write_tabs_expanded", recording(TRUCK + b"\ta"), 4), TRUCK + b"  a", 0),
+    ("Q-5, elided", ("elide_start", b"ab" + FACE, b".", 3), b"." + FACE, 3),
     ("fill ab, an entry at 1, twice", ("write_padded_start", recording(b""), recording(b"ab", (1, 2, 0, 1), b"x"), 2), b"aabb", 0),
 ]
 # Entries and text of a recording whose parts are over the text's limit together.
@@ -62,6 +77,8 @@ REFUSALS = [
     ("9 before 21", ("write_unindented", recording(b">a", *TWICE), recording(b">")), 9),
     ("the prefix's text is not counted", ("write_unindented", recording(b">a"), recording(b">", *TWICE)), 21),
 ]
+# The code points on both sides of the ends of the two ranges, and their neighbours inside.
+PICTURE_WIDTHS = [(0x1F5FF, 1), (0x1F600, 2), (0x1F601, 2), (0x1F64E, 2), (0x1F64F, 2), (0x1F650, 1), (0x1F67F, 1), (0x1F680, 2), (0x1F681, 2), (0x1F6C4, 2), (0x1F6C5, 2), (0x1F6C6, 1)]
 LABELLED = recording(b"ab cd", (0, 0, 0, 1, 2, 1, 0, 0), b"x")
 TABBED = recording(b"a\tb", (1, 0, 0, 1, 2, 1, 0, 0), b"x")
 # Entries at the line's first byte, inside the prefix, at its end, and behind it; a prefix with entries of its own.
@@ -85,6 +102,7 @@ def document_cases():
         numbers, buffers = call(*inputs, room=(len(data), 8, 4))
         if (numbers[0], numbers[1], numbers[4], buffers[0]) != (0, len(data), number, data):
             wrong.append(name)
+    wrong += [f"Q-5, U+{code:X}" for code, width in PICTURE_WIDTHS if [char_width(code), text_width(chr(code).encode())] != [width, width]]
     wrong += [name for name, inputs, refusal in REFUSALS if call(*inputs) != ((refusal, 0, 0, 0, 0), (b"", (), b"", ()))]
     numbers, (data, entries, text, lines) = call("write_wrapped", LABELLED, 2, False, room=(5, 8, 1, 6))
     if (entries, lines) != ((0, 0, 0, 1, 2, 1, 0, 0), (0, 2, 2, 3, 5, 2)) or coloured(recording(data, entries, text))[2] != (0x0A, ()):
@@ -121,7 +139,7 @@ def alone(line, broken):
 def lines_too_wide(count=20_000):
     """The random texts with a line whose listed width passes the width asked for, though it is not alone."""
     pick, wrong = random.Random(3), []
-    pieces = [b"a", b"bc", b" ", b"  ", b"\n", b"\t", b"\xCC\x81", b"\xE6\x9C\xA8", b"\xE6\x9C", b"\xFF"]
+    pieces = [b"a", b"bc", b" ", b"  ", b"\n", b"\t", b"\xCC\x81", b"\xE6\x9C\xA8", b"\xE6\x9C", b"\xFF", FACE, FACE[:3]]
     for _ in range(count):
         data, width, breaks = b"".join(pick.choice(pieces) for _ in range(pick.randrange(12))), pick.randrange(7), pick.random() < 0.5
         if any(wide > width and not alone(data[start:end], breaks and width > 0) for start, end, wide in listed_lines(data, width, breaks)):
@@ -131,7 +149,7 @@ def lines_too_wide(count=20_000):
 
 def random_recording(pick, inside=True):
     """A balanced recording, with entries inside its data or not."""
-    data = b"".join(pick.choice([b"a", b"b", b" ", b"\t", b"\n", b"\xCC\x81", b"\xE6\x9C\xA8", b"\xE6", b"\x9C"]) for _ in range(pick.randrange(8)))
+    data = b"".join(pick.choice([b"a", b"b", b" ", b"\t", b"\n", b"\xCC\x81", b"\xE6\x9C\xA8", b"\xE6", b"\x9C", TRUCK, TRUCK[:3], TRUCK[3:]]) for _ in range(pick.randrange(8)))
     return with_entries(pick, data, inside)
 
 
@@ -226,4 +244,88 @@ def lists_that_do_not_commute(count=4000):
         first, calls = random_list(pick)
         if not balanced(first) or not lists.commutes(first, calls, room=(pick.choice([8, 24, 64]), 96, 64, 24)):
             wrong.append(k)
+    return wrong
+
+
+# ── Document 02, Q-5: what the widths of pictures change
+
+@contextmanager
+def former_widths():
+    """The widths before Q-5. `char_width` remembers what it gave, so that goes at each change."""
+    now = ruszvedok_model.TWO
+    ruszvedok_model.TWO = [r for r in now if r not in PICTURES]
+    char_width.cache_clear()
+    try:
+        yield
+    finally:
+        ruszvedok_model.TWO = now
+        char_width.cache_clear()
+
+
+def has_picture(text):
+    return any(first <= c.code <= last for c in chars(text) for first, last in PICTURES)
+
+
+def texts_lent(inputs):
+    """Data and plain texts. Of labels and raw sequences no width is asked, so they may have such a character."""
+    return [x.data if isinstance(x, Recording) else x for x in inputs if isinstance(x, (Recording, bytes))]
+
+
+def any_call(pick):
+    """A call of any name, and the room that it is lent."""
+    name, text, room = pick.choice([*CALLS, *TEXT_CALLS]), random_calls.text(pick), (pick.choice((8, 400)), 80, 80, pick.choice((6, 300)))
+    if name in random_calls.LAYOUT:
+        content = random_calls.content(pick)
+        return (name, content, *random_calls.LAYOUT[name](pick, content)), room
+    if name in random_calls.LAYOUT_WITH_CONTENT:
+        return (name, *random_calls.LAYOUT_WITH_CONTENT[name](pick)), room
+    if name in ("truncate_end_pos", "truncate_start_pos"):
+        return (name, text, random_calls.width(pick)), room
+    if name == "wrap_bytes":
+        return (name, text, random_calls.width(pick), pick.random() < 0.5), room
+    if name in ("elide_start", "elide_end"):
+        # Made well-formed, but for a few, which are refused.
+        text, ellipsis = (t if pick.random() < 0.05 else t.decode("utf-8", "replace").encode() for t in (text, random_calls.text(pick, 3)))
+        return (name, text, ellipsis, random_calls.width(pick)), room
+    if name in ("write", "push_label", "pop_label", "raw"):
+        # Their buffers are the content, with places behind it.
+        content = random_calls.content(pick)
+        return (name, tuple(map(len, content)), *[text] * (name != "pop_label")), tuple(part + type(part)([0xA5] * 20) for part in content)
+    return (name, text), room
+
+
+def calls_changed(count=20_000):
+    """The random calls lent no text with a picture that do not answer as by the former widths. Of those lent one some have to; otherwise nothing is shown."""
+    pick = random.Random(6)
+    made = [any_call(pick) for _ in range(count)]
+    answers = [call(*c, room=room) for c, room in made]
+    with former_widths():
+        former = [call(*c, room=room) for c, room in made]
+    changed = [(c, any(map(has_picture, texts_lent(c)))) for (c, room), answer, before in zip(made, answers, former) if answer != before]
+    return [c for c, such in changed if not such] + ["no call changed"] * (not changed)
+
+
+# Over a list of calls it does not hold: two texts, neither of which has a picture, can meet and make one, and a later call measures it. First content, calls, and the data that is left by the
+# former widths and by these. A search over the bytes F0, 9F, 98, 80 and 2E with widths up to 3 found no such list of one call, and none with fewer than three bytes in all.
+MET = [
+    ("a prefix and a line", b"\x80", [("write_indented", recording(b"\xF0\x9F\x98")), ("write_truncated_end", recording(b""), 1)], FACE, b""),
+    ("content and fill, three bytes", b"\xF0\x9F", [("write_padded_end", recording(b"\x98"), 3), ("write_truncated_end", recording(b""), 1)], b"\xF0\x9F\x98\x98", b""),
+    ("content and replacement", b"\xF0\x9F", [("write_replaced", (2, 2, 0, 2), b"\x98\x80"), ("write_padded_end", recording(b"."), 3)], FACE + b"..", FACE + b"."),
+    ("content and ellipsis", b"\xF0\x9F\x98aa", [("write_truncated_end", recording(b"\x80"), 2), ("write_padded_start", recording(b"."), 2)], b"." + FACE, FACE),
+    ("both sides of what goes", b"\xF0\x9F\x98a\x80", [("write_replaced", (3, 4, 0, 0), b""), ("write_wrapped", 1, True), ("write_padded_end", recording(b"."), 2)], FACE + b".", FACE),
+]
+
+
+def pictures_that_meet():
+    """The names of those lists that leave something else, or are lent a text with a picture."""
+    def left():
+        return [lists.run_list(recording(first), calls, (16, 0, 0, 6)) for _, first, calls, _, _ in MET]
+    now = left()
+    with former_widths():
+        former = left()
+    wrong = []
+    for (name, first, calls, data_before, data), (result, refusals), (result_before, refusals_before) in zip(MET, now, former):
+        lent = [first] + [t for c in calls for t in texts_lent(c)]
+        if (result_before.data, result.data) != (data_before, data) or any(refusals + refusals_before) or any(map(has_picture, lent)):
+            wrong.append(name)
     return wrong

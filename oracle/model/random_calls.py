@@ -9,8 +9,10 @@ from ruszvedok_model import recording
 LARGEST = 2 ** 32 - 1
 # Tabs, newlines and spaces often; wide, zero-width and ill-formed characters; parts of sequences, which may meet and make a whole one.
 PIECES = [p.encode() if isinstance(p, str) else p for p in [
-    "\t", "\t", "\t", "\t", "\t", "\n", "\n", " ", " ", "   ", "a", "b", "cde", "fghijkl", "木", "木", "é", "\U00010000", "\U00020000", "\u0301", "\u200B", "\r", "\0", "\x7F", "\x85",
-    b"\x9C", b"\xA8", b"\xE6", b"\xE6\x9C", b"\xF0", b"\xF0\x9F\x98", b"\xC3", b"\xFF", b"\xC0\x89", b"\xE0\x80\x89", b"\xED\xA0\x80", b"\xF4\x90"]]
+    "\t", "\t", "\t", "\t", "\t", "\t", "\t", "\n", "\n", "\n", " ", " ", "   ", "a", "b", "cde", "fghijkl", "木", "木", "é", "\U00010000", "\U00020000", "\u0301", "\u200B", "\r", "\0",
+    "\x7F", "\x85", b"\x9C", b"\xA8", b"\xE6", b"\xE6\x9C", b"\xF0", b"\xF0\x9F\x98", b"\xC3", b"\xFF", b"\xC0\x89", b"\xE0\x80\x89", b"\xED\xA0\x80", b"\xF4\x90",
+    # Pictures (document 02, Q-5): both sides of the ends of their ranges, and parts of them.
+    "\U0001F5FF", "\U0001F600", "\U0001F64F", "\U0001F650", "\U0001F67F", "\U0001F680", "\U0001F6C5", "\U0001F6C6", b"\xF0\x9F", b"\xF0\x9F\x9A", b"\x98\x80", b"\x80"]]
 LABELS = [b"x", b"x", b"yz", b"", "木".encode(), b"\t", b"working_copy"]
 RAWS = [b"R", b"\xFF", b"\x1B[1m", b"\t\n", b"\x9C"]
 

@@ -34,6 +34,16 @@ fn cutting() {
     assert_eq!(elide_start("spruce", "..", 4), ("..ce".into(), 4));
 }
 
+/// Document 02's Q-5: on both sides of the ends of the two ranges.
+#[test]
+fn pictures() {
+    let widths = |text: &str| text.chars().map(|c| text_width(c.to_string().as_bytes())).collect::<Vec<_>>();
+    assert_eq!(widths("\u{1F5FF}\u{1F600}\u{1F64F}\u{1F650}"), [1, 2, 2, 1]);
+    assert_eq!(widths("\u{1F67F}\u{1F680}\u{1F6C5}\u{1F6C6}"), [1, 2, 2, 1]);
+    assert_eq!(truncate_end_pos_bytes("\u{1F600}a".as_bytes(), 1), (0, 0));
+    assert_eq!(wrap_bytes("a\u{1F680}".as_bytes(), 2, true), [(0, 1, 1), (1, 5, 2)]);
+}
+
 #[test]
 fn filling() {
     assert_eq!(data(write_padded_centered(&plain("fir"), &plain("."), 6)), ".fir.."); // C12

@@ -4,7 +4,7 @@
 use std::collections::{HashMap, HashSet};
 use std::fmt::Write as _;
 
-use bench::inputs::{Numbers, damaged};
+use bench::inputs::{About, Numbers, damaged};
 use bench::recordings::{Expected, content, fault, listed, maybe_damaged, recording, scattered, with_added};
 use oracle::{Lists, Recording, Replacement};
 
@@ -44,9 +44,22 @@ const MARK: &str = "# ── Made by bench/vectors";
 
 /// The first calls, which are on a text and have no refusal.
 const TEXTS: usize = 5;
-/// How many vectors a call has, and how many of them are refused if it refuses at all.
-const COUNT: usize = 200;
-const REFUSED: usize = 40;
+
+/// Which vectors are kept.
+struct Part {
+    /// How many a call has, and how many of them are refused if it refuses at all.
+    count: usize,
+    refused: usize,
+    /// The longest line, in bytes.
+    longest: usize,
+    /// Only those that show what a picture does.
+    pictures: bool,
+}
+
+const OF_EACH_CALL: Part = Part { count: 200, refused: 40, longest: usize::MAX, pictures: false };
+/// Of the calls that measure (document 02, Q-5). Few and short: the gate reads them in each run.
+const WITH_PICTURES: Part = Part { count: 10, refused: 1, longest: 140, pictures: true };
+
 /// The longest lists of one line, and of the whole: the program's buffer is as long.
 const MOST_BYTES: usize = 256;
 const MOST_NUMBERS: usize = 128;
@@ -77,6 +90,22 @@ impl Vector {
         let lists = [&self.content, &self.second, &self.out];
         lists.iter().all(|l| l.data.len() <= MOST_BYTES && l.entries.len() <= MOST_NUMBERS && l.text.len() <= MOST_BYTES)
             && self.lines.len() <= MOST_NUMBERS
+    }
+
+    /// Whether a text that is measured has the two bytes with which every picture starts, and what is left is neither nothing nor the content as it was:
+    /// a cut is inside the text, there is more than one line, a refusal is for a size.
+    fn shows_pictures(&self, call: usize) -> bool {
+        let (name, data, left) = (CALLS[call].0, &self.content.data, &self.out.data[..self.kept[0]]);
+        let begins = |text: &[u8]| text.windows(2).any(|pair| pair == [0xF0, 0x9F]);
+        // Of a fill no width is asked.
+        (begins(data) || begins(&self.second.data) && !name.contains("padded"))
+            && match name {
+                "text_width" => true,
+                _ if call < TEXTS => (1..data.len() as u64).contains(&self.answer[0]),
+                _ if self.answer[0] != 0 => self.answer[0] >= 9,
+                "wrap_bytes" => self.answer[4] > 1,
+                _ => !left.is_empty() && left != data,
+            }
     }
 
     /// The call's name and the fields that it has.
@@ -112,7 +141,7 @@ impl Vector {
                 add("second_text", bytes(&second.text));
             }
         }
-        let wide = ["trunc", "padded", "wrap", "elide"].iter().any(|part| name.contains(part));
+        let wide = takes_width(name);
         add("width", if wide { self.number.to_string() } else { String::new() });
         add("break", if name.contains("wrap") { (self.flag as u8).to_string() } else { String::new() });
         let numbers = if call < TEXTS { if wide { 2 } else { 1 } } else if self.answer[0] == 0 || self.answer[1..] != [0; 4] { 5 } else { 1 };
@@ -146,6 +175,10 @@ impl Vector {
             _ => self.lines[at] ^= 1,
         }
     }
+}
+
+fn takes_width(name: &str) -> bool {
+    ["trunc", "padded", "wrap", "elide"].iter().any(|part| name.contains(part))
 }
 
 /// A lent buffer: its length, and what its first places hold. Those that are left out were not written.
@@ -449,27 +482,39 @@ fn adding(numbers: &mut Numbers, kind: u64) -> Vector {
     }
 }
 
-/// A call's vectors, no two alike: REFUSED of them refused where it refuses at all, each refusal about as often as the others.
-fn chosen(call: usize, numbers: &mut Numbers) -> Vec<Vector> {
-    let refused = if call < TEXTS { 0 } else { REFUSED };
+/// A call's vectors of a part, no two alike. Each refusal comes about as often as the others.
+fn chosen(call: usize, part: &Part, numbers: &mut Numbers) -> Vec<Vector> {
+    let refused = if call < TEXTS { 0 } else { part.refused };
     let (mut kept, mut lines, mut each) = (vec![], HashSet::new(), HashMap::<u64, usize>::new());
     for tries in 0.. {
-        if kept.len() == COUNT {
+        if kept.len() == part.count {
             break;
         }
         let count = |due: bool| kept.iter().filter(|v| due == (refusal(call, v) != 0)).count();
         let made = CALLS[call].1(numbers);
         let seen = each.entry(refusal(call, &made)).or_default();
         let wanted = match refusal(call, &made) {
-            0 => count(false) < COUNT - refused,
+            0 => count(false) < part.count - refused,
             _ => count(true) < refused && (*seen < 5 || tries > 20_000),
         };
-        if wanted && made.fits() && lines.insert(made.line(call, true)) {
+        let line = made.line(call, true);
+        if wanted && made.fits() && line.len() <= part.longest && (!part.pictures || made.shows_pictures(call)) && lines.insert(line) {
             *seen += 1;
             kept.push(made);
         }
     }
     kept
+}
+
+/// Adds the lines of a call to the list, says how many there are, and gives the vectors back.
+fn listed_in(list: &mut String, call: usize, part: &Part, numbers: &mut Numbers) -> Vec<Vector> {
+    let (name, made) = (CALLS[call].0, chosen(call, part, numbers));
+    writeln!(list, "# {name}").unwrap();
+    made.iter().for_each(|v| writeln!(list, "{}", v.line(call, true)).unwrap());
+    let mut each: Vec<u64> = made.iter().map(|v| refusal(call, v)).filter(|n| *n != 0).collect();
+    each.sort_unstable();
+    println!("{name}: {} vectors, {} refused: {each:?}", made.len(), each.len());
+    made
 }
 
 /// A vector's refusal, 0 for none: the first number of the answer but for the calls on a text, of which it is the result.
@@ -490,19 +535,19 @@ fn main() -> std::io::Result<()> {
     let first = &old[..old.find(MARK).expect("the line that starts the second part")];
     let mut list = format!("{first}{MARK} with seed {seed} from the Rust originals: all from here on. Change it there.\n");
     let mut spoilt = String::from("# One place of what is expected is wrong.\n");
-    for (call, (name, _)) in CALLS.iter().enumerate() {
+    for call in 0..CALLS.len() {
         let mut numbers = Numbers::new(seed * 1000 + call as u64 * 2);
-        let made = chosen(call, &mut numbers);
-        writeln!(list, "# {name}").unwrap();
-        made.iter().for_each(|v| writeln!(list, "{}", v.line(call, true)).unwrap());
+        let made = listed_in(&mut list, call, &OF_EACH_CALL, &mut numbers);
         let mut wrong = made[numbers.within(0, made.len() as u64 - 1) as usize].clone();
         wrong.spoil(&mut numbers);
         writeln!(spoilt, "{}", wrong.line(call, false)).unwrap();
-        let mut each: Vec<u64> = made.iter().map(|v| refusal(call, v)).filter(|n| *n != 0).collect();
-        each.sort_unstable();
-        println!("{name}: {} vectors, {} refused: {each:?}", made.len(), each.len());
     }
-    let list = list + &spoilt;
+    list += &spoilt;
+    list += "# ── Of texts with faces and trucks (document 02, Q-5), for the calls that measure\n";
+    for call in (0..CALLS.len()).filter(|call| CALLS[*call].0 == "text_width" || takes_width(CALLS[*call].0)) {
+        // Other numbers than those of the same call above.
+        listed_in(&mut list, call, &WITH_PICTURES, &mut Numbers::new(seed * 1000 + 501 + call as u64 * 2).about(About::Pictures));
+    }
     assert!(list.len() <= MOST_LIST, "the program reads no more");
     std::fs::write(format!("{folder}/stdout"), table(&list))?;
     std::fs::write(format!("{folder}/stdin"), list)

@@ -8,7 +8,7 @@ mod typed;
 use std::fmt::Debug;
 use std::process::ExitCode;
 
-use bench::inputs::{Numbers, damaged};
+use bench::inputs::{About, Numbers, damaged};
 use bench::ours;
 use bench::recordings::{Answer, Expected, Left, at_a_limit, content, fault, listed, maybe_damaged, recording, scattered, view, with_added};
 use bench::room::{LIMITS, Room};
@@ -503,10 +503,10 @@ fn main() -> ExitCode {
     ExitCode::SUCCESS
 }
 
-/// Makes the calls of one name and prints how many agree, or the first difference.
+/// Makes the calls of one name, half of their texts about pictures, and prints how many agree, or the first difference.
 fn agrees(name: &str, seed: u64, calls: impl FnOnce(&mut Numbers) -> Result<u64, String>) -> bool {
     REFUSED.with(|n| n.set(0));
-    match calls(&mut Numbers::new(seed)) {
+    match calls(&mut Numbers::new(seed).about(About::Both)) {
         Ok(made) => println!("{name}: {made} calls agree, {} of them refused", REFUSED.with(|n| n.get())),
         Err(difference) => {
             eprintln!("compare: {name}, seed {seed}: {difference}");
