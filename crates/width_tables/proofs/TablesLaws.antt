@@ -12,7 +12,7 @@ use Rattle.layout.specs.Layout.{Call, contentAfter}
 use Rattle.sheet.specs.Sheet.{sheetLines}
 use Rattle.width_tables.specs.ByTable as By
 use Rattle.width_tables.specs.ByTable.{charsBy}
-use Rattle.width_tables.specs.Tables.{Answers, library, byTable, lentTo, valueTexts, SameOn, EachIs, TextsOf, AsWide, TablesAlike, Published, Unchanged, runBy, EachFinds, ListsAlike}
+use Rattle.width_tables.specs.Tables.{Answers, library, byTable, lentTo, valueTexts, SameOn, EachIs, TextsOf, AsWide, TablesAlike, Published, Unchanged, runBy, outcomesBy, EachFinds, ListsAlike}
 use Rattle.width_tables.proofs.CharacterLaws.{own-chars}
 use Rattle.width_tables.proofs.AlikeLaws as two
 use Rattle.width_tables.proofs.PublishedLaws as own
@@ -95,6 +95,10 @@ unchanged t Ok f =
 
 -- ── lists of calls
 pub lists : (Ok : List Bytes → Type 0) (a b : Answers) → SameOn Ok a b → ListsAlike Ok a b
-lists Ok a b p [] r h = refl
+lists Ok a b p [] r h = (refl, refl)
 lists Ok a b p (c ∷ cs) r h =
-    lists Ok a b p cs (contentAfter (a .layout c r) r) (h .1) ∙ ap (λ (o : Outcome). runBy b cs (contentAfter o r)) (p .layout c r (h .0))
+    let e : a .layout c r ≡ b .layout c r = p .layout c r (h .0) in
+    let k = lists Ok a b p cs (contentAfter (a .layout c r) r) (h .1) in (
+      ap (λ (os : List Outcome). a .layout c r ∷ os) (k .0) ∙ ap (λ (o : Outcome). o ∷ outcomesBy b cs (contentAfter o r)) e,
+      k .1 ∙ ap (λ (o : Outcome). runBy b cs (contentAfter o r)) e,
+    )

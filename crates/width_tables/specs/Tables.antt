@@ -131,10 +131,15 @@ abbrev pub runBy : Answers → List Call → Recording → Recording
 runBy a [] r = r
 runBy a (c ∷ cs) r = runBy a cs (contentAfter (a .layout c r) r)
 
+abbrev pub outcomesBy : Answers → List Call → Recording → List Outcome
+outcomesBy a [] r = []
+outcomesBy a (c ∷ cs) r = a .layout c r ∷ outcomesBy a cs (contentAfter (a .layout c r) r)
+
 -- each call finds texts that are Ok: the texts lent at the start do not say so, since parts of two texts can join into another character
 abbrev pub EachFinds : (List Bytes → Type 0) → Answers → List Call → Recording → Type 0
 EachFinds Ok a [] r = Unit {0}
 EachFinds Ok a (c ∷ cs) r = Ok (lentTo (c .job) r) × EachFinds Ok a cs (contentAfter (a .layout c r) r)
 
+-- then each call has the same outcome, and what the list leaves is the same
 abbrev pub ListsAlike : (List Bytes → Type 0) → Answers → Answers → Type 0
-ListsAlike Ok a b = (cs : List Call) (r : Recording) → EachFinds Ok a cs r → runBy a cs r ≡ runBy b cs r
+ListsAlike Ok a b = (cs : List Call) (r : Recording) → EachFinds Ok a cs r → (outcomesBy a cs r ≡ outcomesBy b cs r) × (runBy a cs r ≡ runBy b cs r)
