@@ -4,5 +4,6 @@ pub mod SeamLaws
 pub mod Table
 pub mod Leads
 pub mod ReaderLaws
+pub mod RangeLaws
 pub mod WidthLaws
 pub mod FoldLaws

@@ -8,7 +8,8 @@ use lib.Dec.{leb, T, leb→le}
 use lib.ListN.{length, drop, getD}
 use lib.Seq.{drop-cons}
 use Rattle.chars.specs.Utf8.{within}
-use Rattle.chars.specs.Width.{Range, ranges, widthIn, charWidth, rangeNumbers}
+use Rattle.chars.specs.Width.{Range, nineteenRanges, facesAndTrucks, ranges, widthIn, charWidth, rangeNumbers}
+use Rattle.chars.proofs.RangeLaws.{bounds, aside, none-inside}
 
 -- the range k; past the last one, any
 abbrev pub rangeAt : ℕ → Range
@@ -26,6 +27,24 @@ past-none code = refl
 pub past-all : (code : ℕ) → Past (length ranges) code → 1 ≡ charWidth code
 unfolding Past ranges
 past-all code p = sym p
+
+-- ── the stretch from the first face to the last truck
+abbrev pub inStretch : ℕ → Bool
+inStretch code = within (getD rangeNumbers 57 0) (getD rangeNumbers 61 0) code
+
+-- the code's test, by its table l
+pub stretch : (l : List ℕ) → l ≡ rangeNumbers → (code : ℕ) (test : Bool) → test ≡ within (getD l 57 0) (getD l 61 0) code → test ≡ inStretch code
+stretch l same code test e = e ∙ ap (λ (m : List ℕ). within (getD m 57 0) (getD m 61 0) code) same
+
+-- the first nineteen ranges leave it aside
+pub past-stretch : (code : ℕ) → inStretch code ≡ true → Past 19 code
+unfolding Past charWidth ranges rangeNumbers
+past-stretch code h = let k = bounds 0x1F600 0x1F6C5 code h in aside 0x1F600 0x1F6C5 code (k .0) (k .1) nineteenRanges facesAndTrucks tt .1
+
+-- and outside it they are all that there is
+pub past-nineteen : (code : ℕ) → inStretch code ≡ false → Past 19 code → 1 ≡ charWidth code
+unfolding Past ranges rangeNumbers
+past-nineteen code h p = sym (p ∙ none-inside 0x1F600 0x1F6C5 code h facesAndTrucks tt)
 
 -- what the code's table has for range k, from i on
 pub record RowAt (k i : ℕ) : Type 0 where

@@ -3,5 +3,4 @@ pub mod PieceLaws
 pub mod AlikeLaws
 pub mod PublishedLaws
 pub mod TablesLaws
-pub mod RangeLaws
 pub mod RequestLaws

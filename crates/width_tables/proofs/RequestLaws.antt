@@ -4,15 +4,14 @@ use native.Mathlib.Omega.{arith}
 use mathlib.Core.Bool.{Bool, true, false, cond, _||_, false≢true}
 use mathlib.Core.Path.{_≡_, refl, _∙_}
 use mathlib.Core.List.{List}
-use lib.Dec.{leb}
-use borrow.Author.Tests.{leb-true}
 use Rattle.chars.specs.Utf8.{within, table37, rowOf, tailLen, complete}
 use Rattle.chars.specs.Width.{nineteenRanges, facesAndTrucks, ranges, widthIn, charWidth}
 use Rattle.chars.specs.Chars.{charAt, chars, textWidth, wellFormed}
+use Rattle.chars.proofs.RangeLaws.{behind, bounds, aside}
 use Rattle.recording.specs.Recording.{items, encode}
 use Rattle.recording.specs.Refusals.{badShape, entryFault, recordingFault}
 use Rattle.recording.specs.Outcome.{overLimit, noRoom, refusalOf, settle}
-use Rattle.recording.proofs.Lists.{and-left, and-right, or-left, or-right}
+use Rattle.recording.proofs.Lists.{or-left, or-right}
 use Rattle.layout.specs.Wrap.{splitWordsAtWidth, firstFit}
 use Rattle.layout.specs.Layout.{fillCount, resultItems, linesLeft, number, resultOf, secondFault, ownFault, faultsOf, outcome}
 use Rattle.elide.specs.Elide.{fitAtStart}
@@ -20,26 +19,22 @@ use Rattle.width_tables.specs.ByTable as By
 use Rattle.width_tables.specs.ByTable.{charsBy}
 use Rattle.width_tables.specs.Tables.{library, byTable, SameOn, TextsOf}
 use Rattle.width_tables.specs.FacesAndTrucks.{faceOrTruck, Other, before, AsItWas, Joined, FacesAndTrucks}
-use Rattle.width_tables.proofs.RangeLaws.{behind, aside}
 use Rattle.width_tables.proofs.TablesLaws.{unchanged, lists}
 
 -- ── the widths
 in-either : (c : ℕ) → faceOrTruck c ≡ true → (0x1F600 ≤ c) × (c ≤ 0x1F6C5) × (widthIn facesAndTrucks c ≡ 2)
 in-either c h = go (within 0x1F600 0x1F64F c) refl (within 0x1F680 0x1F6C5 c) refl h
   where
-    both : (a b : ℕ) → within a b c ≡ true → (a ≤ c) × (c ≤ b)
-    both a b h = (leb-true a c (and-left (leb a c) (leb c b) h), leb-true c b (and-right (leb a c) (leb c b) h))
-
     go : (s : Bool) → within 0x1F600 0x1F64F c ≡ s → (t : Bool) → within 0x1F680 0x1F6C5 c ≡ t → (s || t) ≡ true → (0x1F600 ≤ c) × (c ≤ 0x1F6C5) × (_≡_ {A = ℕ} (cond s 2 (cond t 2 1)) 2)
-    go true e t f h = let k = both 0x1F600 0x1F64F e in (omega (arith, k), omega (arith, k), refl)
-    go false e true f h = let k = both 0x1F680 0x1F6C5 f in (omega (arith, k), omega (arith, k), refl)
+    go true e t f h = let k = bounds 0x1F600 0x1F64F c e in (omega (arith, k), omega (arith, k), refl)
+    go false e true f h = let k = bounds 0x1F680 0x1F6C5 c f in (omega (arith, k), omega (arith, k), refl)
     go false e false f h = absurd (false≢true h)
 
 two-wide : (c : ℕ) → faceOrTruck c ≡ true → (widthIn nineteenRanges c ≡ 1) × (charWidth c ≡ 2)
 unfolding ranges charWidth
 two-wide c h =
     let k = in-either c h in
-    let w = aside 0x1F600 0x1F6C5 c (k .0) (k .1) nineteenRanges facesAndTrucks refl in
+    let w = aside 0x1F600 0x1F6C5 c (k .0) (k .1) nineteenRanges facesAndTrucks tt in
     (w .0, w .1 ∙ k .2)
 
 in-neither : (c : ℕ) → Other c → widthIn facesAndTrucks c ≡ 1

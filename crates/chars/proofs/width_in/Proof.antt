@@ -1,14 +1,18 @@
 -- The chain of tests is `charWidth`: each test that fails leaves the width to the ranges after it (`past-k`), the first that holds gives its range's width.
+-- Faces and trucks, the last two ranges, are another function's: one test says whether a code point is in the stretch of both (`no-stretch`).
 -- A further range asks for one more `row-k`, `start-k` and `past-k` and one more pair of lines in the list below, each like the last.
-use mathlib.Core.Path.{refl}
+use mathlib.Core.Path.{_≡_, refl, sym, _∙_}
+use mathlib.Core.Bool.{false}
 use borrow.Author.Needs.{needs}
 use Rattle.chars.specs.Width.{ranges, rangeNumbers}
-use Rattle.chars.proofs.WidthLaws.{Past, past-none, past-all, RowAt, miss, hit}
+use Rattle.chars.proofs.WidthLaws.{Past, past-none, inStretch, stretch, past-nineteen, RowAt, miss, hit}
 use Rattle.chars.proofs.width_in.Statement.{statement}
 use Rattle.chars.proofs.width_in.Tie as tie
 use Rattle.chars.proofs.width_in.Reads as reads
 use Rattle.chars.proofs.width_in.Lts as lts
 use Rattle.chars.proofs.in_range.Reads as in-range-reads
+use Rattle.chars.proofs.inside.Reads as inside-reads
+use Rattle.chars.proofs.face_or_truck_width.Reads as face-or-truck-width-reads
 
 row-1 : RowAt 0 0
 unfolding ranges rangeNumbers
@@ -180,45 +184,33 @@ start-17 c = start-16 (c .before .before)
 past-17 : (c : tie.Else17) → Past 17 (start-17 c .args .code)
 past-17 c = miss _ (start-17 c .pre) _ _ _ row-17 (past-16 (c .before .before)) _ (c .before .in-range17 .ensures) (c .if17 .left)
 
+-- ── faces and trucks: one test passes the stretch of both by
+abbrev start-18 : tie.Else18 → tie.Start
+start-18 c = start-17 (c .before .before .before .before)
+
+no-stretch : (c : tie.Else18) → inStretch (start-18 c .args .code) ≡ false
+no-stretch c = sym (stretch _ (start-18 c .pre) _ _ (c .before .inside .ensures)) ∙ c .if18 .left
+
+-- ── the last two of the nineteen
 row-18 : RowAt 17 51
 unfolding ranges rangeNumbers
 row-18 = record { there = tt; first = refl; last = refl; columns = refl; narrow = tt }
 
-abbrev start-18 : tie.Else18 → tie.Start
-start-18 c = start-17 (c .before .before)
+abbrev start-19 : tie.Else19 → tie.Start
+start-19 c = start-18 (c .before .before)
 
-past-18 : (c : tie.Else18) → Past 18 (start-18 c .args .code)
-past-18 c = miss _ (start-18 c .pre) _ _ _ row-18 (past-17 (c .before .before)) _ (c .before .in-range18 .ensures) (c .if18 .left)
+past-18 : (c : tie.Else19) → Past 18 (start-19 c .args .code)
+past-18 c = miss _ (start-19 c .pre) _ _ _ row-18 (past-17 (c .before .before .before .before .before .before)) _ (c .before .in-range18 .ensures) (c .if19 .left)
 
 row-19 : RowAt 18 54
 unfolding ranges rangeNumbers
 row-19 = record { there = tt; first = refl; last = refl; columns = refl; narrow = tt }
 
-abbrev start-19 : tie.Else19 → tie.Start
-start-19 c = start-18 (c .before .before)
-
-past-19 : (c : tie.Else19) → Past 19 (start-19 c .args .code)
-past-19 c = miss _ (start-19 c .pre) _ _ _ row-19 (past-18 (c .before .before)) _ (c .before .in-range19 .ensures) (c .if19 .left)
-
-row-20 : RowAt 19 57
-unfolding ranges rangeNumbers
-row-20 = record { there = tt; first = refl; last = refl; columns = refl; narrow = tt }
-
 abbrev start-20 : tie.Else20 → tie.Start
 start-20 c = start-19 (c .before .before)
 
-past-20 : (c : tie.Else20) → Past 20 (start-20 c .args .code)
-past-20 c = miss _ (start-20 c .pre) _ _ _ row-20 (past-19 (c .before .before)) _ (c .before .in-range20 .ensures) (c .if20 .left)
-
-row-21 : RowAt 20 60
-unfolding ranges rangeNumbers
-row-21 = record { there = tt; first = refl; last = refl; columns = refl; narrow = tt }
-
-abbrev start-21 : tie.Else21 → tie.Start
-start-21 c = start-20 (c .before .before)
-
-past-21 : (c : tie.Else21) → Past 21 (start-21 c .args .code)
-past-21 c = miss _ (start-21 c .pre) _ _ _ row-21 (past-20 (c .before .before)) _ (c .before .in-range21 .ensures) (c .if21 .left)
+past-19 : (c : tie.Else20) → Past 19 (start-20 c .args .code)
+past-19 c = miss _ (start-20 c .pre) _ _ _ row-19 (past-18 (c .before .before)) _ (c .before .in-range19 .ensures) (c .if20 .left)
 
 pub width-in-spec : {M : Type 1} → statement M
 unfolding ranges
@@ -259,12 +251,9 @@ width-in-spec =
     (λ c. hit _ (start-15 (c .before .before .before) .pre) _ _ _ row-16 (past-15 (c .before .before .before)) _ (c .before .before .in-range16 .ensures) (c .before .if16 .taken))
     (λ c κs. search needs) (λ c. search needs)
     (λ c. hit _ (start-16 (c .before .before .before) .pre) _ _ _ row-17 (past-16 (c .before .before .before)) _ (c .before .before .in-range17 .ensures) (c .before .if17 .taken))
+    (λ c. search needs) (λ c. search needs) (λ c κs. search needs) (λ c κs. let s = start-17 (c .before .before .before .before) in (s .pre, sym (stretch _ (s .pre) _ _ (c .before .inside .ensures)) ∙ c .if18 .taken)) (λ c. search needs)
     (λ c κs. search needs) (λ c. search needs)
-    (λ c. hit _ (start-17 (c .before .before .before) .pre) _ _ _ row-18 (past-17 (c .before .before .before)) _ (c .before .before .in-range18 .ensures) (c .before .if18 .taken))
+    (λ c. hit _ (start-18 (c .before .before .before) .pre) _ _ _ row-18 (past-17 (c .before .before .before .before .before .before .before)) _ (c .before .before .in-range18 .ensures) (c .before .if19 .taken))
     (λ c κs. search needs) (λ c. search needs)
-    (λ c. hit _ (start-18 (c .before .before .before) .pre) _ _ _ row-19 (past-18 (c .before .before .before)) _ (c .before .before .in-range19 .ensures) (c .before .if19 .taken))
-    (λ c κs. search needs) (λ c. search needs)
-    (λ c. hit _ (start-19 (c .before .before .before) .pre) _ _ _ row-20 (past-19 (c .before .before .before)) _ (c .before .before .in-range20 .ensures) (c .before .if20 .taken))
-    (λ c κs. search needs) (λ c. search needs)
-    (λ c. hit _ (start-20 (c .before .before .before) .pre) _ _ _ row-21 (past-20 (c .before .before .before)) _ (c .before .before .in-range21 .ensures) (c .before .if21 .taken))
-    (λ c. (past-all _ (past-21 c), search needs)))
+    (λ c. hit _ (start-19 (c .before .before .before) .pre) _ _ _ row-19 (past-18 (c .before .before .before)) _ (c .before .before .in-range19 .ensures) (c .before .if20 .taken))
+    (λ c. (past-nineteen _ (no-stretch (c .before .before .before .before)) (past-19 c), search needs)))
