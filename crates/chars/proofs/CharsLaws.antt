@@ -76,7 +76,8 @@ Valid (c ∷ cs) = Read c (bytesOf cs) × Valid cs
 read-head : (b : ℕ) (bs : List ℕ) → Read (charAt b bs) (drop (tailLen b bs) bs)
 unfolding charAt
 read-head b bs =
-    record { first = b; more = take (tailLen b bs) bs; text = refl; code = refl; columns = refl; ok = refl; stops = rw (take-append-drop (tailLen b bs) bs) (sym (length-take-le (tailLen b bs) bs (tail-le b bs))) }
+    let k : tailLen b (take (tailLen b bs) bs ++ drop (tailLen b bs) bs) ≡ length (take (tailLen b bs) bs) = rw (take-append-drop (tailLen b bs) bs) (sym (length-take-le (tailLen b bs) bs (tail-le b bs))) in
+    record { first = b; more = take (tailLen b bs) bs; text = refl; code = refl; columns = refl; ok = refl; stops = k }
 
 valid-from : (k : ℕ) (bs : List ℕ) → Valid (charsFrom k bs)
 valid-from zero [] = tt

@@ -67,5 +67,7 @@ module _ (low high c : ℕ) (out : within low high c ≡ false) where
   none-inside [] h = refl
   none-inside (r ∷ rs) h =
       let k = and-left (leb low (r .first) && leb (r .last) high) (allInside low high rs) h in
-      let o = not-in (r .first) (r .last) (leb→le low (r .first) (and-left (leb low (r .first)) (leb (r .last) high) k)) (leb→le (r .last) high (and-right (leb low (r .first)) (leb (r .last) high) k)) in
+      let p = leb→le low (r .first) (and-left (leb low (r .first)) (leb (r .last) high) k) in
+      let q = leb→le (r .last) high (and-right (leb low (r .first)) (leb (r .last) high) k) in
+      let o = not-in (r .first) (r .last) p q in
       rw o (none-inside rs (and-right (leb low (r .first) && leb (r .last) high) (allInside low high rs) h))

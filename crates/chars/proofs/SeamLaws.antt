@@ -111,7 +111,8 @@ matched-low (c ∷ cs) (b ∷ m) x y h l e = go (within (c .low) (c .high) b) e 
 read-low : (c : Character) (x y : List ℕ) → Low y → Read c x → Read c (x ++ y)
 unfolding tailLen
 read-low c x y l R =
-    record { first = R .first; more = R .more; text = R .text; code = R .code; columns = R .columns; ok = R .ok; stops = matched-low (tail (rowOf (R .first))) (R .more) x y (high (R .first)) l (R .stops) }
+    let k = matched-low (tail (rowOf (R .first))) (R .more) x y (high (R .first)) l (R .stops) in
+    record { first = R .first; more = R .more; text = R .text; code = R .code; columns = R .columns; ok = R .ok; stops = k }
 
 valid-low : (xs ys : List Character) → Low (bytesOf ys) → Valid xs → Valid ys → Valid (xs ++ ys)
 valid-low [] ys l v w = w

@@ -115,9 +115,10 @@ module _ (P : Character → Type 0) where
   flat-words t (w ∷ ws) h =
       let vs : List Word = By.wordsOf (charsBy t) ws in
       let k : AllOf P (chars (w .text) ++ (back (blanks (w .gap)) ++ back (flat vs))) =
-      rw (at-append ranges (charsBy t (w .text)) (blanks (w .gap) ++ flat vs), back-chars t (w .text), at-append ranges (blanks (w .gap)) (flat vs)) at h in
-      (all-left P (chars (w .text)) (back (blanks (w .gap)) ++ back (flat vs)) k,
-       flat-words t ws (all-right P (back (blanks (w .gap))) (back (flat vs)) (all-right P (chars (w .text)) (back (blanks (w .gap)) ++ back (flat vs)) k)))
+      rw (at-append ranges (charsBy t (w .text)) (blanks (w .gap) ++ flat vs), back-chars t (w .text), at-append ranges (blanks (w .gap)) (flat vs)) at h in (
+        all-left P (chars (w .text)) (back (blanks (w .gap)) ++ back (flat vs)) k,
+        flat-words t ws (all-right P (back (blanks (w .gap))) (back (flat vs)) (all-right P (chars (w .text)) (back (blanks (w .gap)) ++ back (flat vs)) k)),
+      )
 
   pub words : (l : Bytes) → Plain l → AllOf WordPlain (byteWords l)
   words l h = flat-words ranges (byteWords l) (rw (line-flat ranges l) h)

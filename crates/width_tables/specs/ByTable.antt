@@ -1,5 +1,5 @@
--- The calls by any table of widths. Each definition that reads a text as characters for their widths stands here as in its own crate, word for word and in the crates' order, over any way to read, `chars`.
--- By the library's own they are the library's definitions (`Published`, `Tables.antt`). What is taken from other crates asks no width but of characters that it is given.
+-- The calls by any table of widths. Each definition that reads a text as characters for their widths stands here as in its own crate, word for word and in the crates' order, over any way to read.
+-- By the library's own `chars` they are the library's definitions (`Published`, `Tables.antt`). What is taken from other crates asks no width but of characters that it is given.
 use Prim.Native.Nat.{ℕ, suc, _+_, _-_, _/_}
 use mathlib.Core.Bool.{Bool, true, cond, _&&_}
 use mathlib.Core.List.{List, [], _∷_, _++_, reverse}

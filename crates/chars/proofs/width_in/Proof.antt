@@ -188,6 +188,9 @@ past-17 c = miss _ (start-17 c .pre) _ _ _ row-17 (past-16 (c .before .before)) 
 abbrev start-18 : tie.Else18 → tie.Start
 start-18 c = start-17 (c .before .before .before .before)
 
+past-17-yet : (c : tie.Else18) → Past 17 (start-18 c .args .code)
+past-17-yet c = past-17 (c .before .before .before .before)
+
 no-stretch : (c : tie.Else18) → inStretch (start-18 c .args .code) ≡ false
 no-stretch c = sym (stretch _ (start-18 c .pre) _ _ (c .before .inside .ensures)) ∙ c .if18 .left
 
@@ -200,7 +203,7 @@ abbrev start-19 : tie.Else19 → tie.Start
 start-19 c = start-18 (c .before .before)
 
 past-18 : (c : tie.Else19) → Past 18 (start-19 c .args .code)
-past-18 c = miss _ (start-19 c .pre) _ _ _ row-18 (past-17 (c .before .before .before .before .before .before)) _ (c .before .in-range18 .ensures) (c .if19 .left)
+past-18 c = miss _ (start-19 c .pre) _ _ _ row-18 (past-17-yet (c .before .before)) _ (c .before .in-range18 .ensures) (c .if19 .left)
 
 row-19 : RowAt 18 54
 unfolding ranges rangeNumbers
@@ -251,9 +254,11 @@ width-in-spec =
     (λ c. hit _ (start-15 (c .before .before .before) .pre) _ _ _ row-16 (past-15 (c .before .before .before)) _ (c .before .before .in-range16 .ensures) (c .before .if16 .taken))
     (λ c κs. search needs) (λ c. search needs)
     (λ c. hit _ (start-16 (c .before .before .before) .pre) _ _ _ row-17 (past-16 (c .before .before .before)) _ (c .before .before .in-range17 .ensures) (c .before .if17 .taken))
-    (λ c. search needs) (λ c. search needs) (λ c κs. search needs) (λ c κs. let s = start-17 (c .before .before .before .before) in (s .pre, sym (stretch _ (s .pre) _ _ (c .before .inside .ensures)) ∙ c .if18 .taken)) (λ c. search needs)
+    (λ c. search needs) (λ c. search needs) (λ c κs. search needs)
+    (λ c κs. let s = start-17 (c .before .before .before .before) in (s .pre, sym (stretch _ (s .pre) _ _ (c .before .inside .ensures)) ∙ c .if18 .taken))
+    (λ c. search needs)
     (λ c κs. search needs) (λ c. search needs)
-    (λ c. hit _ (start-18 (c .before .before .before) .pre) _ _ _ row-18 (past-17 (c .before .before .before .before .before .before .before)) _ (c .before .before .in-range18 .ensures) (c .before .if19 .taken))
+    (λ c. hit _ (start-18 (c .before .before .before) .pre) _ _ _ row-18 (past-17-yet (c .before .before .before)) _ (c .before .before .in-range18 .ensures) (c .before .if19 .taken))
     (λ c κs. search needs) (λ c. search needs)
     (λ c. hit _ (start-19 (c .before .before .before) .pre) _ _ _ row-19 (past-18 (c .before .before .before)) _ (c .before .before .in-range19 .ensures) (c .before .if20 .taken))
     (λ c. (past-nineteen _ (no-stretch (c .before .before .before .before)) (past-19 c), search needs)))
