@@ -158,6 +158,11 @@ pub char-columns : (s : List ℕ) (at : ℕ) → wide (charIn at s) ≡ charWidt
 unfolding charIn charAt
 char-columns s at = refl
 
+-- an ill-formed one is U+FFFD, one column wide
+pub ill-columns : (s : List ℕ) (at : ℕ) → charIn at s .ok ≡ false → wide (charIn at s) ≡ 1
+unfolding charIn charAt charWidth ranges
+ill-columns s at h = rw h
+
 -- ── bounds: a character has one to four bytes, none of them past the end, and its width is at most 2
 abbrev allShort : List Row → Bool
 allShort [] = true

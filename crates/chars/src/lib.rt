@@ -256,11 +256,12 @@ pub fn seen_any(t: &[u16; 256], s: &[u8], at: usize) -> usize
     ensures { λ r. ⌜ (1 ≤ r / 8) × (at + r / 8 ≤ length (now (s .entry))) × (r % 4 ≤ 2) ⌝ }
 {
     let c = read_char(t, s, at);
-    let w = char_width(c.code) as usize;
     if c.ok {
+        let w = char_width(c.code) as usize;
         return c.len * 8 + 4 + w;
     }
-    c.len * 8 + w
+    // U+FFFD, one column
+    c.len * 8 + 1
 }
 
 // A character that is passed: how many bytes it takes, and how wide it is.

@@ -1,22 +1,20 @@
 -- Every call by two tables is the same, if each character of the texts lent is as wide by both.
 -- The idea: a call reads the texts that it is lent and parts of them, and the characters of the parts are the texts' (`PieceLaws`); then `rw`.
-use Prim.Native.Nat.{ℕ, suc, _+_, _-_, _/_}
+use Prim.Native.Nat.{ℕ, suc, _+_, _-_}
 use mathlib.Core.Bool.{Bool, true, false, cond, _&&_}
-use mathlib.Core.Path.{_≡_, refl, sym, ap, _∙_}
-use mathlib.Core.List.{List, [], _∷_, _++_, reverse, tail}
+use mathlib.Core.Path.{_≡_, refl, sym, ap}
+use mathlib.Core.List.{List, [], _∷_, reverse, tail}
 use lib.ListN.{length, drop}
 use Rattle.chars.specs.Width.{Range}
 use Rattle.chars.specs.Chars.{Character, bytesOf, widthOf}
 use Rattle.chars.specs.Cut.{keptWithin, leadingZeroWidth}
-use Rattle.recording.specs.Recording.{Bytes, Recording, Item}
-use Rattle.recording.specs.Outcome.{Outcome}
+use Rattle.recording.specs.Recording.{Bytes, Recording}
 use Rattle.recording.proofs.Lists.{AllOf}
-use Rattle.layout.specs.Tabs.{tabOps}
 use Rattle.layout.specs.Wrap.{ByteWord, Word, splitLines, byteWords, splitWordsAtWidth, firstFit, Line, lineBytes}
 use Rattle.layout.specs.Layout.{Job, withSecond, alone, writeWrapped, writeReplaced, writeTabsExpanded, Call}
 use Rattle.layout.specs.Layout.{writeTruncatedStart, writeTruncatedEnd, writePaddedStart, writePaddedEnd, writePaddedCentered, writeIndented, writeUnindented}
 use Rattle.layout.proofs.TwiceLaws.{join-lines, cuts}
-use Rattle.elide.specs.Elide.{Elided, cutAtStart, fitAtStart}
+use Rattle.elide.specs.Elide.{cutAtStart, fitAtStart}
 use Rattle.elide.proofs.ElideLaws.{cut-start, fit-start}
 use Rattle.sheet.specs.Sheet.{SheetLine, sheetLines, valueFrom, breakOf, dataOf, widthField, breakField, dataField, goodLine}
 use Rattle.rows.specs.Rows.{badRow}

@@ -1,8 +1,8 @@
 -- The characters of a text by a table: the same bytes in the same characters, and the library's own widths come back.
 -- The idea: a table changes the widths alone, so what is some characters in a row by one table is so by the library's.
-use mathlib.Core.Path.{_≡_, refl, sym, ap, _∙_}
+use mathlib.Core.Path.{_≡_, refl, sym, _∙_}
 use mathlib.Core.List.{List, [], _∷_, _++_}
-use Rattle.chars.specs.Width.{Range, ranges, widthIn, charWidth}
+use Rattle.chars.specs.Width.{Range, ranges, charWidth}
 use Rattle.chars.specs.Chars.{Character, chars, bytesOf}
 use Rattle.chars.proofs.CharsLaws.{bytes-chars, Valid, valid-chars}
 use Rattle.recording.specs.Recording.{Bytes}

@@ -14,7 +14,7 @@ use Rattle.chars.proofs.SeamLaws.{Low, chars-low, blank, chars-blank}
 use Rattle.chars.proofs.CutLaws.{longest, beforeLongest, split-longest, kept-from}
 use Rattle.recording.specs.Recording.{Bytes}
 use Rattle.recording.proofs.Lists.{AllOf, all-left, all-right, all-append}
-use Rattle.layout.specs.Wrap.{ByteWord, Word, splitLines, byteWords, splitWordsAtWidth, firstFit, groupLines}
+use Rattle.layout.specs.Wrap.{ByteWord, Word, splitLines, byteWords, groupLines}
 use Rattle.layout.proofs.GroupLaws.{concat}
 use Rattle.layout.proofs.WordLaws.{spaces, joinWords, unrun-runs, full, blanks, flat, bytes-flat, flat-append, flat-fitted}
 use Rattle.layout.proofs.ByteWordLaws.{Chain, Next, runs-chain}

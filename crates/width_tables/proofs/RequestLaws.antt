@@ -3,7 +3,6 @@ use Prim.Native.Nat.{ℕ, _≤_}
 use native.Mathlib.Omega.{arith}
 use mathlib.Core.Bool.{Bool, true, false, cond, _||_, false≢true}
 use mathlib.Core.Path.{_≡_, refl, _∙_}
-use mathlib.Core.List.{List}
 use Rattle.chars.specs.Utf8.{within, table37, rowOf, tailLen, complete}
 use Rattle.chars.specs.Width.{nineteenRanges, facesAndTrucks, ranges, widthIn, charWidth}
 use Rattle.chars.specs.Chars.{charAt, chars, textWidth, wellFormed}
@@ -17,7 +16,7 @@ use Rattle.layout.specs.Layout.{fillCount, resultItems, linesLeft, number, resu
 use Rattle.elide.specs.Elide.{fitAtStart}
 use Rattle.width_tables.specs.ByTable as By
 use Rattle.width_tables.specs.ByTable.{charsBy}
-use Rattle.width_tables.specs.Tables.{library, byTable, SameOn, TextsOf}
+use Rattle.width_tables.specs.Tables.{library, SameOn, TextsOf}
 use Rattle.width_tables.specs.FacesAndTrucks.{faceOrTruck, Other, before, AsItWas, Joined, FacesAndTrucks}
 use Rattle.width_tables.proofs.TablesLaws.{unchanged, lists}
 

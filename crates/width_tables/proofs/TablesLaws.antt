@@ -1,18 +1,17 @@
 -- THE THEOREM over any two tables (`alike`); by its own table the library is what it says (`published`); so the library beside any other table (`unchanged`), and lists of calls (`lists`).
 use Prim.Native.Nat.{ℕ}
-use mathlib.Core.Bool.{Bool}
-use mathlib.Core.Path.{_≡_, refl, sym, ap, subst, _∙_}
+use mathlib.Core.Path.{_≡_, refl, sym, ap, _∙_}
 use mathlib.Core.List.{List, [], _∷_, tail}
 use Rattle.chars.specs.Width.{Range, ranges}
 use Rattle.chars.specs.Chars.{Character, chars}
-use Rattle.recording.specs.Recording.{Bytes, Recording}
+use Rattle.recording.specs.Recording.{Bytes}
 use Rattle.recording.specs.Outcome.{Outcome}
 use Rattle.recording.proofs.Lists.{AllOf}
-use Rattle.layout.specs.Layout.{Call, contentAfter}
+use Rattle.layout.specs.Layout.{contentAfter}
 use Rattle.sheet.specs.Sheet.{sheetLines}
 use Rattle.width_tables.specs.ByTable as By
 use Rattle.width_tables.specs.ByTable.{charsBy}
-use Rattle.width_tables.specs.Tables.{Answers, library, byTable, lentTo, valueTexts, SameOn, EachIs, TextsOf, AsWide, TablesAlike, Published, Unchanged, runBy, outcomesBy, EachFinds, ListsAlike}
+use Rattle.width_tables.specs.Tables.{Answers, library, byTable, lentTo, valueTexts, SameOn, EachIs, TextsOf, AsWide, TablesAlike, Published, Unchanged, runBy, outcomesBy, ListsAlike}
 use Rattle.width_tables.proofs.CharacterLaws.{own-chars}
 use Rattle.width_tables.proofs.AlikeLaws as two
 use Rattle.width_tables.proofs.PublishedLaws as own

@@ -5,7 +5,7 @@ use mathlib.Core.Path.{_∙_, ap, sym}
 use mathlib.Core.Bool.{Bool, cond}
 use Prim.Native.Nat.{ℕ}
 use Rattle.chars.specs.Width.{charWidth}
-use Rattle.chars.proofs.CharsLaws.{char-columns}
+use Rattle.chars.proofs.CharsLaws.{char-columns, ill-columns}
 use Rattle.chars.specs.declared.Read.{Read}
 use Rattle.chars.proofs.seen_any.Statement.{statement}
 use Rattle.chars.proofs.seen_any.Tie as tie
@@ -34,10 +34,10 @@ add-result-2 c = search needs
 
 returns : tie.Need-returns
 returns c =
-    let w = c .before .before in
-    let e = w .before .read-char .ensures .0 in
+    let w = c .before in
+    let e = w .before .before .read-char .ensures .0 in
     let n = ap (λ (x : Read). x .len) e in
-    let o = ap {B = ℕ} (λ (b : Bool). cond b 1 0) (sym (ap (λ (x : Read). x .ok) e) ∙ c .before .if1 .taken) in
+    let o = ap {B = ℕ} (λ (b : Bool). cond b 1 0) (sym (ap (λ (x : Read). x .ok) e) ∙ w .before .if1 .taken) in
     let v = w .char-width .ensures .0 ∙ ap (λ (x : Read). charWidth (x .code)) e ∙ sym (char-columns _ _) in
     ((omega arith, omega arith, omega arith), (omega arith, omega arith, omega arith))
 
@@ -49,11 +49,11 @@ add-result-3 c = search needs
 
 returns-2 : tie.Need-returns-2
 returns-2 c =
-    let w = c .before .before in
-    let e = w .before .read-char .ensures .0 in
+    let e = c .before .before .read-char .ensures .0 in
     let n = ap (λ (x : Read). x .len) e in
-    let o = ap {B = ℕ} (λ (b : Bool). cond b 1 0) (sym (ap (λ (x : Read). x .ok) e) ∙ c .before .if1 .left) in
-    let v = w .char-width .ensures .0 ∙ ap (λ (x : Read). charWidth (x .code)) e ∙ sym (char-columns _ _) in
+    let no = sym (ap (λ (x : Read). x .ok) e) ∙ c .before .if1 .left in
+    let o = ap {B = ℕ} (λ (b : Bool). cond b 1 0) no in
+    let v = ill-columns _ _ no in
     ((omega arith, omega arith, omega arith), (omega arith, omega arith, omega arith))
 
 pub seen-any-spec : {M : Type 1} → statement M
