@@ -18,15 +18,16 @@ use Rattle.layout.specs.Wrap.{ByteWord, Word, splitLines, byteWords, groupLines
 use Rattle.layout.proofs.GroupLaws.{concat}
 use Rattle.layout.proofs.WordLaws.{spaces, joinWords, unrun-runs, full, blanks, flat, bytes-flat, flat-append, flat-fitted}
 use Rattle.layout.proofs.ByteWordLaws.{Chain, Next, runs-chain}
+use Rattle.layout.proofs.WidthLaws.{chars-spaces}
 use Rattle.layout.proofs.TwiceLaws.{closed, text, texts, flat-closed, joinLines, join-lines, line-behind, cuts, cuts-append, cuts-spans}
 use Rattle.width_tables.specs.ByTable as By
 use Rattle.width_tables.specs.ByTable.{charsBy}
 use Rattle.width_tables.proofs.CharacterLaws.{at-append, at-bytes, bytes-by, back, back-chars}
 
 -- ── the characters of words, by a table, are those of the line
-chars-blanks : (n : ℕ) (y : Bytes) → chars (spaces n ++ y) ≡ blanks n ++ chars y
-chars-blanks zero y = refl
-chars-blanks (suc n) y = chars-blank (spaces n ++ y) ∙ ap (λ (r : List Character). blank ∷ r) (chars-blanks n y)
+chars-blanks : (n : ℕ) → chars (spaces n) ≡ blanks n
+chars-blanks zero = unfold chars in refl
+chars-blanks (suc n) = chars-blank (spaces n) ∙ ap (λ (r : List Character). blank ∷ r) (chars-blanks n)
 
 back-blanks : (n : ℕ) → back (blanks n) ≡ blanks n
 unfolding ranges
@@ -37,7 +38,7 @@ word-flat : (t : List Range) (w : ByteWord) (vs : List Word) (y : Bytes) → Low
     → back (flat (By.wordOf (charsBy t) w ∷ vs)) ≡ chars (w .text ++ (spaces (w .gap) ++ y))
 word-flat t w vs y l e =
     at-append ranges (charsBy t (w .text)) (blanks (w .gap) ++ flat vs)
-    ∙ rw (back-chars t (w .text), at-append ranges (blanks (w .gap)) (flat vs), back-blanks (w .gap), e, ← chars-blanks (w .gap) y) (sym (chars-low (w .text) (spaces (w .gap) ++ y) l))
+    ∙ rw (back-chars t (w .text), at-append ranges (blanks (w .gap)) (flat vs), back-blanks (w .gap), e, ← chars-blanks (w .gap), ← chars-spaces (w .gap) y) (sym (chars-low (w .text) (spaces (w .gap) ++ y) l))
 
 low-last : (n : ℕ) → Low (spaces n ++ [])
 low-last zero = tt
