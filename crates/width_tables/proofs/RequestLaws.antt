@@ -18,7 +18,7 @@ use Rattle.width_tables.specs.ByTable as By
 use Rattle.width_tables.specs.ByTable.{charsBy}
 use Rattle.width_tables.specs.Tables.{library, SameOn, TextsOf}
 use Rattle.width_tables.specs.FacesAndTrucks.{faceOrTruck, Other, before, AsItWas, Joined, FacesAndTrucks}
-use Rattle.width_tables.proofs.TablesLaws.{unchanged, lists}
+use Rattle.width_tables.proofs.TablesLaws.{unchanged, answered, lists}
 
 -- ── the widths
 in-either : (c : ℕ) → faceOrTruck c ≡ true → (0x1F600 ≤ c) × (c ≤ 0x1F6C5) × (widthIn facesAndTrucks c ≡ 2)
@@ -60,4 +60,12 @@ pub calls-as-before : SameOn (TextsOf Other) library before
 calls-as-before = unchanged nineteenRanges Other as-before
 
 pub faces-and-trucks : FacesAndTrucks
-faces-and-trucks = record { widths = two-wide; others = others; calls = calls-as-before; lists = lists (TextsOf Other) library before calls-as-before; rows = as-it-was; joined = joined }
+faces-and-trucks = record {
+  widths = two-wide;
+  others = others;
+  calls = calls-as-before;
+  running = answered (TextsOf Other) before calls-as-before;
+  lists = lists (TextsOf Other) library before calls-as-before;
+  rows = as-it-was;
+  joined = joined;
+}

@@ -1,17 +1,22 @@
--- THE THEOREM over any two tables (`alike`); by its own table the library is what it says (`published`); so the library beside any other table (`unchanged`), and lists of calls (`lists`).
+-- THE THEOREM over any two tables (`alike`); by its own table the library is what it says (`published`); so the library beside any other table (`unchanged`), what running code leaves (`answered`), and lists of calls (`lists`).
 use Prim.Native.Nat.{ℕ}
-use mathlib.Core.Path.{_≡_, refl, sym, ap, _∙_}
+use mathlib.Core.Path.{_≡_, refl, sym, ap, subst, _∙_}
 use mathlib.Core.List.{List, [], _∷_, tail}
+use lib.ListN.{length}
 use Rattle.chars.specs.Width.{Range, ranges}
 use Rattle.chars.specs.Chars.{Character, chars}
+use Rattle.buffer.specs.Place.{over}
 use Rattle.recording.specs.Recording.{Bytes}
-use Rattle.recording.specs.Outcome.{Outcome}
+use Rattle.recording.specs.Outcome.{Outcome, Promised}
 use Rattle.recording.proofs.Lists.{AllOf}
 use Rattle.layout.specs.Layout.{contentAfter}
+use Rattle.layout.specs.Lent.{callIn}
+use Rattle.wrap_lines.specs.WrapBytes.{lentLines}
+use Rattle.elide.specs.Elide.{lent}
 use Rattle.sheet.specs.Sheet.{sheetLines}
 use Rattle.width_tables.specs.ByTable as By
 use Rattle.width_tables.specs.ByTable.{charsBy}
-use Rattle.width_tables.specs.Tables.{Answers, library, byTable, lentTo, valueTexts, SameOn, EachIs, TextsOf, AsWide, TablesAlike, Published, Unchanged, runBy, outcomesBy, ListsAlike}
+use Rattle.width_tables.specs.Tables.{Answers, library, byTable, lentTo, valueTexts, SameOn, EachIs, TextsOf, AsWide, TablesAlike, Published, Unchanged, AnsweredBy, runBy, outcomesBy, ListsAlike}
 use Rattle.width_tables.proofs.CharacterLaws.{own-chars}
 use Rattle.width_tables.proofs.AlikeLaws as two
 use Rattle.width_tables.proofs.PublishedLaws as own
@@ -91,6 +96,16 @@ all-texts Ok Fine f (d ∷ ds) h = (every Ok Fine f (chars d) (h .0), all-texts 
 pub unchanged : Unchanged
 unchanged t Ok f =
     joined (TextsOf Ok) (TextsOf (AsWide ranges t)) (λ ts h. all-texts Ok (AsWide ranges t) f ts h) library (byTable ranges) (byTable t) published (alike ranges t)
+
+-- ── running code
+pub answered : (Ok : List Bytes → Type 0) (b : Answers) → SameOn Ok library b → AnsweredBy b Ok
+answered Ok b p = record {
+  layout = λ j r old new x h k. subst (λ (o : Outcome). Promised o old new x) (p .layout (callIn j old) r h) k;
+  wrapBytes = λ w t d old new x h k. subst (λ (o : Outcome). Promised o (lentLines old) (lentLines new) x) (p .wrapBytes w t d (length old) h) k;
+  elideEnd = λ s e old new m x h k. subst (λ (o : Outcome). Promised o (lent old) (lent new) x) (p .elideEnd (length old) s e m h) k;
+  elideStart = λ s e old new m x h k. subst (λ (o : Outcome). Promised o (lent old) (lent new) x) (p .elideStart (length old) s e m h) k;
+  wraplist = λ s old new n h k. (k .0 ∙ ap length (p .wraplist s h), k .1 ∙ ap (λ (y : Bytes). over y old) (p .wraplist s h));
+}
 
 -- ── lists of calls
 pub lists : (Ok : List Bytes → Type 0) (a b : Answers) → SameOn Ok a b → ListsAlike Ok a b

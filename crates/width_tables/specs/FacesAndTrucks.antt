@@ -15,7 +15,7 @@ use Rattle.layout.specs.Pins.{roomy, replacement}
 use Rattle.elide.specs.Elide.{elided}
 use Rattle.width_tables.specs.ByTable as By
 use Rattle.width_tables.specs.ByTable.{charsBy}
-use Rattle.width_tables.specs.Tables.{Answers, library, byTable, SameOn, TextsOf, runBy, ListsAlike}
+use Rattle.width_tables.specs.Tables.{Answers, library, byTable, SameOn, TextsOf, AnsweredBy, runBy, ListsAlike}
 
 -- a face or a truck
 abbrev pub faceOrTruck : ℕ → Bool
@@ -73,6 +73,8 @@ pub record FacesAndTrucks : Type 0 where
   pub others : (c : ℕ) → Other c → charWidth c ≡ widthIn nineteenRanges c
   -- "any call lent no text with such a character must answer as before"
   pub calls : SameOn (TextsOf Other) library before
+  -- of running code: a call that has kept its contract of now has kept that of before
+  pub running : AnsweredBy before (TextsOf Other)
   -- and a list of calls, each of which finds no such text
   pub lists : ListsAlike (TextsOf Other) library before
   pub rows : AsItWas

@@ -4,14 +4,18 @@ use Prim.Native.Nat.{ℕ}
 use mathlib.Core.Bool.{Bool, cond, _&&_}
 use mathlib.Core.Path.{_≡_}
 use mathlib.Core.List.{List, [], _∷_, tail}
+use lib.ListN.{length}
 use Rattle.chars.specs.Width.{Range, ranges, widthIn}
 use Rattle.chars.specs.Chars.{Character, chars, textWidth}
 use Rattle.chars.specs.Cut.{truncateEndPos, truncateEndWidth, truncateStartPos, truncateStartWidth, zeroWidthLen}
+use Rattle.buffer.specs.Place.{over}
+use Rattle.recording.specs.declared.Answer.{Answer}
 use Rattle.recording.specs.Recording.{Bytes, Recording}
-use Rattle.recording.specs.Outcome.{Outcome}
+use Rattle.recording.specs.Outcome.{Outcome, Lent, Promised}
 use Rattle.layout.specs.Layout.{Job, withSecond, alone, writeWrapped, writeReplaced, writeTabsExpanded, Call, outcome, contentAfter}
-use Rattle.wrap_lines.specs.WrapBytes.{wrapBytesOutcome}
-use Rattle.elide.specs.Elide.{trimmed, elideEndOutcome, elideStartOutcome}
+use Rattle.layout.specs.Lent.{callIn, Leaves}
+use Rattle.wrap_lines.specs.WrapBytes.{lentLines, wrapBytesOutcome}
+use Rattle.elide.specs.Elide.{trimmed, lent, elideEndOutcome, elideStartOutcome}
 use Rattle.sheet.specs.Sheet.{SheetLine, sheetLines, dataOf, dataField, goodLine}
 use Rattle.rows.specs.Rows.{output}
 use Rattle.width_tables.specs.ByTable as By
@@ -125,6 +129,20 @@ Published = SameOn (λ ts. Unit {0}) library (byTable ranges)
 -- so the library answers as it would by another table, wherever the texts lent have only code points that are as wide by both
 abbrev pub Unchanged : Type 1
 Unchanged = (t : List Range) (Ok : ℕ → Type 0) → ((c : ℕ) → Ok c → AsWide ranges t c) → SameOn (TextsOf Ok) library (byTable t)
+
+-- ── of what running code leaves: where a call has kept its contract, the answer and each lent place are those that b has for it
+pub record AnsweredBy (b : Answers) (Ok : List Bytes → Type 0) : Type 0 where
+  -- a layout call: the job j on the content r in the buffers `old`, which are then `new`, with the answer x
+  pub layout : (j : Job) (r : Recording) (old new : Lent) (x : Answer) → Ok (lentTo j r) → Leaves j r old new x → Promised (b .layout (callIn j old) r) old new x
+  pub wrapBytes : (w : ℕ) (t : Bool) (d old new : List ℕ) (x : Answer) → Ok (d ∷ []) → Promised (wrapBytesOutcome w t d (length old)) (lentLines old) (lentLines new) x
+      → Promised (b .wrapBytes w t d (length old)) (lentLines old) (lentLines new) x
+  pub elideEnd : (s e old new : Bytes) (m : ℕ) (x : Answer) → Ok (s ∷ e ∷ []) → Promised (elideEndOutcome (length old) s e m) (lent old) (lent new) x
+      → Promised (b .elideEnd (length old) s e m) (lent old) (lent new) x
+  pub elideStart : (s e old new : Bytes) (m : ℕ) (x : Answer) → Ok (s ∷ e ∷ []) → Promised (elideStartOutcome (length old) s e m) (lent old) (lent new) x
+      → Promised (b .elideStart (length old) s e m) (lent old) (lent new) x
+  -- the program's output: n bytes of the buffer that it is printed from
+  pub wraplist : (s old new : Bytes) (n : ℕ) → Ok (valueTexts (tail (sheetLines s))) → (n ≡ length (output s)) × (new ≡ over (output s) old)
+      → (n ≡ length (b .wraplist s)) × (new ≡ over (b .wraplist s) old)
 
 -- ── lists of calls: a content is the result of the last call not refused
 abbrev pub runBy : Answers → List Call → Recording → Recording
