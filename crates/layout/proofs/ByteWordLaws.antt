@@ -9,7 +9,8 @@ use lib.Dec.{eqb}
 use Rattle.recording.specs.Recording.{isNil}
 use Rattle.layout.specs.Wrap.{ontoFirst, splitLines, ByteWord, byteWord, spaceBefore, byteBefore, byteWords}
 use Rattle.recording.proofs.Lists.{AllOf}
-use Rattle.layout.proofs.WordLaws.{spaces, joinWords}
+use Rattle.layout.specs.Tabs.{spaces}
+use Rattle.layout.proofs.WordLaws.{joinWords}
 
 -- each member and the next
 abbrev pub ChainFrom : {A : Type 0} → (A → A → Type 0) → A → List A → Type 0

@@ -59,16 +59,19 @@ sort ch rest R = go (leadsWith 0x09 ch) refl (leadsWith 0x0A ch) refl
     go false p false q = other p q (rw (R .text) (not-at 0x09 p, not-at 0x0A q, high-plain (R .more) (more-high ch rest R)))
 
 -- ── spaces
-chars-spaces : (n : ℕ) (s : Bytes) → chars (spaces n ++ s) ≡ chars (spaces n) ++ chars s
+pub chars-spaces : (n : ℕ) (s : Bytes) → chars (spaces n ++ s) ≡ chars (spaces n) ++ chars s
 unfolding chars
 chars-spaces zero s = refl
 chars-spaces (suc n) s = chars-blank (spaces n ++ s) ∙ ap (λ (l : List Character). blank ∷ l) (chars-spaces n s) ∙ ap (λ (l : List Character). l ++ chars s) (sym (chars-blank (spaces n)))
 
-width-spaces : (n : ℕ) → textWidth (spaces n) ≡ n
-width-spaces zero = width-none
-width-spaces (suc n) = width-blank (spaces n) ∙ ap suc (width-spaces n)
+pub width-spaces : (n : ℕ) (s : Bytes) → textWidth (spaces n ++ s) ≡ n + textWidth s
+width-spaces zero s = omega arith
+width-spaces (suc n) s = omega (arith, width-blank (spaces n ++ s), width-spaces n s)
 
-low-spaces : (n : ℕ) (s : Bytes) → 1 ≤ n → Low (spaces n ++ s)
+width-only : (n : ℕ) → textWidth (spaces n) ≡ n
+width-only n = ap textWidth (sym (append-nil (spaces n))) ∙ omega (arith, width-spaces n [], width-none)
+
+pub low-spaces : (n : ℕ) (s : Bytes) → 1 ≤ n → Low (spaces n ++ s)
 low-spaces zero s h = absurd (omega arith)
 low-spaces (suc n) s h = omega arith
 
@@ -77,7 +80,7 @@ chars-line line n h = chars-low line (spaces n) (rw (append-nil (spaces n)) at (
 
 pub width-line : (line : Bytes) (n : ℕ) → 1 ≤ n → textWidth (line ++ spaces n) ≡ textWidth line + n
 unfolding textWidth
-width-line line n h = ap widthOf (chars-line line n h) ∙ omega (arith, width-append (chars line) (chars (spaces n)), width-spaces n)
+width-line line n h = ap widthOf (chars-line line n h) ∙ omega (arith, width-append (chars line) (chars (spaces n)), width-only n)
 
 -- ── the line so far, which the characters cs follow: its last character ends with it
 abbrev pub Closed : Bytes → List Character → Type 0

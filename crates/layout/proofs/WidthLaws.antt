@@ -12,7 +12,7 @@ use borrow.Author.Tests.{leb-true, eqb-true, eqb-false}
 use Rattle.chars.specs.Chars.{Character, chars, bytesOf, wide, widthOf, textWidth}
 use Rattle.chars.specs.Cut.{leadingZeroWidth}
 use Rattle.chars.proofs.CharsLaws.{valid-clean, width-append}
-use Rattle.chars.proofs.SeamLaws.{width-none, chars-low, blank, chars-blank, width-blank}
+use Rattle.chars.proofs.SeamLaws.{width-none, chars-low}
 use Rattle.recording.specs.Recording.{Bytes}
 use Rattle.recording.proofs.Lists.{AllOf, all-append}
 use Rattle.layout.specs.Wrap.{groups, splitLines, Word, byteWords, wordsOf, inHead, splitWordsAtWidth, fitsLine, fullWidth, firstFit, Line, wrappedLine, linesFrom, lineNumbers, wrapLines}
@@ -20,19 +20,11 @@ use Rattle.layout.specs.Widths.{LoneWord, WidthFits, ListFits, WidthsTru
 use Rattle.layout.proofs.GroupLaws.{all-concat, groups-concat, Joined, JoinedAll, groups-joined}
 use Rattle.layout.proofs.ByteWordLaws.{Chain, NoNewline, Inner, lines-none, runs-ok, runs-chain}
 use Rattle.layout.proofs.BreakLaws.{PieceOk, WordOk, Spaced, breaking-chain, breaking-pieces, fit-spaced}
-use Rattle.layout.proofs.WordLaws.{spaces}
+use Rattle.layout.specs.Tabs.{spaces}
+use Rattle.layout.proofs.TabLaws.{width-spaces}
 use Rattle.layout.proofs.TwiceLaws.{text, texts, textsOf, cuts, cuts-all, join-lines}
 
 -- ── the width of a line's bytes
-pub chars-spaces : (n : ℕ) (y : Bytes) → chars (spaces n ++ y) ≡ chars (spaces n) ++ chars y
-chars-spaces zero y = unfold chars in refl
-chars-spaces (suc n) y =
-    chars-blank (spaces n ++ y) ∙ ap (λ (r : List Character). blank ∷ r) (chars-spaces n y) ∙ sym (ap (λ (r : List Character). r ++ chars y) (chars-blank (spaces n)))
-
-pub width-spaces : (n : ℕ) (y : Bytes) → textWidth (spaces n ++ y) ≡ n + textWidth y
-width-spaces zero y = omega arith
-width-spaces (suc n) y = omega (arith, width-blank (spaces n ++ y), width-spaces n y)
-
 -- words with the whitespace between them, that after the last one left out
 abbrev shownWidth : List Word → ℕ
 shownWidth [] = 0

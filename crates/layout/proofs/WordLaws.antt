@@ -13,13 +13,10 @@ use Rattle.chars.proofs.SeamLaws.{blank}
 use Rattle.recording.specs.Recording.{isNil}
 use Rattle.layout.specs.Wrap.{groups, splitLines, Word, ByteWord, byteWord, spaceBefore, byteBefore, byteWords, wordsOf, inHead, headsAsWords, splitWord}
 use Rattle.layout.specs.Wrap.{splitWords, splitWordsAtWidth, fitsLine, fullWidth, firstFit, Line, shownLen, wholeLen, groupLines, wrappedLine, linesFrom, wrapLines}
+use Rattle.layout.specs.Tabs.{spaces}
 use Rattle.layout.proofs.GroupLaws.{concat, groups-concat, groups-some}
 use Rattle.layout.proofs.LineLaws.{some-lines}
 use Rattle.layout.proofs.StepLaws.{Ordered}
-
-abbrev pub spaces : ℕ → List ℕ
-spaces zero = []
-spaces (suc n) = 0x20 ∷ spaces n
 
 pub length-spaces : (n : ℕ) → length (spaces n) ≡ n
 length-spaces zero = refl

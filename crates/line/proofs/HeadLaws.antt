@@ -17,7 +17,7 @@ use Rattle.chars.proofs.CutLaws.{keptRest, split-kept}
 use Rattle.recording.specs.Recording.{isNil}
 use Rattle.recording.proofs.Lists.{AllOf, all-right}
 use Rattle.layout.specs.Wrap.{ontoFirst, groups, splitLines, Word, ByteWord, spaceBefore, byteBefore, byteWords, wordsOf, inHead, headsAsWords, splitWords}
-use Rattle.layout.proofs.WordLaws.{spaces}
+use Rattle.layout.specs.Tabs.{spaces}
 use Rattle.layout.proofs.ByteWordLaws.{NoNewline, Inner, FirstText, runs-word}
 use Rattle.layout.proofs.WordingLaws.{afterZero, split-zero, restHeads, first-head}
 use Rattle.line.specs.Rest.{lineText, laterLines, wordText, spaceLen, oneChar, headOf}

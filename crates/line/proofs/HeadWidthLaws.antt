@@ -9,8 +9,9 @@ use lib.ListN.{length, take, drop}
 use Rattle.chars.specs.Chars.{Character, chars, bytesOf, widthOf, textWidth}
 use Rattle.chars.proofs.CharsLaws.{bytes-chars}
 use Rattle.chars.proofs.SeamLaws.{Seam, Low, width-none, seam-low, seam-after}
-use Rattle.layout.proofs.WordLaws.{spaces, length-spaces}
-use Rattle.layout.proofs.WidthLaws.{chars-spaces, width-spaces}
+use Rattle.layout.specs.Tabs.{spaces}
+use Rattle.layout.proofs.TabLaws.{chars-spaces, width-spaces}
+use Rattle.layout.proofs.WordLaws.{length-spaces}
 use Rattle.line.specs.Rest.{endsWord, wordText, spaceLen, firstHead, headLen, headWidth}
 use Rattle.line.proofs.WordCharLaws.{end-low}
 use Rattle.line.proofs.HeadLaws.{spaces-split, afterHead, head-split}

@@ -12,7 +12,8 @@ use Rattle.chars.proofs.CharsLaws.{bytes-chars, bytes-append, Valid, valid-char
 use Rattle.layout.specs.Wrap.{ontoFirst, groupsFrom, groups, splitLines, Word, ByteWord, byteWords, wordsOf, splitWords, splitWordsAtWidth, fitsLine, fullWidth, firstFit, Line}
 use Rattle.layout.specs.Wrap.{lineOf, wordLen, shownLen, wholeLen, groupLines, wrappedLine, linesFrom, wrapLines}
 use Rattle.layout.proofs.GroupLaws.{from-join, from-new}
-use Rattle.layout.proofs.WordLaws.{spaces, length-spaces, joinWords, unrun-runs}
+use Rattle.layout.specs.Tabs.{spaces}
+use Rattle.layout.proofs.WordLaws.{length-spaces, joinWords, unrun-runs}
 use Rattle.layout.proofs.WordingLaws.{narrow}
 use Rattle.line.specs.Rest.{restLines, lineText, laterLines, endsWord, wordText, spaceLen, headOf, unreached, limitOf, placed, going, firstHead, headLen, headWidth}
 use Rattle.line.proofs.HeadLaws.{lines-split, text-none, text-drop, later-drop, text-le, word-line, space-line, space-le, afterHead, head-split, head-some, bytes-some, Goes, heads-next}

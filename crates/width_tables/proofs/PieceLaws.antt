@@ -1,6 +1,6 @@
 -- What holds of every character of a text holds of every character of the parts that a call reads on its own: the ending that a cut keeps, the lines, their words, and the lines of a wrap.
 -- The idea: such a part is some of the text's characters in a row, whatever table made the cut, and characters in a row read as themselves (`some-row`). No character goes on past a 20 or a 0A.
-use Prim.Native.Nat.{ℕ, zero, suc, _+_, _<_}
+use Prim.Native.Nat.{ℕ, zero, suc, _+_}
 use native.Mathlib.Omega.{arith}
 use mathlib.Core.Bool.{Bool}
 use mathlib.Core.Path.{_≡_, refl, sym, ap, _∙_}
@@ -16,9 +16,10 @@ use Rattle.recording.specs.Recording.{Bytes}
 use Rattle.recording.proofs.Lists.{AllOf, all-left, all-right, all-append}
 use Rattle.layout.specs.Wrap.{ByteWord, Word, splitLines, byteWords, groupLines}
 use Rattle.layout.proofs.GroupLaws.{concat}
-use Rattle.layout.proofs.WordLaws.{spaces, joinWords, unrun-runs, full, blanks, flat, bytes-flat, flat-append, flat-fitted}
+use Rattle.layout.proofs.WordLaws.{joinWords, unrun-runs, full, blanks, flat, bytes-flat, flat-append, flat-fitted}
 use Rattle.layout.proofs.ByteWordLaws.{Chain, Next, runs-chain}
-use Rattle.layout.proofs.WidthLaws.{chars-spaces}
+use Rattle.layout.specs.Tabs.{spaces}
+use Rattle.layout.proofs.TabLaws.{chars-spaces, low-spaces}
 use Rattle.layout.proofs.TwiceLaws.{closed, text, texts, flat-closed, joinLines, join-lines, line-behind, cuts, cuts-append, cuts-spans}
 use Rattle.width_tables.specs.ByTable as By
 use Rattle.width_tables.specs.ByTable.{charsBy}
@@ -44,14 +45,10 @@ low-last : (n : ℕ) → Low (spaces n ++ [])
 low-last zero = tt
 low-last (suc n) = omega arith
 
-low-some : (n : ℕ) (y : Bytes) → 0 < n → Low (spaces n ++ y)
-low-some zero y h = absurd (omega arith)
-low-some (suc n) y h = omega arith
-
 words-flat : (t : List Range) (ws : List ByteWord) → Chain Next ws → back (flat (By.wordsOf (charsBy t) ws)) ≡ chars (joinWords ws)
 words-flat t [] c = unfold chars in refl
 words-flat t (w ∷ []) c = word-flat t w [] [] (low-last (w .gap)) (unfold chars in refl)
-words-flat t (w ∷ v ∷ vs) c = word-flat t w (By.wordsOf (charsBy t) (v ∷ vs)) (joinWords (v ∷ vs)) (low-some (w .gap) (joinWords (v ∷ vs)) (c .0 .0)) (words-flat t (v ∷ vs) (c .1))
+words-flat t (w ∷ v ∷ vs) c = word-flat t w (By.wordsOf (charsBy t) (v ∷ vs)) (joinWords (v ∷ vs)) (low-spaces (w .gap) (joinWords (v ∷ vs)) (c .0 .0)) (words-flat t (v ∷ vs) (c .1))
 
 line-flat : (t : List Range) (l : Bytes) → back (flat (By.wordsOf (charsBy t) (byteWords l))) ≡ chars l
 line-flat t l = words-flat t (byteWords l) (runs-chain l) ∙ ap chars (unrun-runs l)
