@@ -1,4 +1,5 @@
--- Where the character before a place starts, as the bytes tell it that are read from there back: where the text is well-formed, none starts with a byte that trails. `proofs/BackLaws.antt` shows that it does in a well-formed text.
+-- Where the character before a place starts, as the bytes tell it that are read from there back: at the last byte that does not trail.
+-- `proofs/BackLaws.antt` shows that it does in a well-formed text.
 use Prim.Native.Nat.{ℕ, _<_}
 use mathlib.Core.List.{List}
 use lib.ListN.{getD}

@@ -74,7 +74,8 @@ loop-again c =
     let s = c .before .before .before .before .before .before .before .before .before .before in
     let a = s .args in
     let more : l .i < length (a .s .now) = omega (arith, c .before .before .before .before .before .before .before .loop-test .taken, s .pre .1 .1) in
-    plain-further (a .s .now) (a .at) (a .end) (l .i) (l .width) (k .result .len) (k .result .width) more (omega (arith, c .before .before .if2 .left)) (k .ensures .1 .0) (k .ensures .1 .2) (k .ensures .0 .0) (k .ensures .0 .1) (c .before .before .before .before .before .if1 .left) (l .inv)
+    plain-further (a .s .now) (a .at) (a .end) (l .i) (l .width) (k .result .len) (k .result .width) more (omega (arith, c .before .before .if2 .left))
+    (k .ensures .1 .0) (k .ensures .1 .2) (k .ensures .0 .0) (k .ensures .0 .1) (c .before .before .before .before .before .if1 .left) (l .inv)
 
 returns-3 : tie.Need-returns-3 Inv-loop μ-loop
 returns-3 c =

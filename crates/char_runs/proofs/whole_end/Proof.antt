@@ -27,7 +27,8 @@ returns : tie.Need-returns Inv-loop μ-loop
 returns c =
     let s = c .before .before in
     let a = s .args in
-    record { from = omega (arith, s .pre .1 .0); to = omega arith; seam = seam-end (a .s .now) (a .at) (a .end) (omega (arith, s .pre .1 .0)) (c .if1 .taken); none = λ e. absurd (omega (arith, e, s .pre .1 .0)) }
+    let seam = seam-end (a .s .now) (a .at) (a .end) (omega (arith, s .pre .1 .0)) (c .if1 .taken) in
+    record { from = omega (arith, s .pre .1 .0); to = omega arith; seam = seam; none = λ e. absurd (omega (arith, e, s .pre .1 .0)) }
 
 shared-slice-read-continues : tie.Need-shared-slice-read-continues Inv-loop μ-loop
 shared-slice-read-continues c = search needs
@@ -40,7 +41,8 @@ returns-2 c =
     let s = c .before .before .before .before .before in
     let a = s .args in
     let k = c .before .continues in
-    let seam = seam-byte (a .s .now) (a .at) (a .end) (omega (arith, s .pre .1 .0)) (omega (arith, s .pre .1 .1, c .before .before .before .if1 .left)) (sym (k .ensures) ∙ not-true (k .result) (c .if2 .taken)) in
+    let more : a .end < length (a .s .now) = omega (arith, s .pre .1 .1, c .before .before .before .if1 .left) in
+    let seam = seam-byte (a .s .now) (a .at) (a .end) (omega (arith, s .pre .1 .0)) more (sym (k .ensures) ∙ not-true (k .result) (c .if2 .taken)) in
     record { from = omega (arith, s .pre .1 .0); to = omega arith; seam = seam; none = λ e. absurd (omega (arith, e, s .pre .1 .0)) }
 
 loop-holds : tie.Need-loop-holds Inv-loop μ-loop
