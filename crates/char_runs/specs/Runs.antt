@@ -5,8 +5,7 @@ use mathlib.Core.Path.{_≡_}
 use mathlib.Core.List.{List, [], _∷_}
 use lib.ListN.{length, drop}
 use Rattle.buffer.specs.Place.{part}
-use Rattle.chars.specs.Chars.{Character, chars, charIn, widthOf}
-use Rattle.chars.proofs.SeamLaws.{Seam}
+use Rattle.chars.specs.Chars.{Character, chars, charIn, Seam, widthOf}
 use Rattle.recording.specs.Lists.{same}
 use Rattle.char_runs.specs.declared.Stretch.{Stretch}
 
