@@ -6,13 +6,16 @@ use mathlib.Core.List.{List, [], _∷_}
 use lib.ListN.{length, drop}
 use Rattle.buffer.specs.Place.{part}
 use Rattle.chars.specs.Chars.{Character, chars, charIn, Seam, widthOf}
-use Rattle.recording.specs.Lists.{same}
+use Rattle.recording.specs.Lists.{AllOf, same}
 use Rattle.char_runs.specs.declared.Stretch.{Stretch}
+
+-- a character that is no 0A
+abbrev pub Plain : Character → Type 0
+Plain c = same (c .text) (0x0A ∷ []) ≡ false
 
 -- none of the characters is a 0A
 abbrev pub NoNewlines : List Character → Type 0
-NoNewlines [] = Unit {0}
-NoNewlines (c ∷ cs) = (same (c .text) (0x0A ∷ []) ≡ false) × NoNewlines cs
+NoNewlines cs = AllOf Plain cs
 
 -- the character that starts at `at` goes on past `end`
 abbrev pub Passes : List ℕ → ℕ → ℕ → Type 0
@@ -32,4 +35,4 @@ pub record Covered (s : List ℕ) (at end : ℕ) (r : Stretch) : Type 0 where
   pub seam : Seam (drop at s) (r .end - at)
   pub plain : NoNewlines (chars (part at (r .end) s))
   pub columns : r .width ≡ widthOf (chars (part at (r .end) s))
-  pub none : r .end ≡ at → (same (charIn at s .text) (0x0A ∷ []) ≡ false) → Passes s at end
+  pub none : r .end ≡ at → Plain (charIn at s) → Passes s at end

@@ -11,7 +11,7 @@ use lib.Seq.{take-append-seam, drop-append-seam, length-take-le, take-add, drop-
 use Rattle.buffer.specs.Place.{part}
 use Rattle.chars.specs.Chars.{Character, chars, charIn, bytesOf, wide, widthOf}
 use Rattle.chars.proofs.CharsLaws.{Valid, bytes-chars, valid-chars, char-next, char-some, char-inside}
-use Rattle.chars.proofs.SeamLaws.{Seam}
+use Rattle.chars.specs.Chars.{Seam}
 use Rattle.recording.specs.Lists.{AllOf, same}
 use Rattle.recording.specs.Recording.{Bytes, Recording, Item, byteItems}
 use Rattle.recording.specs.Coloured.{Coloured, colouredFrom, coloured}
@@ -245,13 +245,15 @@ module _ (l d : Bytes) (xs : List Coloured) (fs : List Bytes) where
         ∙ omega (arith, first-long k, second-long k) in
         let v : length (take a (drop at fs)) ≡ a = omega (arith, u, length-take (a + b) (drop at fs), length-take a (drop at fs)) in
         let p = parts-equal (take a (drop at fs)) (take b (drop a (drop at fs))) (cond k (singles (part at to d)) (replicate a [])) (cond k (singles (part to until d)) (replicate b []))
-        (sym (take-add a b (drop at fs)) ∙ both) (v ∙ sym (first-long k)) in
-        (record {
-          order = g;
-          within = F .within;
-          decided = ap (λ (x : List Bytes). take b x) (ap (λ (m : ℕ). drop m fs) (sym here) ∙ sym (drop-drop a at fs)) ∙ p .1;
-          ahead = F .ahead;
-        }, ap flatten (p .0) ∙ written k)
+        (sym (take-add a b (drop at fs)) ∙ both) (v ∙ sym (first-long k)) in (
+          record {
+            order = g;
+            within = F .within;
+            decided = ap (λ (x : List Bytes). take b x) (ap (λ (m : ℕ). drop m fs) (sym here) ∙ sym (drop-drop a at fs)) ∙ p .1;
+            ahead = F .ahead;
+          },
+          ap flatten (p .0) ∙ written k,
+        )
 
   -- ── the character at `at`, up to a place inside it or to its end
   module _ (at : ℕ) (k : Bool) (F : Fated l d xs fs at at k) (more : at < length d) where
@@ -310,12 +312,14 @@ module _ (l d : Bytes) (xs : List Coloured) (fs : List Bytes) where
           (sym (ap length gone-two) ∙ ap length (append-nil (gone c)) ∙ length-gone c some) in
           let y = begins-with fs (stars c ∷ replicate m []) (replicate rest [] ++ R) at (to - at) (q ∙ append-assoc (stars c ∷ replicate m []) (replicate rest []) R)
           (omega (arith, length-replicate {A = Bytes} m [], h)) in
-          let i : at + (to - at) ≡ to = omega (arith, h) in
-          (record {
-            order = g;
-            within = char-inside d at more;
-            decided =
-                ap (λ (j : ℕ). take rest (drop j fs)) (sym i) ∙ ap (take rest) (y .1) ∙ ap (λ (j : ℕ). take j (replicate rest [] ++ R)) (sym (length-replicate {A = Bytes} rest []))
-                ∙ take-append-seam (replicate rest []) R;
-            ahead = x .1;
-          }, ap flatten (y .0) ∙ rw (flatten-none m) (append-nil (stars c)))
+          let i : at + (to - at) ≡ to = omega (arith, h) in (
+            record {
+              order = g;
+              within = char-inside d at more;
+              decided =
+                  ap (λ (j : ℕ). take rest (drop j fs)) (sym i) ∙ ap (take rest) (y .1) ∙ ap (λ (j : ℕ). take j (replicate rest [] ++ R)) (sym (length-replicate {A = Bytes} rest []))
+                  ∙ take-append-seam (replicate rest []) R;
+              ahead = x .1;
+            },
+            ap flatten (y .0) ∙ rw (flatten-none m) (append-nil (stars c)),
+          )

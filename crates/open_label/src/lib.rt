@@ -151,8 +151,7 @@ pub fn any_under(
 }
 
 // The entry numbers and text bytes of an entry that the floor is left, added.
-fn counted(n: Kept, e: Entry, o: Open, behind: Open) -> Kept
-{
+fn counted(n: Kept, e: Entry, o: Open, behind: Open) -> Kept {
     let found = n.found | (behind.since != 0);
     if drops(e, o) {
         return Kept {
@@ -169,8 +168,7 @@ fn counted(n: Kept, e: Entry, o: Open, behind: Open) -> Kept
 }
 
 // Whether an entry is a pop that finds no label open.
-fn unopened(e: Entry, o: Open) -> bool
-{
+fn unopened(e: Entry, o: Open) -> bool {
     if e.kind != 1 {
         return false;
     }
@@ -184,10 +182,7 @@ pub fn scan(content: &[u8], entries: &[u32], text: &[u8], label: &[u8]) -> Scann
     ensures { λ r. ⌜ scanFault r ≡ refuseIf (not (balanced (recording (now (content .entry)) (now (entries .entry)) (now (text .entry))))) 35 ⌝ }
     ensures { λ r. ⌜ ScanTold (now (label .entry)) (recording (now (content .entry)) (now (entries .entry)) (now (text .entry))) r ⌝ }
 {
-    let mut o = Open {
-        depth: 0,
-        since: 0,
-    };
+    let mut o = Open { depth: 0, since: 0 };
     let mut n = Kept {
         found: false,
         entries: 0,

@@ -29,6 +29,24 @@ use writer::put_bytes;
 use writer::put_entry;
 use writer::put_recording;
 use writer::settle;
+ghost use mathlib.Core.Path.{_≡_};
+ghost use mathlib.Core.Bool.{true, false};
+ghost use mathlib.Core.List.{[], _∷_};
+ghost use Prim.Native.Nat.{_+_, _≤_, _<_};
+ghost use lib.ListN.{length, drop};
+ghost use Rattle.buffer.specs.Place.{overAt};
+ghost use Rattle.chars.specs.Leads.{leadTable};
+ghost use Rattle.recording.specs.Recording.{recording, items, dataOf, textOf};
+ghost use Rattle.recording.specs.Refusals.{badShape, firstOf, recordingFault, dataLimit, textLimit};
+ghost use Rattle.recording.specs.Outcome.{Promised, roomIn};
+ghost use Rattle.writer.specs.Write.{out, add, blank, Fits, Sound, left, itemAt};
+ghost use Rattle.writer.specs.Sizes.{sizesFault, roomOf, settledFault};
+ghost use Rattle.recorder.specs.Recorder.{lentOf};
+ghost use Rattle.view.specs.View.{floorItems, viewFault, officeOutcome, floorOutcome};
+ghost use Rattle.char_runs.specs.Runs.{Passes};
+ghost use Rattle.open_label.specs.Open.{ScanTold};
+ghost use Rattle.readers.specs.Walk.{copiedTo, runBytes, RunOf, nextPlace, Arrived, Standing, Passed, shown, EntriesPut, EntriesFit, EntriesWritten, firstWalk};
+ghost use Rattle.readers.specs.Admit.{admittedFault, AdmittedTold, leftIn};
 
 // A place in the content with how far the buffers are written, and what is open there.
 pub struct Walk {
@@ -58,6 +76,7 @@ pub enum Admitted {
 
 // The smaller of two numbers.
 fn smaller(a: usize, b: usize) -> usize
+    ensures { λ r. ⌜ (r ≤ a) × (r ≤ b) × (((n : ℕ) → n < a → n < b → n < r)) ⌝ }
 {
     if a < b {
         return a;
@@ -67,6 +86,7 @@ fn smaller(a: usize, b: usize) -> usize
 
 // A run that is copied, up to a place at which a character ends.
 fn copied_to(to: usize) -> Run
+    ensures { λ r. ⌜ r ≡ copiedTo to ⌝ }
 {
     Run {
         to: to,
@@ -86,6 +106,10 @@ fn divided_run(
     w: Walk,
     end: usize,
 ) -> Run
+    requires { ⌜ (now t ≡ leadTable) × Standing (now content) (now entries) (now text) w ⌝ }
+    requires { ⌜ (w .c .at < end) × (end ≤ length (now content)) × (end ≤ nextPlace (now entries) (w .c)) × Passes (now content) (w .c .at) end ⌝ }
+    ensures { λ r. ⌜ RunOf (now (label .entry)) (now (content .entry)) (left (now (content .entry)) (now (entries .entry)) (now (text .entry)) (w .c)) (w .o)
+        (w .c .at) (w .c .at) true end r ⌝ }
 {
     let c = w.c;
     let o = w.o;
@@ -117,6 +141,10 @@ fn fresh_run(
     w: Walk,
     end: usize,
 ) -> Run
+    requires { ⌜ (now t ≡ leadTable) × Standing (now content) (now entries) (now text) w ⌝ }
+    requires { ⌜ (w .c .at < end) × (end ≤ length (now content)) × (end ≤ nextPlace (now entries) (w .c)) ⌝ }
+    ensures { λ r. ⌜ RunOf (now (label .entry)) (now (content .entry)) (left (now (content .entry)) (now (entries .entry)) (now (text .entry)) (w .c)) (w .o)
+        (w .c .at) (w .c .at) true end r ⌝ }
 {
     let at = w.c.at;
     if w.o.since == 0 {
@@ -151,6 +179,10 @@ fn next_run(
     w: Walk,
     last: Run,
 ) -> Run
+    requires { ⌜ (now t ≡ leadTable) × Standing (now content) (now entries) (now text) w ⌝ }
+    requires { ⌜ (w .c .at < length (now content)) × (last .until ≤ length (now content)) ⌝ }
+    ensures { λ r. ⌜ RunOf (now (label .entry)) (now (content .entry)) (left (now (content .entry)) (now (entries .entry)) (now (text .entry)) (w .c)) (w .o)
+        (w .c .at) (last .until) (last .copy) (length (now (content .entry))) r × (r .to ≤ nextPlace (now (entries .entry)) (w .c)) ⌝ }
 {
     let end = smaller(place_at(entries, w.c.k), content.len());
     if w.c.at < last.until {
@@ -166,6 +198,9 @@ fn next_run(
 
 // Writes a run at the data's end, and passes its bytes.
 fn put_run(bytes: &mut [u8], content: &[u8], run: Run, c: Cursor) -> Cursor
+    requires { ⌜ (c .at ≤ run .to) × (run .to ≤ length (now content)) × (c .d + length (runBytes (now content) (c .at) run) ≤ length (now bytes)) ⌝ }
+    ensures { λ r. ⌜ (r .at ≡ run .to) × (r .k ≡ c .k) × (r .d ≡ c .d + length (runBytes (now (content .entry)) (c .at) run)) × (r .e ≡ c .e) × (r .t ≡ c .t) ⌝ }
+    ensures { λ r. ⌜ now (bytes .exit) ≡ overAt (c .d) (runBytes (now (content .entry)) (c .at) run) (now (bytes .entry)) ⌝ }
 {
     if run.copy {
         let r = put_bytes(bytes, content, c.at, run.to, c);
@@ -187,8 +222,10 @@ fn put_run(bytes: &mut [u8], content: &[u8], run: Run, c: Cursor) -> Cursor
     }
 }
 
-// How many bytes a run writes from `at` on.
-fn run_len(run: Run, at: usize) -> usize
+// How many bytes a run of the content writes from `at` on.
+fn run_len(content: &[u8], run: Run, at: usize) -> usize
+    requires { ⌜ (at ≤ run .to) × (run .to ≤ length (now content)) ⌝ }
+    ensures { λ r. ⌜ r ≡ length (runBytes (now (content .entry)) at run) ⌝ }
 {
     if run.copy {
         return run.to - at;
@@ -196,10 +233,22 @@ fn run_len(run: Run, at: usize) -> usize
     run.stars
 }
 
-// Writes an entry, unless it is a raw sequence under the label, and passes it.
-fn put_shown(numbers: &mut [u32], texts: &mut [u8], text: &[u8], e: Entry, o: Open, c: Cursor) -> Cursor
+// Writes an entry, unless it goes, and passes it.
+fn put_unless(
+    goes: bool,
+    numbers: &mut [u32],
+    texts: &mut [u8],
+    text: &[u8],
+    e: Entry,
+    c: Cursor,
+) -> Cursor
+    requires { ⌜ (badShape (e .kind) (e .start) (e .len) ≡ false) × (e .start + e .len ≤ length (now text)) × (e .position ≡ c .at) ⌝ }
+    requires { ⌜ (c .d ≤ dataLimit) × (c .k + 4 ≤ 18446744073709551615) ⌝ }
+    requires { ⌜ goes ≡ false → (c .e + 4 ≤ length (now numbers)) × (c .t + e .len ≤ length (now texts)) × (c .t ≤ textLimit) ⌝ }
+    ensures { λ r. ⌜ (r .at ≡ c .at) × (r .k ≡ c .k + 4) × EntriesPut (shown goes (itemAt (now (text .entry)) e))
+        (now (numbers .entry)) (now (texts .entry)) c (now (numbers .exit)) (now (texts .exit)) r ⌝ }
 {
-    if drops(e, o) {
+    if goes {
         return Cursor {
             at: c.at,
             k: c.k + 4,
@@ -215,20 +264,25 @@ fn put_shown(numbers: &mut [u32], texts: &mut [u8], text: &[u8], e: Entry, o: Op
 fn put_entries(
     numbers: &mut [u32],
     texts: &mut [u8],
-    bytes: &[u8],
     content: &[u8],
     entries: &[u32],
     text: &[u8],
     label: &[u8],
     from: Walk,
 ) -> Walk
+    requires { ⌜ Arrived (now content) (now entries) (now text) from ⌝ }
+    requires { ⌜ EntriesFit (now label) (now content) (now entries) (now text) from (now numbers) (now texts) ⌝ }
+    ensures { λ r. ⌜ Passed (now (label .entry)) (now (content .entry)) (now (entries .entry)) (now (text .entry)) from r ⌝ }
+    ensures { λ r. ⌜ EntriesWritten (now (label .entry)) (now (content .entry)) (now (entries .entry)) (now (text .entry)) from
+        (now (numbers .entry)) (now (texts .entry)) r (now (numbers .exit)) (now (texts .exit)) ⌝ }
 {
     let mut c = from.c;
     let mut o = from.o;
     let mut p = place_at(entries, c.k);
     while p <= c.at {
         let e = entry_at(entries, c.k);
-        c = put_shown(numbers, texts, text, e, o, c);
+        let goes = drops(e, o);
+        c = put_unless(goes, numbers, texts, text, e, c);
         o = opened(text, label, e, o);
         p = place_at(entries, c.k);
     }
@@ -237,6 +291,8 @@ fn put_entries(
 
 // Passes the entries at the place of the walk.
 fn pass_entries(content: &[u8], entries: &[u32], text: &[u8], label: &[u8], from: Walk) -> Walk
+    requires { ⌜ Arrived (now content) (now entries) (now text) from ⌝ }
+    ensures { λ r. ⌜ Passed (now (label .entry)) (now (content .entry)) (now (entries .entry)) (now (text .entry)) from r ⌝ }
 {
     let mut c = from.c;
     let mut o = from.o;
@@ -258,6 +314,7 @@ fn pass_entries(content: &[u8], entries: &[u32], text: &[u8], label: &[u8], from
 
 // The walk at the content's first place, with nothing written.
 fn first_walk() -> Walk
+    ensures { λ r. ⌜ r ≡ firstWalk ⌝ }
 {
     Walk {
         c: Cursor {
@@ -267,22 +324,21 @@ fn first_walk() -> Walk
             e: 0,
             t: 0,
         },
-        o: Open {
-            depth: 0,
-            since: 0,
-        },
+        o: Open { depth: 0, since: 0 },
     }
 }
 
 // How many data bytes the floor is left.
 fn floor_len(t: &[u16; 256], content: &[u8], entries: &[u32], text: &[u8], label: &[u8]) -> usize
+    requires { ⌜ (now t ≡ leadTable) × Sound (now content) (now entries) (now text) ⌝ }
+    ensures { λ r. ⌜ r ≡ length (dataOf (floorItems (now (label .entry)) (recording (now (content .entry)) (now (entries .entry)) (now (text .entry))))) ⌝ }
 {
     let mut size = 0;
     let mut run = copied_to(0);
     let mut w = pass_entries(content, entries, text, label, first_walk());
     while w.c.at < content.len() {
         run = next_run(t, content, entries, text, label, w, run);
-        size += run_len(run, w.c.at);
+        size += run_len(content, run, w.c.at);
         let o = w.o;
         let c = Cursor {
             at: run.to,
@@ -307,14 +363,27 @@ fn put_floor(
     numbers: &mut [u32],
     texts: &mut [u8],
 ) -> Cursor
+    requires { ⌜ (now t ≡ leadTable) × Sound (now content) (now entries) (now text) ⌝ }
+    requires { ⌜ Fits (floorItems (now label) (recording (now content) (now entries) (now text))) (blank (now bytes) (now numbers) (now texts)) ⌝ }
+    ensures { λ r. ⌜ out (now (bytes .exit)) (now (numbers .exit)) (now (texts .exit)) r
+        ≡ add (floorItems (now (label .entry)) (recording (now (content .entry)) (now (entries .entry)) (now (text .entry))))
+        (blank (now (bytes .entry)) (now (numbers .entry)) (now (texts .entry))) ⌝ }
 {
     let mut run = copied_to(0);
-    let mut w = put_entries(numbers, texts, bytes, content, entries, text, label, first_walk());
+    let mut w = put_entries(numbers, texts, content, entries, text, label, first_walk());
     while w.c.at < content.len() {
         run = next_run(t, content, entries, text, label, w, run);
         let o = w.o;
         let c = put_run(bytes, content, run, w.c);
-        w = put_entries(numbers, texts, bytes, content, entries, text, label, Walk { c: c, o: o });
+        w = put_entries(
+            numbers,
+            texts,
+            content,
+            entries,
+            text,
+            label,
+            Walk { c: c, o: o },
+        );
     }
     w.c
 }
@@ -331,8 +400,20 @@ fn settle_floor(
     numbers: usize,
     texts: usize,
 ) -> Settled
+    requires { ⌜ (now t ≡ leadTable) × Sound (now content) (now entries) (now text) ⌝ }
+    ensures { λ r. ⌜ settledFault r ≡ sizesFault (length (dataOf (floorItems (now (label .entry)) (recording (now (content .entry)) (now (entries .entry)) (now (text .entry))))))
+        (floor .entries) (floor .text) 0 (roomOf bytes numbers texts 0) ⌝ }
 {
-    let verdict = settle(content.len(), floor.entries, floor.text, 0, bytes, numbers, texts, 0);
+    let verdict = settle(
+        content.len(),
+        floor.entries,
+        floor.text,
+        0,
+        bytes,
+        numbers,
+        texts,
+        0,
+    );
     match verdict {
         Settled::Room => {
             return Settled::Room;
@@ -345,6 +426,8 @@ fn settle_floor(
 
 // Refusals 1 to 6 of the recording, then 34 and 35.
 fn admit(content: &[u8], entries: &[u32], text: &[u8], label: &[u8]) -> Admitted
+    ensures { λ r. ⌜ admittedFault r ≡ firstOf (recordingFault (recording (now (content .entry)) (now (entries .entry)) (now (text .entry))) ∷ viewFault (now (label .entry)) (recording (now (content .entry)) (now (entries .entry)) (now (text .entry))) ∷ []) ⌝ }
+    ensures { λ r. ⌜ AdmittedTold (now (label .entry)) (recording (now (content .entry)) (now (entries .entry)) (now (text .entry))) r ⌝ }
 {
     let checked = check(content, entries, text);
     let office = match checked {
@@ -379,6 +462,8 @@ fn put_whole(
     numbers: &mut [u32],
     texts: &mut [u8],
 ) -> Answer
+    requires { ⌜ (recordingFault (recording (now content) (now entries) (now text)) ≡ 0) × (size ≡ length (textOf (items (recording (now content) (now entries) (now text))))) ⌝ }
+    ensures { λ r. ⌜ Promised (leftIn (roomIn (lentOf (now (bytes .entry)) (now (numbers .entry)) (now (texts .entry)))) (items (recording (now (content .entry)) (now (entries .entry)) (now (text .entry))))) (lentOf (now (bytes .entry)) (now (numbers .entry)) (now (texts .entry))) (lentOf (now (bytes .exit)) (now (numbers .exit)) (now (texts .exit))) r ⌝ }
 {
     let verdict = settle(
         content.len(),
@@ -423,6 +508,9 @@ fn put_starred(
     numbers: &mut [u32],
     texts: &mut [u8],
 ) -> Answer
+    requires { ⌜ recordingFault (recording (now content) (now entries) (now text)) ≡ 0 ⌝ }
+    requires { ⌜ ScanTold (now label) (recording (now content) (now entries) (now text)) (Scanned.Fine floor) ⌝ }
+    ensures { λ r. ⌜ Promised (leftIn (roomIn (lentOf (now (bytes .entry)) (now (numbers .entry)) (now (texts .entry)))) (floorItems (now (label .entry)) (recording (now (content .entry)) (now (entries .entry)) (now (text .entry))))) (lentOf (now (bytes .entry)) (now (numbers .entry)) (now (texts .entry))) (lentOf (now (bytes .exit)) (now (numbers .exit)) (now (texts .exit))) r ⌝ }
 {
     let t = LEADS;
     let verdict = settle_floor(
@@ -461,6 +549,7 @@ pub fn write_for_office(
     numbers: &mut [u32],
     texts: &mut [u8],
 ) -> Answer
+    ensures { λ r. ⌜ Promised (officeOutcome (now (label .entry)) (roomIn (lentOf (now (bytes .entry)) (now (numbers .entry)) (now (texts .entry)))) (recording (now (content .entry)) (now (entries .entry)) (now (text .entry)))) (lentOf (now (bytes .entry)) (now (numbers .entry)) (now (texts .entry))) (lentOf (now (bytes .exit)) (now (numbers .exit)) (now (texts .exit))) r ⌝ }
 {
     let admitted = admit(content, entries, text, label);
     let sizes = match admitted {
@@ -483,6 +572,7 @@ pub fn write_for_floor(
     numbers: &mut [u32],
     texts: &mut [u8],
 ) -> Answer
+    ensures { λ r. ⌜ Promised (floorOutcome (now (label .entry)) (roomIn (lentOf (now (bytes .entry)) (now (numbers .entry)) (now (texts .entry)))) (recording (now (content .entry)) (now (entries .entry)) (now (text .entry)))) (lentOf (now (bytes .entry)) (now (numbers .entry)) (now (texts .entry))) (lentOf (now (bytes .exit)) (now (numbers .exit)) (now (texts .exit))) r ⌝ }
 {
     let admitted = admit(content, entries, text, label);
     let sizes = match admitted {
