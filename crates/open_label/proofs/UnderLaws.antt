@@ -73,7 +73,7 @@ unfolding placeOf
 further m at t d [] h = cursor-end m at t d
 further m at t d (e ∷ es) h = cursor-bytes m at t d e es h
 
-valid-parts : (at d t : ℕ) (e : Entry) (es : List Entry) → Valid at d t (e ∷ es)
+pub valid-parts : (at d t : ℕ) (e : Entry) (es : List Entry) → Valid at d t (e ∷ es)
     → (at ≤ e .position) × (badShape (e .kind) (e .start) (e .len) ≡ false) × (e .start + e .len ≤ t) × Valid (e .position) d t es
 unfolding Valid
 valid-parts at d t e es v = v
