@@ -1,6 +1,6 @@
 -- Whether a reader's label is open, told by two numbers in place of the stack of open labels; and what one reading of the entries finds.
-use Prim.Native.Nat.{ℕ, suc, _*_, _≤_}
-use mathlib.Core.Bool.{Bool, true, cond, not}
+use Prim.Native.Nat.{ℕ, suc, _+_, _*_}
+use mathlib.Core.Bool.{Bool, true, cond}
 use mathlib.Core.Path.{_≡_}
 use mathlib.Core.List.{List, [], _∷_, _++_}
 use lib.Dec.{eqb}
@@ -46,6 +46,13 @@ Drops e o r = (l t : Bytes) (s : List Bytes) (is : List Item) → Tells l o s
 -- whether one of the next n data bytes of the items is under l, where o tells what is open before them
 unfoldable pub Under : Bytes → Open → ℕ → List Item → Bool → Type 0
 Under l o n is r = (s : List Bytes) → Tells l o s → r ≡ anyUnder l (take n (colouredFrom s is))
+
+-- r is n with the entry e counted, unless it is dropped for the floor
+pub record Counted (e : Entry) (o : Open) (n r : Kept) : Type 0 where
+  pub gone : Bool
+  pub drops : Drops e o gone
+  pub entries : r .entries ≡ n .entries + cond gone 0 4
+  pub text : r .text ≡ n .text + cond gone 0 (e .len)
 
 -- ── one reading of the entries of the recording q: 35, whether the label is pushed at all, and the entry numbers and text bytes that the floor is left
 unfoldable pub scanFault : Scanned → ℕ

@@ -5,7 +5,7 @@ use recording::entry_at;
 use writer::Cursor;
 use writer::place_at;
 ghost use mathlib.Core.Path.{_≡_};
-ghost use mathlib.Core.Bool.{false, not, _&&_};
+ghost use mathlib.Core.Bool.{false, not, _&&_, _||_};
 ghost use lib.Dec.{ltb, eqb};
 ghost use Prim.Native.Nat.{_+_, _-_, _≤_, _<_};
 ghost use mathlib.Core.List.{[]};
@@ -15,7 +15,7 @@ ghost use Rattle.recording.specs.Coloured.{balanced};
 ghost use Rattle.recording.specs.Refusals.{badShape, refuseIf, textLimit, entryLimit};
 ghost use Rattle.writer.specs.Write.{Sound, Ready, left, itemAt};
 ghost use Rattle.recording.specs.Lists.{same};
-ghost use Rattle.open_label.specs.Open.{Opened, Drops, Under, scanFault, ScanTold};
+ghost use Rattle.open_label.specs.Open.{Opened, Drops, Under, Counted, scanFault, ScanTold};
 
 // How many labels are open, and since which depth the reader's label is; 0: it is not.
 pub struct Open {
@@ -151,7 +151,13 @@ pub fn any_under(
 }
 
 // The entry numbers and text bytes of an entry that the floor is left, added.
-fn counted(n: Kept, e: Entry, o: Open, behind: Open) -> Kept {
+fn counted(n: Kept, e: Entry, o: Open, behind: Open) -> Kept
+    requires { ⌜ badShape (e .kind) (e .start) (e .len) ≡ false ⌝ }
+    requires { ⌜ (n .entries < 4294967296) × (n .text < 4294967296) ⌝ }
+    ensures { λ r. ⌜ r .found ≡ (n .found || not (eqb (behind .since) 0)) ⌝ }
+    ensures { λ r. ⌜ Counted e o n r ⌝ }
+    ensures { λ r. ⌜ (r .entries ≤ n .entries + 4) × (r .text ≤ n .text + e .len) ⌝ }
+{
     let found = n.found | (behind.since != 0);
     if drops(e, o) {
         return Kept {
@@ -168,7 +174,9 @@ fn counted(n: Kept, e: Entry, o: Open, behind: Open) -> Kept {
 }
 
 // Whether an entry is a pop that finds no label open.
-fn unopened(e: Entry, o: Open) -> bool {
+fn unopened(e: Entry, o: Open) -> bool
+    ensures { λ r. ⌜ r ≡ (eqb (e .kind) 1 && eqb (o .depth) 0) ⌝ }
+{
     if e.kind != 1 {
         return false;
     }
@@ -182,14 +190,17 @@ pub fn scan(content: &[u8], entries: &[u32], text: &[u8], label: &[u8]) -> Scann
     ensures { λ r. ⌜ scanFault r ≡ refuseIf (not (balanced (recording (now (content .entry)) (now (entries .entry)) (now (text .entry))))) 35 ⌝ }
     ensures { λ r. ⌜ ScanTold (now (label .entry)) (recording (now (content .entry)) (now (entries .entry)) (now (text .entry))) r ⌝ }
 {
-    let mut o = Open { depth: 0, since: 0 };
+    let mut o = Open {
+        depth: 0,
+        since: 0,
+    };
     let mut n = Kept {
         found: false,
         entries: 0,
         text: 0,
     };
     let mut k = 0;
-    while place_at(entries, k) <= 1048576 {
+    while k + 4 <= entries.len() {
         let e = entry_at(entries, k);
         if unopened(e, o) {
             return Scanned::Unbalanced;

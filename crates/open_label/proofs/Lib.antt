@@ -1,0 +1,4 @@
+pub mod SameLaws
+pub mod OpenLaws
+pub mod UnderLaws
+pub mod ScanLaws
