@@ -1,6 +1,6 @@
 -- A run of whole characters from `at` on, one character further (`char-further`), and where it may end without a look at its characters (`seam-end`, `seam-byte`).
--- The idea: the characters passed and those to come are the characters from `at` on; a byte that does not trail ends what stands before it.
-use Prim.Native.Nat.{ℕ, _+_, _-_, _*_, _≤_, _<_}
+-- The idea: the characters passed and those to come are the characters from `at` on; no character goes on past a byte that does not trail.
+use Prim.Native.Nat.{ℕ, zero, suc, _+_, _-_, _*_, _≤_, _<_}
 use native.Mathlib.Omega.{arith}
 use mathlib.Core.Bool.{true, false, false≢true}
 use mathlib.Core.Path.{_≡_, refl, sym, ap, subst, _∙_}
@@ -13,9 +13,10 @@ use Rattle.buffer.proofs.Laws.{length-part}
 use Rattle.chars.specs.Utf8.{within, table37, rowOf, Trails, tailLen}
 use Rattle.chars.specs.Chars.{Character, charAt, charIn, chars, Seam, bytesOf, wide, widthOf}
 use Rattle.chars.proofs.CharsLaws.{bytes-chars, bytes-append, char-next, width-append}
+use Rattle.chars.proofs.FoldLaws.{plain}
 use Rattle.chars.proofs.SeamLaws.{seam-start, seam-after, NoTrail, seam-apart}
 use Rattle.recording.specs.Lists.{same}
-use Rattle.char_runs.specs.Runs.{NoNewlines, Passes, Covered}
+use Rattle.char_runs.specs.Runs.{NoNewlines, Passes, VisibleFrom, Covered}
 
 -- ── where characters end
 -- at `at` itself
@@ -94,6 +95,18 @@ plain-further s at end i width n w m t some two e f b p =
       columns = omega (arith, p .columns, f, ap widthOf (q .1), width-append done (charIn i s ∷ []));
       narrow = omega (arith, p .narrow, p .from, some, two);
     }
+
+-- a byte of visible ASCII is a character of width 1
+pub plain-visible : (s : List ℕ) (at end n : ℕ) → at + n ≤ end → end ≤ length s → VisibleFrom s at (at + n) → Plain s at end (at + n) n
+plain-visible s at end zero h l v = let z : at + 0 ≡ at = omega arith in rw z (plain-none s at end (omega (arith, h)))
+plain-visible s at end (suc n) h l v =
+    let b = v (at + n) (omega arith) (omega arith) in
+    let k = plain s (at + n) (b .0) (b .1) in
+    let so-far = plain-visible s at end n (omega (arith, h)) l (λ j q p. v j (omega (arith, q)) p) in
+    let on = plain-further s at end (at + n) n 1 1 (omega (arith, h, l)) (omega (arith, h)) (omega arith) (omega arith) (sym (k .0)) (sym (k .1)) (λ z. omega (arith, z, b .0)) so-far in
+    let i : at + suc n ≡ at + n + 1 = omega arith in
+    let w : suc n ≡ n + 1 = omega arith in
+    rw (i, w) on
 
 -- up to where the run stops, it is what is covered
 pub plain-covered : (s : List ℕ) (at end i width : ℕ) → end ≤ length s → Plain s at end i width → (i ≡ at → same (charIn at s .text) (0x0A ∷ []) ≡ false → Passes s at end)

@@ -3,7 +3,7 @@ use Prim.Native.Nat.{ℕ, _+_, _-_, _≤_, _<_}
 use mathlib.Core.Bool.{false}
 use mathlib.Core.Path.{_≡_}
 use mathlib.Core.List.{List, [], _∷_}
-use lib.ListN.{length, drop}
+use lib.ListN.{length, drop, getD}
 use Rattle.buffer.specs.Place.{part}
 use Rattle.chars.specs.Chars.{Character, chars, charIn, Seam, widthOf}
 use Rattle.recording.specs.Lists.{AllOf, same}
@@ -27,6 +27,10 @@ pub record WholeUpTo (s : List ℕ) (at end r : ℕ) : Type 0 where
   pub to : r ≤ end
   pub seam : Seam (drop at s) (r - at)
   pub none : r ≡ at → Passes s at end
+
+-- the bytes from `at` up to r are visible ASCII
+abbrev pub VisibleFrom : List ℕ → ℕ → ℕ → Type 0
+VisibleFrom s at r = (k : ℕ) → k < r → at ≤ k → (0x20 ≤ getD s k 0) × (getD s k 0 ≤ 0x7E)
 
 -- the whole characters from `at` up to r's end, none of them a 0A, and their width; there is none only if the character at `at` is a 0A or passes `end`
 pub record Covered (s : List ℕ) (at end : ℕ) (r : Stretch) : Type 0 where
