@@ -15,6 +15,8 @@ use Rattle.recording.specs.Edit.{Op, keep, skip, put, front, back, entriesOnly,
 use Rattle.recording.proofs.EditLaws.{data-front, data-back, back-add}
 use Rattle.recording.proofs.ItemsLaws.{data-items, bytes-append}
 use Rattle.view.specs.View.{hiddenFrom, hidden, stars, floorOps, dropRaws, floorItems}
+use Rattle.view.proofs.DropLaws.{drop-data}
+use Rattle.view.proofs.SizeLaws.{length-hidden}
 use Rattle.fates.specs.Fates.{singles, gone, fatesOf, fatesFrom, fates, placed, toCome}
 
 -- ── bytes that stay
@@ -133,13 +135,6 @@ edit-placed (true ∷ hs) (c ∷ cs) is q v e =
 edit-placed (false ∷ hs) (c ∷ cs) is q v e =
     keeps (fatesOf hs cs) (floorOps hs cs) c cs is (omega (arith, ap length (v .0 .text))) e
     (edit-placed hs cs (back (length (c .text)) is) (omega (arith, q)) (v .1) (data-back (length (c .text)) is ∙ ap (drop (length (c .text))) e ∙ drop-append-seam (c .text) (bytesOf cs)))
-
-length-hidden : (l : Bytes) (cs : List Character) (xs : List Coloured) → length (hiddenFrom l cs xs) ≡ length cs
-length-hidden l [] xs = refl
-length-hidden l (c ∷ cs) xs = ap suc (length-hidden l cs (drop (length (c .text)) xs))
-
-drop-data : (l : Bytes) (s : List Bytes) (is : List Item) → dataOf (dropRaws l s is) ≡ dataOf is
-drop-data l s is = ?
 
 pub floor-placed : (l : Bytes) (r : Recording) → floorItems l r ≡ toCome l (fates l r) [] (items r)
 unfolding floorItems hidden fates
