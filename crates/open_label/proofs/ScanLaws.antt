@@ -235,12 +235,11 @@ module _ (l ds ns ts : List ℕ) (es : List Entry) (o : Open) (n : Kept) (k : �
 
   pub last-told : ScanTold l (recording ds ns ts) (Fine n)
   unfolding ScanTold
-  last-told =
-      (
-        sym (or-false (n .found)) ∙ ap (λ (x : List Entry). n .found || opens l (marks ts x)) (sym none) ∙ s .found ∙ sym (opens-marks l ds ns ts),
-        omega (arith, s .entries, ap (λ (x : List Entry). entryCount (dropRaws l (s .stack) (marks ts x))) none, count-marks l ds ns ts),
-        omega (arith, s .text, ap (λ (x : List Entry). length (textOf (dropRaws l (s .stack) (marks ts x)))) none, ap length (text-marks l ds ns ts)),
-      )
+  last-told = (
+    sym (or-false (n .found)) ∙ ap (λ (x : List Entry). n .found || opens l (marks ts x)) (sym none) ∙ s .found ∙ sym (opens-marks l ds ns ts),
+    omega (arith, s .entries, ap (λ (x : List Entry). entryCount (dropRaws l (s .stack) (marks ts x))) none, count-marks l ds ns ts),
+    omega (arith, s .text, ap (λ (x : List Entry). length (textOf (dropRaws l (s .stack) (marks ts x)))) none, ap length (text-marks l ds ns ts)),
+  )
 
 -- ── the answers
 module _ (ds ns ts : List ℕ) where

@@ -23,6 +23,12 @@ pub struct Open {
     pub since: usize,
 }
 
+// A place in the content with how far the buffers are written, and what is open there.
+pub struct Walk {
+    pub c: Cursor,
+    pub o: Open,
+}
+
 // What the floor is left of the entries: whether the label is pushed at all, and how many entry numbers and text bytes there are without the raw sequences under it.
 pub struct Kept {
     pub found: bool,
@@ -190,10 +196,7 @@ pub fn scan(content: &[u8], entries: &[u32], text: &[u8], label: &[u8]) -> Scann
     ensures { λ r. ⌜ scanFault r ≡ refuseIf (not (balanced (recording (now (content .entry)) (now (entries .entry)) (now (text .entry))))) 35 ⌝ }
     ensures { λ r. ⌜ ScanTold (now (label .entry)) (recording (now (content .entry)) (now (entries .entry)) (now (text .entry))) r ⌝ }
 {
-    let mut o = Open {
-        depth: 0,
-        since: 0,
-    };
+    let mut o = Open { depth: 0, since: 0 };
     let mut n = Kept {
         found: false,
         entries: 0,

@@ -1,7 +1,7 @@
 -- What the checks of a recording and a label find: refusals 1 to 6, 34 and 35, and the sizes of what each reader is left.
 use Prim.Native.Nat.{ℕ}
 use mathlib.Core.Path.{_≡_}
-use mathlib.Core.List.{[]}
+use mathlib.Core.List.{List}
 use lib.ListN.{length}
 use Rattle.recording.specs.Recording.{Bytes, Recording, items, textOf, encode, Item}
 use Rattle.recording.specs.Refusals.{numberOf}

@@ -4,14 +4,14 @@
 // Only characters under the label are read one by one: what stands outside it is copied whole, up to the character that the next entry may divide.
 // `bytes`, `numbers` and `texts` are the lent buffers; `content`, `entries` and `text` the recording that is read.
 use buffer::put_byte_times;
-use char_runs::covered;
-use char_runs::whole_end;
 use chars::LEADS;
-use chars::seen_at;
+use floor_runs::Run;
+use floor_runs::copied_to;
+use floor_runs::next_run;
 use open_label::Kept;
 use open_label::Open;
 use open_label::Scanned;
-use open_label::any_under;
+use open_label::Walk;
 use open_label::drops;
 use open_label::opened;
 use open_label::scan;
@@ -43,24 +43,11 @@ ghost use Rattle.writer.specs.Write.{out, add, blank, Fits, Sound, left, itemAt
 ghost use Rattle.writer.specs.Sizes.{sizesFault, roomOf, settledFault};
 ghost use Rattle.recorder.specs.Recorder.{lentOf};
 ghost use Rattle.view.specs.View.{floorItems, viewFault, officeOutcome, floorOutcome};
-ghost use Rattle.char_runs.specs.Runs.{Passes};
 ghost use Rattle.open_label.specs.Open.{ScanTold};
-ghost use Rattle.readers.specs.Walk.{copiedTo, runBytes, RunOf, nextPlace, Arrived, Standing, Passed, shown, EntriesPut, EntriesFit, EntriesWritten, firstWalk};
+ghost use Rattle.open_label.specs.Walk.{Arrived, firstWalk};
+ghost use Rattle.floor_runs.specs.Runs.{runBytes};
+ghost use Rattle.readers.specs.Entries.{Passed, shown, EntriesPut, EntriesFit, EntriesWritten};
 ghost use Rattle.readers.specs.Admit.{admittedFault, AdmittedTold, leftIn};
-
-// A place in the content with how far the buffers are written, and what is open there.
-pub struct Walk {
-    pub c: Cursor,
-    pub o: Open,
-}
-
-// What is written of the data up to `to`: the bytes themselves, or so many stars. The bytes behind it up to `until` belong to the same character, and go as it goes: copied, or without a trace.
-pub struct Run {
-    pub to: usize,
-    pub until: usize,
-    pub copy: bool,
-    pub stars: usize,
-}
 
 // What a recording and a label have that pass all checks: the length of the entries' texts, and what the floor is left of the entries.
 pub struct Sizes {
@@ -72,128 +59,6 @@ pub struct Sizes {
 pub enum Admitted {
     Refused(Refusal),
     Fine(Sizes),
-}
-
-// The smaller of two numbers.
-fn smaller(a: usize, b: usize) -> usize
-    ensures { λ r. ⌜ (r ≤ a) × (r ≤ b) × (((n : ℕ) → n < a → n < b → n < r)) ⌝ }
-{
-    if a < b {
-        return a;
-    }
-    b
-}
-
-// A run that is copied, up to a place at which a character ends.
-fn copied_to(to: usize) -> Run
-    ensures { λ r. ⌜ r ≡ copiedTo to ⌝ }
-{
-    Run {
-        to: to,
-        until: to,
-        copy: true,
-        stars: 0,
-    }
-}
-
-// The run up to `end` of a character that goes on past it, so that entries stand inside: one byte under the label is enough, also behind `end`.
-fn divided_run(
-    t: &[u16; 256],
-    content: &[u8],
-    entries: &[u32],
-    text: &[u8],
-    label: &[u8],
-    w: Walk,
-    end: usize,
-) -> Run
-    requires { ⌜ (now t ≡ leadTable) × Standing (now content) (now entries) (now text) w ⌝ }
-    requires { ⌜ (w .c .at < end) × (end ≤ length (now content)) × (end ≤ nextPlace (now entries) (w .c)) × Passes (now content) (w .c .at) end ⌝ }
-    ensures { λ r. ⌜ RunOf (now (label .entry)) (now (content .entry)) (left (now (content .entry)) (now (entries .entry)) (now (text .entry)) (w .c)) (w .o)
-        (w .c .at) (w .c .at) true end r ⌝ }
-{
-    let c = w.c;
-    let o = w.o;
-    let ch = seen_at(t, content, c.at);
-    let until = c.at + ch.len;
-    if any_under(content, entries, text, label, c, o, until) {
-        return Run {
-            to: end,
-            until: until,
-            copy: false,
-            stars: ch.width as usize,
-        };
-    }
-    Run {
-        to: end,
-        until: until,
-        copy: true,
-        stars: 0,
-    }
-}
-
-// The run from a place at which a character starts, up to `end`, before which no entry stands.
-fn fresh_run(
-    t: &[u16; 256],
-    content: &[u8],
-    entries: &[u32],
-    text: &[u8],
-    label: &[u8],
-    w: Walk,
-    end: usize,
-) -> Run
-    requires { ⌜ (now t ≡ leadTable) × Standing (now content) (now entries) (now text) w ⌝ }
-    requires { ⌜ (w .c .at < end) × (end ≤ length (now content)) × (end ≤ nextPlace (now entries) (w .c)) ⌝ }
-    ensures { λ r. ⌜ RunOf (now (label .entry)) (now (content .entry)) (left (now (content .entry)) (now (entries .entry)) (now (text .entry)) (w .c)) (w .o)
-        (w .c .at) (w .c .at) true end r ⌝ }
-{
-    let at = w.c.at;
-    if w.o.since == 0 {
-        let m = whole_end(t, content, at, end);
-        if at < m {
-            return copied_to(m);
-        }
-        return divided_run(t, content, entries, text, label, w, end);
-    }
-    if content[at] == 0x0A {
-        return copied_to(at + 1);
-    }
-    let s = covered(t, content, at, end);
-    if at < s.end {
-        return Run {
-            to: s.end,
-            until: s.end,
-            copy: false,
-            stars: s.width,
-        };
-    }
-    divided_run(t, content, entries, text, label, w, end)
-}
-
-// The next run, where the last one is `last`.
-fn next_run(
-    t: &[u16; 256],
-    content: &[u8],
-    entries: &[u32],
-    text: &[u8],
-    label: &[u8],
-    w: Walk,
-    last: Run,
-) -> Run
-    requires { ⌜ (now t ≡ leadTable) × Standing (now content) (now entries) (now text) w ⌝ }
-    requires { ⌜ (w .c .at < length (now content)) × (last .until ≤ length (now content)) ⌝ }
-    ensures { λ r. ⌜ RunOf (now (label .entry)) (now (content .entry)) (left (now (content .entry)) (now (entries .entry)) (now (text .entry)) (w .c)) (w .o)
-        (w .c .at) (last .until) (last .copy) (length (now (content .entry))) r × (r .to ≤ nextPlace (now (entries .entry)) (w .c)) ⌝ }
-{
-    let end = smaller(place_at(entries, w.c.k), content.len());
-    if w.c.at < last.until {
-        return Run {
-            to: smaller(end, last.until),
-            until: last.until,
-            copy: last.copy,
-            stars: 0,
-        };
-    }
-    fresh_run(t, content, entries, text, label, w, end)
 }
 
 // Writes a run at the data's end, and passes its bytes.
@@ -233,6 +98,20 @@ fn run_len(content: &[u8], run: Run, at: usize) -> usize
     run.stars
 }
 
+// The cursor behind an entry that is not written.
+fn behind_entry(c: Cursor) -> Cursor
+    requires { ⌜ c .k + 4 ≤ 18446744073709551615 ⌝ }
+    ensures { λ r. ⌜ (r .at ≡ c .at) × (r .k ≡ c .k + 4) × (r .d ≡ c .d) × (r .e ≡ c .e) × (r .t ≡ c .t) ⌝ }
+{
+    Cursor {
+        at: c.at,
+        k: c.k + 4,
+        d: c.d,
+        e: c.e,
+        t: c.t,
+    }
+}
+
 // Writes an entry, unless it goes, and passes it.
 fn put_unless(
     goes: bool,
@@ -244,18 +123,12 @@ fn put_unless(
 ) -> Cursor
     requires { ⌜ (badShape (e .kind) (e .start) (e .len) ≡ false) × (e .start + e .len ≤ length (now text)) × (e .position ≡ c .at) ⌝ }
     requires { ⌜ (c .d ≤ dataLimit) × (c .k + 4 ≤ 18446744073709551615) ⌝ }
-    requires { ⌜ goes ≡ false → (c .e + 4 ≤ length (now numbers)) × (c .t + e .len ≤ length (now texts)) × (c .t ≤ textLimit) ⌝ }
+    requires { ⌜ (goes ≡ false → (c .e + 4 ≤ length (now numbers)) × (c .t + e .len ≤ length (now texts)) × (c .t ≤ textLimit)) ⌝ }
     ensures { λ r. ⌜ (r .at ≡ c .at) × (r .k ≡ c .k + 4) × EntriesPut (shown goes (itemAt (now (text .entry)) e))
         (now (numbers .entry)) (now (texts .entry)) c (now (numbers .exit)) (now (texts .exit)) r ⌝ }
 {
     if goes {
-        return Cursor {
-            at: c.at,
-            k: c.k + 4,
-            d: c.d,
-            e: c.e,
-            t: c.t,
-        };
+        return behind_entry(c);
     }
     put_entry(numbers, texts, text, e, c)
 }
@@ -300,13 +173,7 @@ fn pass_entries(content: &[u8], entries: &[u32], text: &[u8], label: &[u8], from
     while p <= c.at {
         let e = entry_at(entries, c.k);
         o = opened(text, label, e, o);
-        c = Cursor {
-            at: c.at,
-            k: c.k + 4,
-            d: c.d,
-            e: c.e,
-            t: c.t,
-        };
+        c = behind_entry(c);
         p = place_at(entries, c.k);
     }
     Walk { c: c, o: o }

@@ -17,8 +17,8 @@ use Rattle.recording.specs.Recording.{Bytes, Recording, Item, byteItems}
 use Rattle.recording.specs.Coloured.{Coloured, colouredFrom, coloured}
 use Rattle.recording.proofs.Lists.{all-left, all-right, or-left, or-right}
 use Rattle.view.specs.View.{among, anyUnder, hides, hiddenFrom, stars}
-use Rattle.fates.specs.Fates.{singles, gone, fatesOf, fatesFrom, fates, Fated}
-use Rattle.fates.proofs.PlacedLaws.{length-singles, flatten-singles, take-singles, drop-singles, singles-append, flatten-none, length-gone}
+use Rattle.floor_runs.specs.Fates.{singles, gone, fatesOf, fatesFrom, fates, Fated}
+use Rattle.floor_runs.proofs.PlacedLaws.{length-singles, flatten-singles, take-singles, drop-singles, singles-append, flatten-none, length-gone}
 
 -- ── lists
 -- two lists in two parts each, the first parts of one length

@@ -17,7 +17,7 @@ use Rattle.recording.proofs.ItemsLaws.{data-items, bytes-append}
 use Rattle.view.specs.View.{hiddenFrom, hidden, stars, floorOps, dropRaws, floorItems}
 use Rattle.view.proofs.DropLaws.{drop-data}
 use Rattle.view.proofs.SizeLaws.{length-hidden}
-use Rattle.fates.specs.Fates.{singles, gone, fatesOf, fatesFrom, fates, placed, toCome}
+use Rattle.floor_runs.specs.Fates.{singles, gone, fatesOf, fatesFrom, fates, placed, toCome}
 
 -- ── bytes that stay
 pub length-singles : (d : Bytes) → length (singles d) ≡ length d

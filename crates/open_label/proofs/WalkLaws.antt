@@ -17,7 +17,7 @@ use Rattle.recording.proofs.SizeLaws.{front-entry, back-entry, cursor-bytes, cu
 use Rattle.writer.specs.declared.Cursor.{Cursor}
 use Rattle.writer.specs.Write.{Valid, Ready, left, placeOf, itemAt}
 use Rattle.writer.proofs.Carry.{valid-in, whole-entry, EntryItem, is-entry, left-turn, restAfter, front-stop, back-stop, valid-there, placed}
-use Rattle.readers.specs.Walk.{nextPlace}
+use Rattle.open_label.specs.Walk.{nextPlace}
 
 -- ── a run without an entry inside
 module _ (ds ns ts : List ℕ) (c c′ : Cursor) (h : c .at ≤ c′ .at) (g : c′ .at ≤ nextPlace ns c) (k : c′ .k ≡ c .k) where

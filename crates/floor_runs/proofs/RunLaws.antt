@@ -19,8 +19,8 @@ use Rattle.recording.proofs.ItemsLaws.{values-coloured, data-itemsFrom}
 use Rattle.writer.specs.declared.Cursor.{Cursor}
 use Rattle.writer.specs.Write.{left}
 use Rattle.view.specs.View.{among, anyUnder, hides, stars}
-use Rattle.fates.specs.Fates.{Fated}
-use Rattle.fates.proofs.FateLaws.{same-labels, none-under, IsUnder, all-under, fated-at, kept-run, starred-run, inside-run, kept-char, gone-char}
+use Rattle.floor_runs.specs.Fates.{fatesFrom, Fated}
+use Rattle.floor_runs.proofs.FateLaws.{same-labels, none-under, IsUnder, all-under, fated-at, kept-run, starred-run, inside-run, kept-char, gone-char}
 use Rattle.char_runs.specs.declared.Stretch.{Stretch}
 use Rattle.char_runs.specs.Runs.{Plain, Passes, WholeUpTo, Covered}
 use Rattle.char_runs.proofs.RunLaws.{newline-alone}
@@ -28,10 +28,11 @@ use Rattle.open_label.specs.declared.Open.{Open}
 use Rattle.open_label.specs.Open.{Tells, Under}
 use Rattle.open_label.proofs.OpenLaws.{told-open}
 use Rattle.open_label.proofs.SameLaws.{same-lengths}
-use Rattle.readers.specs.declared.Run.{Run}
-use Rattle.readers.specs.declared.Walk.{Walk}
-use Rattle.readers.specs.Walk.{copiedTo, runBytes, RunOf, nextPlace, Standing}
-use Rattle.readers.proofs.WalkLaws.{left-run}
+use Rattle.floor_runs.specs.declared.Run.{Run}
+use Rattle.open_label.specs.declared.Walk.{Walk}
+use Rattle.open_label.specs.Walk.{nextPlace}
+use Rattle.floor_runs.specs.Runs.{copiedTo, runBytes, RunOf}
+use Rattle.open_label.proofs.WalkLaws.{left-run}
 
 length-values : (cs : List Coloured) → length (values cs) ≡ length cs
 length-values [] = refl
@@ -112,18 +113,18 @@ module _ (l ds ns ts : List ℕ) (w : Walk) (end : ℕ) (h : w .c .at < end) (e 
 
   pub starred : (r : Stretch) → (w .o .since ≡ 0 → ⊥) → Covered ds at end r → at < r .end
       → RunOf l ds is (w .o) at at true end (record { to = r .end; until = r .end; copy = false; stars = r .width })
-  starred r z V g =
+  starred r z K g =
       record {
         further = g;
-        before = V .to;
+        before = K .to;
         order = omega arith;
-        within = omega (arith, V .to, e);
+        within = omega (arith, K .to, e);
         writes = λ s xs fs T C F.
             let i : at + (r .end - at) ≡ r .end = omega (arith, g) in
-            let o = told-open l (w .o) s T ∙ rw (ne-eqb (w .o .since) 0 z) in
-            let n : r .end - at ≤ end - at = omega (arith, V .to) in
-            let q = starred-run l ds xs fs at (r .end - at) true F (omega (arith, i, V .to, e)) (V .seam) (omega (arith, n, e, long s xs C)) (covered-all s xs C (r .end - at) n o) (V .plain) in
-            (moved l ds xs fs at (r .end - at) (r .end) false i (q .0), q .1 ∙ ap (λ (m : ℕ). replicate {A = ℕ} m 0x2A) (sym (V .columns)));
+            let o : among l s ≡ true = told-open l (w .o) s T ∙ rw (ne-eqb (w .o .since) 0 z) in
+            let n : r .end - at ≤ end - at = omega (arith, K .to) in
+            let q = starred-run l ds xs fs at (r .end - at) true F (omega (arith, i, K .to, e)) (K .seam) (omega (arith, n, e, long s xs C)) (covered-all s xs C (r .end - at) n o) (K .plain) in
+            (moved l ds xs fs at (r .end - at) (r .end) false i (q .0), q .1 ∙ ap (λ (m : ℕ). replicate {A = ℕ} m 0x2A) (sym (K .columns)));
       }
 
   -- ── a character that goes on past the run
@@ -194,5 +195,5 @@ module _ (l ds : List ℕ) (is : List Item) (o : Open) (at until : ℕ) (copy : 
         within = R .within;
         writes = λ s xs fs T C F.
             let q : until ≡ at = omega (arith, u, F .order) in
-            R .writes s xs fs T C (fated-at l ds xs fs at true (omega (arith, F .order, F .within)) (ap (λ (j : ℕ). drop j fs) (sym q) ∙ F .ahead ∙ (λ i. Rattle.fates.specs.Fates.fatesFrom l (chars (drop (q i) ds)) (drop (q i) xs))));
+            R .writes s xs fs T C (fated-at l ds xs fs at true (omega (arith, F .order, F .within)) (ap (λ (j : ℕ). drop j fs) (sym q) ∙ F .ahead ∙ (λ i. fatesFrom l (chars (drop (q i) ds)) (drop (q i) xs))));
       }
