@@ -39,7 +39,7 @@ replicate-add : {A : Type 0} (m n : ℕ) (a : A) → replicate (m + n) a ≡ rep
 replicate-add zero n a = let e : zero + n ≡ n = omega arith in rw e
 replicate-add (suc m) n a = let e : suc m + n ≡ suc (m + n) = omega arith in rw e (ap (λ (r : List _). a ∷ r) (replicate-add m n a))
 
-flatten-append : (a b : List Bytes) → flatten (a ++ b) ≡ flatten a ++ flatten b
+pub flatten-append : (a b : List Bytes) → flatten (a ++ b) ≡ flatten a ++ flatten b
 unfolding flatten
 flatten-append [] b = refl
 flatten-append (x ∷ a) b = ap (λ (r : Bytes). x ++ r) (flatten-append a b) ∙ sym (append-assoc x (flatten a) (flatten b))
@@ -72,6 +72,13 @@ pub same-labels : (s : List Bytes) (p : Bytes) (is : List Item) (n : ℕ) → n 
 same-labels s p is zero h = refl
 same-labels s [] is (suc n) h = absurd (omega (arith, h))
 same-labels s (b ∷ p) is (suc n) h = ap (λ (r : List Coloured). record { val = b; labels = reverse s } ∷ r) (same-labels s p is n (omega (arith, h)))
+
+-- and of the items behind them
+pub colours-behind : (s : List Bytes) (p : Bytes) (is : List Item) (n : ℕ) → n ≡ length p → drop n (colouredFrom s (byteItems p ++ is)) ≡ colouredFrom s is
+colours-behind s [] is zero h = refl
+colours-behind s [] is (suc n) h = absurd (omega (arith, h))
+colours-behind s (b ∷ p) is zero h = absurd (omega (arith, h))
+colours-behind s (b ∷ p) is (suc n) h = colours-behind s p is n (omega (arith, h))
 
 pub none-under : (l : Bytes) (s : List Bytes) (p : Bytes) → among l s ≡ false → anyUnder l (colouredFrom s (byteItems p)) ≡ false
 none-under l s [] h = refl

@@ -10,12 +10,12 @@ use lib.Seq.{take-append-seam, drop-append-seam, length-take-le}
 use Rattle.chars.specs.Chars.{Character, chars, bytesOf}
 use Rattle.chars.proofs.CharsLaws.{Valid, bytes-chars, valid-chars}
 use Rattle.recording.specs.Recording.{Bytes, Recording, Item, byte, push, pop, raw, byteItems, items, dataOf}
-use Rattle.recording.specs.Coloured.{Coloured, coloured}
+use Rattle.recording.specs.Coloured.{coloured, openAfter}
 use Rattle.recording.specs.Edit.{Op, keep, skip, put, front, back, entriesOnly, edit}
-use Rattle.recording.proofs.EditLaws.{data-front, data-back, back-add}
-use Rattle.recording.proofs.ItemsLaws.{data-items, bytes-append}
+use Rattle.recording.proofs.EditLaws.{data-append, data-front, data-back, front-with-back, back-add}
+use Rattle.recording.proofs.ItemsLaws.{data-bytes, data-items, bytes-append}
 use Rattle.view.specs.View.{hiddenFrom, hidden, stars, floorOps, dropRaws, floorItems}
-use Rattle.view.proofs.DropLaws.{drop-data}
+use Rattle.view.proofs.DropLaws.{drop-data, drop-append}
 use Rattle.view.proofs.SizeLaws.{length-hidden}
 use Rattle.floor_runs.specs.Fates.{singles, gone, fatesOf, fatesFrom, fates, placed, toCome}
 
@@ -160,3 +160,51 @@ drop-bytes l s (b ∷ d) is = ap (λ (r : List Item). byte b ∷ r) (drop-bytes 
 pub come-run : (l : Bytes) (fs gs : List Bytes) (s : List Bytes) (d : Bytes) (is : List Item) → length fs ≡ length d
     → toCome l (fs ++ gs) s (byteItems d ++ is) ≡ byteItems (flatten fs) ++ toCome l gs s is
 come-run l fs gs s d is e = ap (placed (fs ++ gs)) (drop-bytes l s d is) ∙ placed-bytes fs gs d (dropRaws l s is) e
+
+-- entries alone stay as they are
+placed-entries : (fs : List Bytes) (a is : List Item) → dataOf a ≡ [] → placed fs (a ++ is) ≡ a ++ placed fs is
+placed-entries fs [] is e = refl
+placed-entries fs (byte b ∷ a) is e = absurd (omega (arith, ap length e))
+placed-entries fs (push k ∷ a) is e = ap (λ (r : List Item). push k ∷ r) (placed-entries fs a is e)
+placed-entries fs (pop ∷ a) is e = ap (λ (r : List Item). pop ∷ r) (placed-entries fs a is e)
+placed-entries fs (raw t ∷ a) is e = ap (λ (r : List Item). raw t ∷ r) (placed-entries fs a is e)
+
+pub come-entries : (l : Bytes) (fs : List Bytes) (s : List Bytes) (is : List Item)
+    → toCome l fs s is ≡ dropRaws l s (front 0 is) ++ toCome l fs (openAfter s (front 0 is)) (back 0 is)
+come-entries l fs s is =
+    ap (λ (x : List Item). placed fs (dropRaws l s x)) (sym (front-with-back 0 is)) ∙ ap (placed fs) (drop-append l s (front 0 is) (back 0 is))
+    ∙ placed-entries fs (dropRaws l s (front 0 is)) (dropRaws l (openAfter s (front 0 is)) (back 0 is)) (drop-data l s (front 0 is) ∙ data-front 0 is)
+
+-- ── the data that is left
+data-placed : (fs : List Bytes) (is : List Item) → length fs ≡ length (dataOf is) → dataOf (placed fs is) ≡ flatten fs
+unfolding flatten
+data-placed [] [] e = refl
+data-placed (f ∷ fs) [] e = absurd (omega (arith, e))
+data-placed [] (byte b ∷ is) e = absurd (omega (arith, e))
+data-placed (f ∷ fs) (byte b ∷ is) e = data-append (byteItems f) (placed fs is) ∙ rw (data-bytes f, data-placed fs is (omega (arith, e)))
+data-placed [] (push k ∷ is) e = data-placed [] is e
+data-placed (f ∷ fs) (push k ∷ is) e = data-placed (f ∷ fs) is e
+data-placed [] (pop ∷ is) e = data-placed [] is e
+data-placed (f ∷ fs) (pop ∷ is) e = data-placed (f ∷ fs) is e
+data-placed [] (raw t ∷ is) e = data-placed [] is e
+data-placed (f ∷ fs) (raw t ∷ is) e = data-placed (f ∷ fs) is e
+
+length-fatesOf : (hs : List Bool) (cs : List Character) → length hs ≡ length cs → Valid cs → length (fatesOf hs cs) ≡ length (bytesOf cs)
+length-fatesOf [] [] q v = refl
+length-fatesOf [] (c ∷ cs) q v = absurd (omega (arith, q))
+length-fatesOf (h ∷ hs) [] q v = absurd (omega (arith, q))
+length-fatesOf (true ∷ hs) (c ∷ cs) q v =
+    omega (arith, length-append (gone c) (fatesOf hs cs), length-append (c .text) (bytesOf cs), length-gone c (omega (arith, ap length (v .0 .text))), length-fatesOf hs cs (omega (arith, q)) (v .1))
+length-fatesOf (false ∷ hs) (c ∷ cs) q v =
+    omega (arith, length-append (singles (c .text)) (fatesOf hs cs), length-append (c .text) (bytesOf cs), length-singles (c .text), length-fatesOf hs cs (omega (arith, q)) (v .1))
+
+-- one for each data byte
+pub length-fates : (l : Bytes) (r : Recording) → length (fates l r) ≡ length (r .dataBytes)
+unfolding fates
+length-fates l r =
+    let cs = chars (r .dataBytes) in
+    length-fatesOf (hiddenFrom l cs (coloured r)) cs (length-hidden l cs (coloured r)) (valid-chars (r .dataBytes)) ∙ ap length (bytes-chars (r .dataBytes))
+
+pub data-floor : (l : Bytes) (r : Recording) → dataOf (floorItems l r) ≡ flatten (fates l r)
+data-floor l r =
+    ap dataOf (floor-placed l r) ∙ data-placed (fates l r) (dropRaws l [] (items r)) (length-fates l r ∙ sym (ap length (drop-data l [] (items r) ∙ data-items r)))
