@@ -8,7 +8,6 @@ ghost use mathlib.Core.Path.{_≡_};
 ghost use mathlib.Core.Bool.{false, not, _&&_, _||_};
 ghost use lib.Dec.{ltb, eqb};
 ghost use Prim.Native.Nat.{_+_, _-_, _≤_, _<_};
-ghost use mathlib.Core.List.{[]};
 ghost use lib.ListN.{length, take, drop};
 ghost use Rattle.recording.specs.Recording.{recording};
 ghost use Rattle.recording.specs.Coloured.{balanced};
@@ -190,10 +189,7 @@ pub fn scan(content: &[u8], entries: &[u32], text: &[u8], label: &[u8]) -> Scann
     ensures { λ r. ⌜ scanFault r ≡ refuseIf (not (balanced (recording (now (content .entry)) (now (entries .entry)) (now (text .entry))))) 35 ⌝ }
     ensures { λ r. ⌜ ScanTold (now (label .entry)) (recording (now (content .entry)) (now (entries .entry)) (now (text .entry))) r ⌝ }
 {
-    let mut o = Open {
-        depth: 0,
-        since: 0,
-    };
+    let mut o = Open { depth: 0, since: 0 };
     let mut n = Kept {
         found: false,
         entries: 0,
