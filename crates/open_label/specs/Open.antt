@@ -54,11 +54,13 @@ pub record Counted (e : Entry) (o : Open) (n r : Kept) : Type 0 where
   pub entries : r .entries ≡ n .entries + cond gone 0 4
   pub text : r .text ≡ n .text + cond gone 0 (e .len)
 
--- ── one reading of the entries of the recording q: 35, whether the label is pushed at all, and the entry numbers and text bytes that the floor is left
+-- ── one reading of the entries
+-- its refusal, 0 if there is none
 unfoldable pub scanFault : Scanned → ℕ
 scanFault Unbalanced = 35
 scanFault (Fine k) = 0
 
+-- of the recording q: whether the label is pushed at all, and the entry numbers and text bytes that the floor is left
 unfoldable pub ScanTold : Bytes → Recording → Scanned → Type 0
 ScanTold l q Unbalanced = Unit {0}
 ScanTold l q (Fine k) =

@@ -1,5 +1,5 @@
--- `scan`: `Scanning` says that what is counted and what the entries left give is the whole; a turn counts one entry (`goes`), a pop that finds no label open ends it (`refused`), and at the end no entry
--- is left (`last-open`, `last-closed`, `last-told`).
+-- `scan`: `Scanning` says that what is counted and what the entries left give is the whole; a turn counts one entry (`goes`), a pop that finds no label open ends it (`refused`), and at the end
+-- no entry is left (`last-open`, `last-closed`, `last-told`).
 use native.Mathlib.Omega.{arith}
 use borrow.Author.Needs.{needs}
 use Prim.Native.Nat.{_+_, _-_, _≤_}
@@ -89,10 +89,12 @@ loop-less c = omega (arith, c .before .before .before .before .before .loop-test
 
 loop-again : tie.Need-loop-again Inv-loop μ-loop
 loop-again c =
+    let turn = c .before .before .before .before in
+    let l = turn .before .before in
     let o = c .before .opened .ensures in
     let n = c .counted .ensures in (
-      c .before .before .before .before .before .loop-test .taken,
-      goes _ _ _ _ _ _ _ _ _ (front (c .before .before .before .before)) (start (c .before .before .before .before .before .before) .pre .1 .1) (sym (c .before .before .before .unopened .ensures) ∙ c .before .before .if1 .left) _ (o .0) (o .1) _ (n .0) (n .1 .0) (n .1 .1),
+      turn .before .loop-test .taken,
+      goes _ _ _ _ _ _ _ _ _ (front turn) (start l .pre .1 .1) (sym (c .before .before .before .unopened .ensures) ∙ c .before .before .if1 .left) _ (o .0) (o .1) _ (n .0) (n .1 .0) (n .1 .1),
     )
 
 returns-2 : tie.Need-returns-2 Inv-loop μ-loop
