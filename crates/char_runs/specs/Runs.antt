@@ -3,17 +3,19 @@ use Prim.Native.Nat.{ℕ, _+_, _-_, _≤_, _<_}
 use mathlib.Core.Bool.{false}
 use mathlib.Core.Path.{_≡_}
 use mathlib.Core.List.{List, [], _∷_}
-use lib.ListN.{length, drop}
+use lib.ListN.{length, drop, getD}
 use Rattle.buffer.specs.Place.{part}
-use Rattle.chars.specs.Chars.{Character, chars, charIn, widthOf}
-use Rattle.chars.proofs.SeamLaws.{Seam}
-use Rattle.recording.specs.Lists.{same}
+use Rattle.chars.specs.Chars.{Character, chars, charIn, Seam, widthOf}
+use Rattle.recording.specs.Lists.{AllOf, same}
 use Rattle.char_runs.specs.declared.Stretch.{Stretch}
+
+-- a character that is no 0A
+abbrev pub Plain : Character → Type 0
+Plain c = same (c .text) (0x0A ∷ []) ≡ false
 
 -- none of the characters is a 0A
 abbrev pub NoNewlines : List Character → Type 0
-NoNewlines [] = Unit {0}
-NoNewlines (c ∷ cs) = (same (c .text) (0x0A ∷ []) ≡ false) × NoNewlines cs
+NoNewlines cs = AllOf Plain cs
 
 -- the character that starts at `at` goes on past `end`
 abbrev pub Passes : List ℕ → ℕ → ℕ → Type 0
@@ -26,6 +28,10 @@ pub record WholeUpTo (s : List ℕ) (at end r : ℕ) : Type 0 where
   pub seam : Seam (drop at s) (r - at)
   pub none : r ≡ at → Passes s at end
 
+-- the bytes from `at` up to r are visible ASCII
+abbrev pub VisibleFrom : List ℕ → ℕ → ℕ → Type 0
+VisibleFrom s at r = (k : ℕ) → k < r → at ≤ k → (0x20 ≤ getD s k 0) × (getD s k 0 ≤ 0x7E)
+
 -- the whole characters from `at` up to r's end, none of them a 0A, and their width; there is none only if the character at `at` is a 0A or passes `end`
 pub record Covered (s : List ℕ) (at end : ℕ) (r : Stretch) : Type 0 where
   pub from : at ≤ r .end
@@ -33,4 +39,4 @@ pub record Covered (s : List ℕ) (at end : ℕ) (r : Stretch) : Type 0 where
   pub seam : Seam (drop at s) (r .end - at)
   pub plain : NoNewlines (chars (part at (r .end) s))
   pub columns : r .width ≡ widthOf (chars (part at (r .end) s))
-  pub none : r .end ≡ at → (same (charIn at s .text) (0x0A ∷ []) ≡ false) → Passes s at end
+  pub none : r .end ≡ at → Plain (charIn at s) → Passes s at end

@@ -7,7 +7,7 @@ ghost use Prim.Native.Nat.{_+_, _*_, _≤_, _<_};
 ghost use lib.ListN.{length};
 ghost use Rattle.chars.specs.Leads.{leadTable};
 ghost use Rattle.chars.specs.Utf8.{within};
-ghost use Rattle.char_runs.specs.Runs.{WholeUpTo, Covered};
+ghost use Rattle.char_runs.specs.Runs.{WholeUpTo, VisibleFrom, Covered};
 
 // A stretch of characters: where it ends, and its width.
 pub struct Stretch {
@@ -48,6 +48,24 @@ pub fn whole_end(t: &[u16; 256], s: &[u8], at: usize, end: usize) -> usize
     i
 }
 
+// The place behind the visible ASCII bytes from `at` on, up to `end`. Each is a character of width 1, and two tests are enough for it; most texts have no others.
+fn visible_end(s: &[u8], at: usize, end: usize) -> usize
+    requires { ⌜ (at ≤ end) × (end ≤ length (now s)) ⌝ }
+    ensures { λ r. ⌜ (at ≤ r) × (r ≤ end) × VisibleFrom (now (s .entry)) at r ⌝ }
+{
+    let mut i = at;
+    while i < end {
+        if s[i] < 0x20 {
+            break;
+        }
+        if 0x7F <= s[i] {
+            break;
+        }
+        i += 1;
+    }
+    i
+}
+
 // The whole characters from `at` up to `end`, or up to the first 0A among them.
 pub fn covered(t: &[u16; 256], s: &[u8], at: usize, end: usize) -> Stretch
     requires { ⌜ now t ≡ leadTable ⌝ }
@@ -55,8 +73,8 @@ pub fn covered(t: &[u16; 256], s: &[u8], at: usize, end: usize) -> Stretch
     ensures { λ r. ⌜ Covered (now (s .entry)) at end r ⌝ }
     ensures { λ r. ⌜ r .width ≤ 2 * length (now (s .entry)) ⌝ }
 {
-    let mut i = at;
-    let mut width = 0;
+    let mut i = visible_end(s, at, end);
+    let mut width = i - at;
     while i < end {
         if s[i] == 0x0A {
             return Stretch {

@@ -22,6 +22,12 @@ pub struct Open {
     pub since: usize,
 }
 
+// A place in the content with how far the buffers are written, and what is open there.
+pub struct Walk {
+    pub c: Cursor,
+    pub o: Open,
+}
+
 // What the floor is left of the entries: whether the label is pushed at all, and how many entry numbers and text bytes there are without the raw sequences under it.
 pub struct Kept {
     pub found: bool,
