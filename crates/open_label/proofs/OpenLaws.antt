@@ -3,15 +3,15 @@
 -- From this what is open behind an entry (`push-told`, `pop-told`, `none-told`, `raw-told`), and what dropping raw sequences leaves of it (`kept-told`, `dropped-told`).
 use Prim.Native.Nat.{ℕ, zero, suc, _+_, _-_, _≤_}
 use native.Mathlib.Omega.{arith}
-use mathlib.Core.Bool.{Bool, true, false, cond, _||_, not, false≢true}
+use mathlib.Core.Bool.{Bool, true, false, cond, _||_, not, or-true, false≢true}
 use mathlib.Core.Path.{_≡_, refl, sym, ap, _∙_}
-use mathlib.Core.List.{List, [], _∷_, _++_, tail, reverse, reverse-cons}
+use mathlib.Core.List.{List, [], _∷_, _++_, tail}
 use lib.Dec.{eqb}
 use lib.ListN.{length}
 use borrow.Author.Tests.{eqb-true, eq-eqb, ne-eqb}
 use Rattle.recording.specs.Lists.{same}
 use Rattle.recording.specs.declared.Entry.{Entry}
-use Rattle.recording.specs.Recording.{Bytes, Item, push, pop, raw, itemOf, partOf}
+use Rattle.recording.specs.Recording.{Bytes, push, pop, raw, itemOf, partOf}
 use Rattle.recording.specs.Coloured.{openAfter}
 use Rattle.recording.specs.Refusals.{badShape}
 use Rattle.writer.specs.Write.{itemAt}
@@ -19,35 +19,8 @@ use Rattle.view.specs.View.{among, dropRaws}
 use Rattle.open_label.specs.declared.Open.{Open}
 use Rattle.open_label.specs.Open.{sincePush, sincePop, sinceOf, Tells, Opened, Drops}
 
-pub or-assoc : (a b c : Bool) → ((a || b) || c) ≡ (a || (b || c))
-or-assoc true b c = refl
-or-assoc false b c = refl
-
-pub or-false : (a : Bool) → (a || false) ≡ a
-or-false true = refl
-or-false false = refl
-
-or-true : (u : Bool) → (u || true) ≡ true
-or-true true = refl
-or-true false = refl
-
-or-comm : (a b : Bool) → (a || b) ≡ (b || a)
-or-comm true b = sym (or-true b)
-or-comm false b = sym (or-false b)
-
+-- ── the labels and the two numbers
 module _ (l : Bytes) where
-  -- ── the labels in whatever order
-  among-append : (a b : List Bytes) → among l (a ++ b) ≡ (among l a || among l b)
-  among-append [] b = refl
-  among-append (k ∷ a) b = ap (λ (t : Bool). same l k || t) (among-append a b) ∙ sym (or-assoc (same l k) (among l a) (among l b))
-
-  pub among-reverse : (s : List Bytes) → among l (reverse s) ≡ among l s
-  among-reverse [] = refl
-  among-reverse (k ∷ s) =
-      ap (among l) (reverse-cons k s) ∙ among-append (reverse s) (k ∷ [])
-      ∙ (λ i. among-reverse s i || or-false (same l k) i) ∙ or-comm (among l s) (same l k)
-
-  -- ── two numbers in place of the labels
   since-le : (s : List Bytes) → sinceOf l s ≤ length s
   since-le [] = omega arith
   since-le (k ∷ s) = go (eqb (sinceOf l s) 0) (same l k) (since-le s)
@@ -57,11 +30,12 @@ module _ (l : Bytes) where
       go true false h = omega arith
       go false u h = omega arith
 
-  pub open-since : (s : List Bytes) → among l s ≡ not (eqb (sinceOf l s) 0)
+  open-since : (s : List Bytes) → among l s ≡ not (eqb (sinceOf l s) 0)
   open-since [] = refl
   open-since (k ∷ s) = go (eqb (sinceOf l s) 0) refl (same l k) (open-since s)
     where
-      go : (t : Bool) → eqb (sinceOf l s) 0 ≡ t → (u : Bool) → among l s ≡ not (eqb (sinceOf l s) 0) → (u || among l s) ≡ not (eqb (cond t (cond u (suc (length s)) 0) (sinceOf l s)) 0)
+      go : (t : Bool) → eqb (sinceOf l s) 0 ≡ t → (u : Bool) → among l s ≡ not (eqb (sinceOf l s) 0)
+          → (u || among l s) ≡ not (eqb (cond t (cond u (suc (length s)) 0) (sinceOf l s)) 0)
       go true e true h = rw (ne-eqb (suc (length s)) 0 (λ z. omega (arith, z)))
       go true e false h = h ∙ ap not e
       go false e u h = rw (h, e) (or-true u)
@@ -75,9 +49,9 @@ module _ (l : Bytes) where
       go true e false = eqb-true (sinceOf l s) 0 e ∙ rw (ne-eqb (suc (length s)) 0 (λ z. omega (arith, z)))
       go false e u = rw (ne-eqb (suc (length s)) (sinceOf l s) (λ z. omega (arith, z, since-le s)))
 
-  -- what tells it by `since`
-  pub told-open : (o : Open) (s : List Bytes) → Tells l o s → among l s ≡ not (eqb (o .since) 0)
-  told-open o s h = open-since s ∙ ap (λ (n : ℕ). not (eqb n 0)) (sym (h .1))
+-- what tells the open labels tells whether l is open
+pub told-open : (l : Bytes) (o : Open) (s : List Bytes) → Tells l o s → among l s ≡ not (eqb (o .since) 0)
+told-open l o s h = open-since l s ∙ ap (λ (n : ℕ). not (eqb n 0)) (sym (h .1))
 
 length-tail : (s : List Bytes) → length (tail s) ≡ length s - 1
 length-tail [] = refl
@@ -100,31 +74,31 @@ pub pop-inner : (d n : ℕ) → (d ≡ n → ⊥) → n ≡ sincePop d n
 pop-inner d n h = rw (ne-eqb d n h)
 
 -- ── an entry as an item, by its kind
-pub push-item : (k : ℕ) (p : Bytes) → k ≡ 0 → itemOf k p ≡ push p
+push-item : (k : ℕ) (p : Bytes) → k ≡ 0 → itemOf k p ≡ push p
 push-item zero p h = refl
 push-item (suc k) p h = absurd (omega arith)
 
-pub pop-item : (k : ℕ) (p : Bytes) → k ≡ 1 → itemOf k p ≡ pop
+pop-item : (k : ℕ) (p : Bytes) → k ≡ 1 → itemOf k p ≡ pop
 pop-item zero p h = absurd (omega arith)
 pop-item (suc zero) p h = refl
 pop-item (suc (suc k)) p h = absurd (omega arith)
 
-pub raw-item : (k : ℕ) (p : Bytes) → (k ≡ 0 → ⊥) → (k ≡ 1 → ⊥) → itemOf k p ≡ raw p
+raw-item : (k : ℕ) (p : Bytes) → (k ≡ 0 → ⊥) → (k ≡ 1 → ⊥) → itemOf k p ≡ raw p
 raw-item zero p h g = absurd (h refl)
 raw-item (suc zero) p h g = absurd (g refl)
 raw-item (suc (suc k)) p h g = refl
 
 -- ── what is open behind an entry
-module _ (l t : Bytes) (e : Entry) (o r : Open) where
-  pub push-told : e .kind ≡ 0 → r .depth ≡ o .depth + 1 → r .since ≡ sincePush (same l (partOf t e)) (o .depth) (o .since) → Opened l (itemAt t e) o r
+module _ (l t : Bytes) (e : Entry) (o : Open) where
+  pub push-told : (r : Open) → e .kind ≡ 0 → r .depth ≡ o .depth + 1 → r .since ≡ sincePush (same l (partOf t e)) (o .depth) (o .since) → Opened l (itemAt t e) o r
   unfolding Opened itemAt
-  push-told k d q =
+  push-told r k d q =
       rw (push-item (e .kind) (partOf t e) k)
       (λ s h. (omega (arith, d, h .0), q ∙ (λ i. sincePush (same l (partOf t e)) (h .0 i) (h .1 i))))
 
-  pub pop-told : e .kind ≡ 1 → r .depth ≡ o .depth - 1 → r .since ≡ sincePop (o .depth) (o .since) → Opened l (itemAt t e) o r
+  pub pop-told : (r : Open) → e .kind ≡ 1 → r .depth ≡ o .depth - 1 → r .since ≡ sincePop (o .depth) (o .since) → Opened l (itemAt t e) o r
   unfolding Opened itemAt
-  pop-told k d q =
+  pop-told r k d q =
       rw (pop-item (e .kind) (partOf t e) k)
       (λ s h. (omega (arith, d, h .0, length-tail s), q ∙ (λ i. sincePop (h .0 i) (h .1 i)) ∙ sym (pop-since l s)))
 

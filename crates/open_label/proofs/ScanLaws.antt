@@ -2,31 +2,31 @@
 -- The idea of the loop: what is counted and what the entries left give is the whole (`Scanning`), with the labels that are open there.
 use Prim.Native.Nat.{ℕ, zero, suc, _+_, _-_, _*_, _≤_}
 use native.Mathlib.Omega.{arith}
-use mathlib.Core.Bool.{Bool, true, false, cond, not, _&&_, _||_, false≢true}
+use mathlib.Core.Bool.{Bool, true, false, cond, not, _&&_, _||_, or-false, or-self, or-assoc, false≢true}
 use mathlib.Core.Path.{_≡_, refl, sym, ap, _∙_}
-use mathlib.Core.List.{List, [], _∷_, _++_, tail}
+use mathlib.Core.List.{List, [], _∷_, _++_}
 use lib.Dec.{eqb}
-use lib.ListN.{length, take, drop, length-append, length-drop}
-use borrow.Author.Tests.{eq-eqb, eqb-true}
+use lib.ListN.{length, take, drop, length-append}
+use borrow.Author.Tests.{eqb-true}
 use Rattle.recording.specs.Lists.{same}
 use Rattle.recording.specs.declared.Entry.{Entry}
 use Rattle.recording.specs.Recording.{Bytes, recording, entriesOf, partOf, Item, byte, push, pop, raw, itemOf, itemsFrom, items, textOf}
 use Rattle.recording.specs.Coloured.{openAfter, balancedFrom, balanced}
 use Rattle.recording.specs.Edit.{entriesOnly}
 use Rattle.recording.specs.Refusals.{badShape, refuseIf}
-use Rattle.recording.proofs.Lists.{and-left, and-right, or-right}
-use Rattle.recording.proofs.EntryLaws.{entries-few}
+use Rattle.recording.proofs.Lists.{and-left, and-right}
 use Rattle.recording.proofs.SizeLaws.{IsEntry, entryCount, count-append, count-only, text-append, text-only}
 use Rattle.writer.specs.Write.{Valid, itemAt}
-use Rattle.writer.proofs.Carry.{EntryItem, is-entry, only-append, only-bytes, only-none, only-entry}
+use Rattle.writer.proofs.Carry.{EntryItem, kind-entry, is-entry, valid-parts, only-append, only-bytes, only-none, only-entry}
 use Rattle.view.specs.View.{among, dropRaws}
 use Rattle.view.specs.Theorem.{opens}
+use Rattle.view.proofs.DropLaws.{drop-entries}
+use Rattle.view.proofs.AbsentLaws.{among-tail}
 use Rattle.open_label.specs.declared.Open.{Open}
 use Rattle.open_label.specs.declared.Kept.{Kept}
 use Rattle.open_label.specs.declared.Scanned.the-variants.{Unbalanced, Fine}
 use Rattle.open_label.specs.Open.{Tells, Opened, Drops, Counted, scanFault, ScanTold}
-use Rattle.open_label.proofs.OpenLaws.{or-false, told-open}
-use Rattle.open_label.proofs.UnderLaws.{valid-parts}
+use Rattle.open_label.proofs.OpenLaws.{told-open}
 
 -- the entries as items, without data
 abbrev pub marks : Bytes → List Entry → List Item
@@ -34,11 +34,6 @@ marks t [] = []
 marks t (e ∷ es) = itemAt t e ∷ marks t es
 
 -- ── bytes do not matter
-kind-entry : (k : ℕ) (p : Bytes) → IsEntry (itemOf k p)
-kind-entry zero p = tt
-kind-entry (suc zero) p = tt
-kind-entry (suc (suc k)) p = tt
-
 only-cons : (x : Item) (is : List Item) → IsEntry x → entriesOnly (x ∷ is) ≡ x ∷ entriesOnly is
 only-cons x is h = only-append (x ∷ []) is ∙ ap (λ (r : List Item). r ++ entriesOnly is) (only-entry x h)
 
@@ -66,17 +61,6 @@ opens-only l (byte b ∷ is) = opens-only l is
 opens-only l (push k ∷ is) = ap (λ (t : Bool). same l k || t) (opens-only l is)
 opens-only l (pop ∷ is) = opens-only l is
 opens-only l (raw t ∷ is) = opens-only l is
-
-entries-raw : (t : Bool) (x : Bytes) (is : List Item) → entriesOnly (cond t [] (raw x ∷ []) ++ is) ≡ cond t [] (raw x ∷ []) ++ entriesOnly is
-entries-raw true x is = refl
-entries-raw false x is = refl
-
-drop-entries : (l : Bytes) (s : List Bytes) (is : List Item) → entriesOnly (dropRaws l s is) ≡ dropRaws l s (entriesOnly is)
-drop-entries l s [] = refl
-drop-entries l s (byte b ∷ is) = drop-entries l s is
-drop-entries l s (push k ∷ is) = ap (λ (r : List Item). push k ∷ r) (drop-entries l (k ∷ s) is)
-drop-entries l s (pop ∷ is) = ap (λ (r : List Item). pop ∷ r) (drop-entries l (tail s) is)
-drop-entries l s (raw t ∷ is) = entries-raw (among l s) t (dropRaws l s is) ∙ ap (λ (r : List Item). cond (among l s) [] (raw t ∷ []) ++ r) (drop-entries l s is)
 
 module _ (l ds ns ts : List ℕ) where
   marks-items : entriesOnly (items (recording ds ns ts)) ≡ marks ts (entriesOf ns)
@@ -117,10 +101,6 @@ unbalanced-entry k p s is h = go k s (eqb-true k 1 (and-left (eqb k 1) (eqb (len
     go (suc (suc k)) s a b = absurd (omega arith)
 
 -- ── one entry: whether the label is pushed, where `f` says that it was pushed before
-among-tail : (l : Bytes) (s : List Bytes) → among l s ≡ false → among l (tail s) ≡ false
-among-tail l [] h = h
-among-tail l (k ∷ s) h = or-right (same l k) (among l s) h
-
 opens-entry : (l : Bytes) (x : Item) (f : Bool) (s : List Bytes) (is : List Item) → IsEntry x → (f || among l s) ≡ f
     → ((f || among l (openAfter s (x ∷ []))) || opens l is) ≡ (f || opens l (x ∷ is))
 opens-entry l (byte b) f s is e h = absurd e
@@ -130,11 +110,6 @@ opens-entry l pop true s is e h = refl
 opens-entry l pop false s is e h = rw (among-tail l s h)
 opens-entry l (raw t) true s is e h = refl
 opens-entry l (raw t) false s is e h = rw h
-
-or-twice : (a b : Bool) → ((a || b) || b) ≡ (a || b)
-or-twice true b = refl
-or-twice false true = refl
-or-twice false false = refl
 
 -- ── one entry: entry numbers and text, where g says that it goes
 module _ (x : Item) (m : ℕ) (h : EntryItem x m) (is : List Item) where
@@ -210,7 +185,7 @@ module _ (l ds ts : List ℕ) (all : List Entry) (o : Open) (n : Kept) (k : ℕ)
         valid = ok .3;
         stack = st;
         told = told′;
-        seen = ap (λ (t : Bool). t || among l st) found′ ∙ or-twice (n .found) (among l st) ∙ sym found′;
+        seen = ap (λ (t : Bool). t || among l st) found′ ∙ or-assoc (n .found) (among l st) (among l st) ∙ ap (λ (t : Bool). n .found || t) (or-self (among l st)) ∙ sym found′;
         balance = balance-next h;
         found = ap (λ (t : Bool). t || opens l (marks ts es)) found′ ∙ opens-entry l x (n .found) (s .stack) (marks ts es) (is .kind) (s .seen) ∙ s .found;
         entries = omega (arith, s .entries, c .entries, ap (λ (i : List Item). 4 * entryCount i) cut, count-entry x (e .len) is left (c .gone));

@@ -2,7 +2,7 @@
 -- The idea of the loop: what answers for the bytes that are left answers for all (`Reading`), where no byte passed was under the label.
 use Prim.Native.Nat.{ℕ, zero, suc, _+_, _-_, _≤_, _<_}
 use native.Mathlib.Omega.{arith}
-use mathlib.Core.Bool.{Bool, true, false, not, _&&_, _||_}
+use mathlib.Core.Bool.{Bool, true, false, not, _&&_}
 use mathlib.Core.Path.{_≡_, refl, sym, ap, _∙_}
 use mathlib.Core.List.{List, [], _∷_, _++_}
 use lib.Dec.{eqb, ltb}
@@ -18,11 +18,12 @@ use Rattle.recording.proofs.Lists.{and-left, and-right}
 use Rattle.recording.proofs.SizeLaws.{IsEntry, cursor-bytes, cursor-end}
 use Rattle.writer.specs.declared.Cursor.{Cursor}
 use Rattle.writer.specs.Write.{Valid, left, placeOf, itemAt}
-use Rattle.writer.proofs.Carry.{whole-entry, placed, is-entry, left-turn}
+use Rattle.writer.proofs.Carry.{whole-entry, placed, valid-parts, is-entry, left-turn}
 use Rattle.view.specs.View.{among, anyUnder}
+use Rattle.view.proofs.AbsentLaws.{among-reverse}
 use Rattle.open_label.specs.declared.Open.{Open}
-use Rattle.open_label.specs.Open.{Tells, Opened, Under}
-use Rattle.open_label.proofs.OpenLaws.{among-reverse, told-open}
+use Rattle.open_label.specs.Open.{Opened, Under}
+use Rattle.open_label.proofs.OpenLaws.{told-open}
 
 -- ── bytes with no entry between them
 module _ (l : Bytes) where
@@ -72,11 +73,6 @@ further : (m at : ℕ) (t d : Bytes) (es : List Entry) → at + m ≤ placeOf es
 unfolding placeOf
 further m at t d [] h = cursor-end m at t d
 further m at t d (e ∷ es) h = cursor-bytes m at t d e es h
-
-pub valid-parts : (at d t : ℕ) (e : Entry) (es : List Entry) → Valid at d t (e ∷ es)
-    → (at ≤ e .position) × (badShape (e .kind) (e .start) (e .len) ≡ false) × (e .start + e .len ≤ t) × Valid (e .position) d t es
-unfolding Valid
-valid-parts at d t e es v = v
 
 module _ (l ds ns ts : List ℕ) (end at₀ k₀ : ℕ) (from : Open) (at k : ℕ) (o : Open) (p : ℕ) (s : Reading l ds ns ts end at₀ k₀ from at k o p) (long : end ≤ length ds) where
   -- bytes up to m places on come first, if no entry stands before that

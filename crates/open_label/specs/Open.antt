@@ -1,15 +1,15 @@
 -- Whether a reader's label is open, told by two numbers in place of the stack of open labels; and what one reading of the entries finds.
 use Prim.Native.Nat.{ℕ, suc, _+_, _*_}
-use mathlib.Core.Bool.{Bool, true, cond}
+use mathlib.Core.Bool.{Bool, cond}
 use mathlib.Core.Path.{_≡_}
 use mathlib.Core.List.{List, [], _∷_, _++_}
 use lib.Dec.{eqb}
 use lib.ListN.{length, take}
+use Rattle.recording.specs.Lists.{same}
 use Rattle.recording.specs.declared.Entry.{Entry}
 use Rattle.recording.specs.Recording.{Bytes, Recording, Item, items, textOf}
-use Rattle.recording.specs.Coloured.{colouredFrom, balanced, openAfter}
+use Rattle.recording.specs.Coloured.{colouredFrom, openAfter}
 use Rattle.recording.proofs.SizeLaws.{entryCount}
-use Rattle.recording.specs.Lists.{same}
 use Rattle.writer.specs.Write.{itemAt}
 use Rattle.view.specs.View.{anyUnder, dropRaws}
 use Rattle.view.specs.Theorem.{opens}
@@ -18,7 +18,7 @@ use Rattle.open_label.specs.declared.Kept.{Kept}
 use Rattle.open_label.specs.declared.Scanned.{Scanned}
 use Rattle.open_label.specs.declared.Scanned.the-variants.{Unbalanced, Fine}
 
--- the depth that the outermost push of the label l made, 0 if it is not open, after a push (is it this label's?) and after a pop
+-- the depth that the outermost push of the label made, 0 if it is not open: after a push (is it this label's?) and after a pop, from the depth and this before
 abbrev pub sincePush : Bool → ℕ → ℕ → ℕ
 sincePush is depth since = cond (eqb since 0) (cond is (suc depth) 0) since
 
@@ -54,11 +54,13 @@ pub record Counted (e : Entry) (o : Open) (n r : Kept) : Type 0 where
   pub entries : r .entries ≡ n .entries + cond gone 0 4
   pub text : r .text ≡ n .text + cond gone 0 (e .len)
 
--- ── one reading of the entries of the recording q: 35, whether the label is pushed at all, and the entry numbers and text bytes that the floor is left
+-- ── one reading of the entries
+-- its refusal, 0 if there is none
 unfoldable pub scanFault : Scanned → ℕ
 scanFault Unbalanced = 35
 scanFault (Fine k) = 0
 
+-- of the recording q: whether the label is pushed at all, and the entry numbers and text bytes that the floor is left
 unfoldable pub ScanTold : Bytes → Recording → Scanned → Type 0
 ScanTold l q Unbalanced = Unit {0}
 ScanTold l q (Fine k) =

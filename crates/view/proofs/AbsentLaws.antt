@@ -1,7 +1,7 @@
 -- Where no push has the label, the floor reads what the office reads, entry for entry (`absent-label`). The idea: no byte is under it, so every character stays, and no raw sequence is dropped.
 use Prim.Native.Nat.{ℕ, zero, suc}
-use mathlib.Core.Bool.{Bool, false, _||_}
-use mathlib.Core.Path.{_≡_, refl, ap}
+use mathlib.Core.Bool.{Bool, false, _||_, or-false, or-assoc, or-comm}
+use mathlib.Core.Path.{_≡_, refl, sym, ap, _∙_}
 use mathlib.Core.List.{List, [], _∷_, _++_, tail, reverse, reverse-cons}
 use lib.ListN.{length, take, drop}
 use Rattle.chars.specs.Chars.{Character, chars}
@@ -19,17 +19,16 @@ neither a b h g = rw (h, g)
 
 module _ (l : Bytes) where
   -- ── the labels of a byte are those that are open
-  among-append : (a b : List Bytes) → among l a ≡ false → among l b ≡ false → among l (a ++ b) ≡ false
-  among-append [] b h g = g
-  among-append (k ∷ a) b h g = neither (same l k) (among l (a ++ b)) (or-left (same l k) (among l a) h) (among-append a b (or-right (same l k) (among l a) h) g)
+  among-append : (a b : List Bytes) → among l (a ++ b) ≡ (among l a || among l b)
+  among-append [] b = refl
+  among-append (k ∷ a) b = rw (among-append a b) (sym (or-assoc (same l k) (among l a) (among l b)))
 
-  among-reverse : (s : List Bytes) → among l s ≡ false → among l (reverse s) ≡ false
-  among-reverse [] h = refl
-  among-reverse (k ∷ s) h =
-      rw (reverse-cons k s)
-      (among-append (reverse s) (k ∷ []) (among-reverse s (or-right (same l k) (among l s) h)) (neither (same l k) false (or-left (same l k) (among l s) h) refl))
+  pub among-reverse : (s : List Bytes) → among l (reverse s) ≡ among l s
+  among-reverse [] = refl
+  among-reverse (k ∷ s) =
+      rw (reverse-cons k s, among-append (reverse s) (k ∷ []), among-reverse s, or-false (same l k)) (or-comm (among l s) (same l k))
 
-  among-tail : (s : List Bytes) → among l s ≡ false → among l (tail s) ≡ false
+  pub among-tail : (s : List Bytes) → among l s ≡ false → among l (tail s) ≡ false
   among-tail [] h = refl
   among-tail (k ∷ s) h = or-right (same l k) (among l s) h
 
@@ -40,7 +39,7 @@ module _ (l : Bytes) where
   -- ── no byte is under it, no raw sequence goes
   none-under : (s : List Bytes) (is : List Item) → among l s ≡ false → opens l is ≡ false → anyUnder l (colouredFrom s is) ≡ false
   none-under s [] h g = refl
-  none-under s (byte b ∷ is) h g = neither (among l (reverse s)) (anyUnder l (colouredFrom s is)) (among-reverse s h) (none-under s is h g)
+  none-under s (byte b ∷ is) h g = neither (among l (reverse s)) (anyUnder l (colouredFrom s is)) (among-reverse s ∙ h) (none-under s is h g)
   none-under s (push k ∷ is) h g = none-under (k ∷ s) is (among-push k s is h g) (or-right (same l k) (opens l is) g)
   none-under s (pop ∷ is) h g = none-under (tail s) is (among-tail s h) g
   none-under s (raw t ∷ is) h g = none-under s is h g

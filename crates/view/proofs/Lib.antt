@@ -7,7 +7,6 @@ pub mod NewlineLaws
 pub mod OutcomeLaws
 pub mod ReflLaws
 pub mod Twins
-pub mod OpenLaws
 pub mod PassLaws
 pub mod AbsentLaws
 pub mod Shown

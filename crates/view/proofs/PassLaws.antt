@@ -1,6 +1,6 @@
 -- For the code, one pass over the characters: what is still to be written at a character's place (`rest`), and one turn of the loop (`pass-kept`, `pass-replaced`). `s` has the labels open there, `is`
 -- the items left (`writer`'s `left`). A turn writes what `keep`, or `keep` to the place, stars and `skip`, would write, without the raw sequences under the label. A proof of the loop carries s as a
--- field of its invariant, and two numbers of it in the code (`OpenLaws`).
+-- field of its invariant, and two numbers of it in the code (crate `open_label`).
 use Prim.Native.Nat.{ℕ}
 use native.Mathlib.Nat.{zero-add}
 use mathlib.Core.Bool.{Bool, true, false}

@@ -10,6 +10,7 @@ use Rattle.chars.specs.Chars.{Character, bytesOf, widthOf}
 use Rattle.chars.specs.Cut.{keptWithin, leadingZeroWidth}
 use Rattle.recording.specs.Lists.{AllOf}
 use Rattle.recording.specs.Recording.{Bytes, Recording}
+use Rattle.recording.specs.Outcome.{Room}
 use Rattle.layout.specs.Wrap.{ByteWord, Word, splitLines, byteWords, splitWordsAtWidth, firstFit, Line, lineBytes}
 use Rattle.layout.specs.Layout.{Job, withSecond, alone, writeWrapped, writeReplaced, writeTabsExpanded, Call}
 use Rattle.layout.specs.Layout.{writeTruncatedStart, writeTruncatedEnd, writePaddedStart, writePaddedEnd, writePaddedCentered, writeIndented, writeUnindented}
@@ -149,6 +150,11 @@ module _ (t u : List Range) where
   pub layout : (c : Call) (r : Recording) → AllOf Alike (lentTo (c .job) r) → By.outcome (charsBy t) c r ≡ By.outcome (charsBy u) c r
   unfolding By.outcome By.resultOf
   layout c r h = rw (same-items (c .job) r h, same-list (c .job) r h, same-number (c .job) r h)
+
+  -- ── the floor's reading
+  pub floor : (l : Bytes) (o : Room) (r : Recording) → Alike (r .dataBytes) → By.floorOutcome (charsBy t) l o r ≡ By.floorOutcome (charsBy u) l o r
+  unfolding By.floorOutcome By.floorItems By.hidden
+  floor l o r h = rw (reads (r .dataBytes) h)
 
   -- ── `wrap_bytes`
   pub wrap-bytes : (w : ℕ) (b : Bool) (d : Bytes) (room : ℕ) → Alike d → By.wrapBytesOutcome (charsBy t) w b d room ≡ By.wrapBytesOutcome (charsBy u) w b d room

@@ -8,9 +8,11 @@ use lib.ListN.{length}
 use Rattle.chars.specs.Chars.{chars, textWidth}
 use Rattle.chars.specs.Cut.{truncateEndPos, truncateEndWidth, truncateStartPos, truncateStartWidth, zeroWidthLen}
 use Rattle.recording.specs.Recording.{Bytes, Recording}
+use Rattle.recording.specs.Outcome.{Room}
 use Rattle.layout.specs.Wrap.{ByteWord, splitLines, byteWords, wordsOf, Line, lineNumbers, wrappedLine, linesFrom, wrapLines}
 use Rattle.layout.specs.Layout.{trimmedStartPos, fillCount, Job, withSecond, alone, writeWrapped, writeReplaced, writeTabsExpanded, resultItems, linesLeft, number, resultOf, Call, outcome}
 use Rattle.layout.specs.Layout.{writeTruncatedStart, writeTruncatedEnd, writePaddedStart, writePaddedEnd, writePaddedCentered, writeIndented, writeUnindented}
+use Rattle.view.specs.View.{hidden, floorItems, floorOutcome}
 use Rattle.wrap_lines.specs.WrapBytes.{wrapBytesOutcome}
 use Rattle.elide.specs.Elide.{trimmed, elideEnd, elideStart, elideEndOutcome, elideStartOutcome}
 use Rattle.sheet.specs.Sheet.{SheetLine, sheetLines}
@@ -101,6 +103,11 @@ same-number (alone (writeTabsExpanded s)) r = refl
 pub layout : (c : Call) (r : Recording) → outcome c r ≡ By.outcome chars c r
 unfolding outcome By.outcome resultOf By.resultOf
 layout c r = rw (same-items (c .job) r, same-left (c .job) r, same-numbers (r .dataBytes) (By.linesLeft chars (c .job) r), same-number (c .job) r)
+
+-- ── the floor's reading
+pub floor : (l : Bytes) (o : Room) (r : Recording) → floorOutcome l o r ≡ By.floorOutcome chars l o r
+unfolding floorOutcome By.floorOutcome floorItems By.floorItems hidden By.hidden
+floor l o r = refl
 
 -- ── `wrap_bytes`, plain text
 pub wrap-bytes : (w : ℕ) (b : Bool) (d : Bytes) (room : ℕ) → wrapBytesOutcome w b d room ≡ By.wrapBytesOutcome chars w b d room

@@ -8,11 +8,13 @@ use Rattle.chars.specs.Width.{nineteenRanges, facesAndTrucks, ranges, widthIn, 
 use Rattle.chars.specs.Chars.{charAt, chars, textWidth, wellFormed}
 use Rattle.chars.proofs.RangeLaws.{behind, bounds, aside}
 use Rattle.recording.specs.Recording.{items, encode}
+use Rattle.recording.specs.Coloured.{coloured, balanced}
 use Rattle.recording.specs.Refusals.{badShape, entryFault, recordingFault}
 use Rattle.recording.specs.Outcome.{overLimit, noRoom, refusalOf, settle}
 use Rattle.recording.proofs.Lists.{or-left, or-right}
 use Rattle.layout.specs.Wrap.{splitWordsAtWidth, firstFit}
 use Rattle.layout.specs.Layout.{fillCount, resultItems, linesLeft, number, resultOf, secondFault, ownFault, faultsOf, outcome}
+use Rattle.view.specs.View.{viewFault, viewFaults}
 use Rattle.elide.specs.Elide.{fitAtStart}
 use Rattle.width_tables.specs.ByTable as By
 use Rattle.width_tables.specs.ByTable.{charsBy}
@@ -49,8 +51,8 @@ others c h = as-before c h
 
 -- ── the rows
 as-it-was : AsItWas
-unfolding ranges table37 rowOf tailLen complete charWidth charAt chars charsBy wellFormed items encode badShape entryFault recordingFault overLimit noRoom refusalOf settle splitWordsAtWidth firstFit fitAtStart secondFault ownFault faultsOf By.textWidth By.truncateEndPos By.truncateEndWidth By.truncateStartPos By.truncateStartWidth By.zeroWidthLen By.trimmedStartPos By.fillCount By.wrappedLine By.wrapLines By.resultItems By.linesLeft By.number By.resultOf By.outcome By.trimmed By.elideStart
-as-it-was = record { width = refl; cuts = (refl, refl); kept = (refl, refl); fill = refl; spaced = refl; unbroken = refl; listed = refl; tabs = refl; short = refl }
+unfolding ranges table37 rowOf tailLen complete charWidth charAt chars charsBy wellFormed items encode badShape entryFault recordingFault overLimit noRoom refusalOf settle splitWordsAtWidth firstFit fitAtStart secondFault ownFault faultsOf By.textWidth By.truncateEndPos By.truncateEndWidth By.truncateStartPos By.truncateStartWidth By.zeroWidthLen By.trimmedStartPos By.fillCount By.wrappedLine By.wrapLines By.resultItems By.linesLeft By.number By.resultOf By.outcome coloured balanced viewFault viewFaults By.hidden By.floorItems By.floorOutcome By.trimmed By.elideStart
+as-it-was = record { width = refl; cuts = (refl, refl); kept = (refl, refl); fill = refl; spaced = refl; unbroken = refl; listed = refl; tabs = refl; star = refl; short = refl }
 
 joined : Joined
 unfolding ranges table37 rowOf tailLen complete charWidth charAt chars textWidth charsBy wellFormed items encode badShape entryFault recordingFault overLimit noRoom refusalOf settle secondFault ownFault faultsOf fillCount resultItems linesLeft number resultOf outcome By.textWidth By.fillCount By.resultItems By.linesLeft By.number By.resultOf By.outcome

@@ -8,7 +8,7 @@ use Rattle.chars.specs.Chars.{Character, chars}
 use Rattle.buffer.specs.Place.{over}
 use Rattle.recording.specs.Lists.{AllOf}
 use Rattle.recording.specs.Recording.{Bytes}
-use Rattle.recording.specs.Outcome.{Outcome, Promised}
+use Rattle.recording.specs.Outcome.{Outcome, roomIn, Promised}
 use Rattle.layout.specs.Layout.{contentAfter}
 use Rattle.layout.specs.Lent.{callIn}
 use Rattle.wrap_lines.specs.WrapBytes.{lentLines}
@@ -35,6 +35,7 @@ alike t u =
     let one : (d : Bytes) → TextsOf (AsWide t u) (d ∷ []) → two.Alike t u d = λ d h. texts t u (d ∷ []) h .0 in
     record {
       layout = λ c r h. two.layout t u c r (texts t u (lentTo (c .job) r) h);
+      floor = λ l o r h. two.floor t u l o r (one (r .dataBytes) h);
       wrapBytes = λ w b d room h. two.wrap-bytes t u w b d room (one d h);
       elideEnd = λ room s e m h. let p = texts t u (s ∷ e ∷ []) h in two.elide-end t u room s e m (p .0) (p .1 .0);
       elideStart = λ room s e m h. let p = texts t u (s ∷ e ∷ []) h in two.elide-start t u room s e m (p .0) (p .1 .0);
@@ -55,6 +56,7 @@ own-reading = λ i d. sym (own-chars d) i
 pub published : Published
 published = record {
   layout = λ c r h. own.layout c r ∙ ap (λ (x : Bytes → List Character). By.outcome x c r) own-reading;
+  floor = λ l o r h. own.floor l o r ∙ ap (λ (x : Bytes → List Character). By.floorOutcome x l o r) own-reading;
   wrapBytes = λ w b d room h. own.wrap-bytes w b d room ∙ ap (λ (x : Bytes → List Character). By.wrapBytesOutcome x w b d room) own-reading;
   elideEnd = λ room s e m h. own.elide-end room s e m ∙ ap (λ (x : Bytes → List Character). By.elideEndOutcome x room s e m) own-reading;
   elideStart = λ room s e m h. own.elide-start room s e m ∙ ap (λ (x : Bytes → List Character). By.elideStartOutcome x room s e m) own-reading;
@@ -72,6 +74,7 @@ published = record {
 joined : (Ok Fine : List Bytes → Type 0) → ((ts : List Bytes) → Ok ts → Fine ts) → (a b c : Answers) → SameOn (λ ts. Unit {0}) a b → SameOn Fine b c → SameOn Ok a c
 joined Ok Fine f a b c p q = record {
   layout = λ x r h. p .layout x r tt ∙ q .layout x r (f _ h);
+  floor = λ l o r h. p .floor l o r tt ∙ q .floor l o r (f _ h);
   wrapBytes = λ w t d room h. p .wrapBytes w t d room tt ∙ q .wrapBytes w t d room (f _ h);
   elideEnd = λ room s e m h. p .elideEnd room s e m tt ∙ q .elideEnd room s e m (f _ h);
   elideStart = λ room s e m h. p .elideStart room s e m tt ∙ q .elideStart room s e m (f _ h);
@@ -101,6 +104,7 @@ unchanged t Ok f =
 pub answered : (Ok : List Bytes → Type 0) (b : Answers) → SameOn Ok library b → AnsweredBy b Ok
 answered Ok b p = record {
   layout = λ j r old new x h k. subst (λ (o : Outcome). Promised o old new x) (p .layout (callIn j old) r h) k;
+  floor = λ l r old new x h k. subst (λ (o : Outcome). Promised o old new x) (p .floor l (roomIn old) r h) k;
   wrapBytes = λ w t d old new x h k. subst (λ (o : Outcome). Promised o (lentLines old) (lentLines new) x) (p .wrapBytes w t d (length old) h) k;
   elideEnd = λ s e old new m x h k. subst (λ (o : Outcome). Promised o (lent old) (lent new) x) (p .elideEnd (length old) s e m h) k;
   elideStart = λ s e old new m x h k. subst (λ (o : Outcome). Promised o (lent old) (lent new) x) (p .elideStart (length old) s e m h) k;

@@ -10,13 +10,16 @@ use Rattle.chars.specs.Chars.{Character, chars, bytesOf, widthOf}
 use Rattle.chars.specs.Cut.{keptWithin, leadingZeroWidth}
 use Rattle.recording.specs.Lists.{same}
 use Rattle.recording.specs.Recording.{Bytes, Recording, Item, items, encode}
+use Rattle.recording.specs.Coloured.{coloured}
 use Rattle.recording.specs.Edit.{Op, edit}
-use Rattle.recording.specs.Outcome.{Result, Outcome, settle}
+use Rattle.recording.specs.Outcome.{Room, Result, Outcome, settle}
+use Rattle.recorder.specs.Recorder.{leaves}
 use Rattle.layout.specs.Tabs.{tabOps}
 use Rattle.layout.specs.Unindent.{unindentOps}
 use Rattle.layout.specs.Wrap.{ByteWord, Word, splitLines, byteWords, splitWordsAtWidth, firstFit, Line, lineBytes, groupLines}
 use Rattle.layout.specs.Layout.{cutEnd, cutStart, padding, indentOps, wrapOps, replaceOps, Job, withSecond, alone, Single, writeWrapped, writeReplaced, writeTabsExpanded, Call, faultsOf}
 use Rattle.layout.specs.Layout.{writeTruncatedStart, writeTruncatedEnd, writePaddedStart, writePaddedEnd, writePaddedCentered, writeIndented, writeUnindented}
+use Rattle.view.specs.View.{hiddenFrom, floorOps, dropRaws, viewFaults}
 use Rattle.wrap_lines.specs.WrapBytes.{noRecording, lineRoom, wrapFaults}
 use Rattle.elide.specs.Elide.{cutAtEnd, cutAtStart, fitAtEnd, fitAtStart, Elided, elided, plainResult, plainRoom, plainFaults}
 use Rattle.sheet.specs.Sheet.{SheetLine, sheetLines, valueFrom, breakOf, dataOf, widthField, breakField, dataField, goodLine}
@@ -135,6 +138,19 @@ module _ (chars : Bytes → List Character) where
 
   unfoldable pub outcome : Call → Recording → Outcome
   outcome c r = settle (faultsOf (c .job) r) (c .room) (resultOf (c .job) r)
+
+  -- ── view: the floor's stars; the office's reading asks no width
+  unfoldable pub hidden : Bytes → Recording → List Bool
+  hidden l r = hiddenFrom l (chars (r .dataBytes)) (coloured r)
+
+  unfoldable pub floorItems : Bytes → Recording → List Item
+  floorItems l r = edit (floorOps (hidden l r) (chars (r .dataBytes))) (dropRaws l [] (items r))
+
+  abbrev pub floorOf : Bytes → Recording → Recording
+  floorOf l r = encode (floorItems l r)
+
+  unfoldable pub floorOutcome : Bytes → Room → Recording → Outcome
+  floorOutcome l o r = settle (viewFaults l r) o (leaves (floorOf l r))
 
   -- ── wrap_lines
   abbrev pub wrapResult : ℕ → Bool → Bytes → Result

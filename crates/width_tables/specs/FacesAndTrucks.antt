@@ -9,6 +9,7 @@ use Rattle.chars.specs.Width.{nineteenRanges, widthIn, charWidth}
 use Rattle.chars.specs.Chars.{Character}
 use Rattle.recording.specs.Recording.{Bytes, Recording, recording}
 use Rattle.recording.specs.Outcome.{done}
+use Rattle.recording.specs.Pins.{x}
 use Rattle.layout.specs.Wrap.{lineOf}
 use Rattle.layout.specs.Layout.{padEnd, replace, expandTabs, Call}
 use Rattle.layout.specs.Pins.{roomy, replacement}
@@ -47,6 +48,8 @@ pub record AsItWas : Type 0 where
   pub listed : By.lineNumbers asBefore faces (lineOf 0 8 ∷ []) ≡ 0 ∷ 8 ∷ 2 ∷ []
   pub tabs : before .layout (record { job = expandTabs 4; room = roomy }) (recording (face ++ 0x09 ∷ []) [] [])
       ≡ done (record { recording = recording (face ++ 0x20 ∷ 0x20 ∷ 0x20 ∷ []) [] []; lines = []; number = 0 })
+  pub star : before .floor x roomy (recording face (0 ∷ 0 ∷ 0 ∷ 1 ∷ 4 ∷ 1 ∷ 0 ∷ 0 ∷ []) x)
+      ≡ done (record { recording = recording (0x2A ∷ []) (0 ∷ 0 ∷ 0 ∷ 1 ∷ 1 ∷ 1 ∷ 0 ∷ 0 ∷ []) x; lines = []; number = 0 })
   pub short : By.elideStart asBefore 2 (0x61 ∷ 0x62 ∷ face) (0x2E ∷ []) ≡ elided (0x2E ∷ face) 2
 
 -- ── over a list: F0 9F, with 98 80 put behind it, then padded at the end to 3 by `.`

@@ -11,9 +11,10 @@ use Rattle.chars.specs.Cut.{truncateEndPos, truncateEndWidth, truncateStartPos,
 use Rattle.buffer.specs.Place.{over}
 use Rattle.recording.specs.declared.Answer.{Answer}
 use Rattle.recording.specs.Recording.{Bytes, Recording}
-use Rattle.recording.specs.Outcome.{Outcome, Lent, Promised}
+use Rattle.recording.specs.Outcome.{Room, Outcome, Lent, roomIn, Promised}
 use Rattle.layout.specs.Layout.{Job, withSecond, alone, writeWrapped, writeReplaced, writeTabsExpanded, Call, outcome, contentAfter}
 use Rattle.layout.specs.Lent.{callIn, Leaves}
+use Rattle.view.specs.View.{floorOutcome}
 use Rattle.wrap_lines.specs.WrapBytes.{lentLines, wrapBytesOutcome}
 use Rattle.elide.specs.Elide.{trimmed, lent, elideEndOutcome, elideStartOutcome}
 use Rattle.sheet.specs.Sheet.{SheetLine, sheetLines, dataOf, dataField, goodLine}
@@ -25,6 +26,8 @@ use Rattle.width_tables.specs.ByTable.{charsBy}
 pub record Answers : Type 0 where
   -- the ten layout calls
   pub layout : Call → Recording → Outcome
+  -- the floor's reading of a recording: label, lengths of the lent buffers; the office's asks no width
+  pub floor : Bytes → Room → Recording → Outcome
   -- `wrap_bytes`: width, breaking, data, length of the line list
   pub wrapBytes : ℕ → Bool → Bytes → ℕ → Outcome
   -- plain text: length of the lent buffer, text, ellipsis, width; `complete_newline` asks no width
@@ -45,6 +48,7 @@ pub record Answers : Type 0 where
 abbrev pub library : Answers
 library = record {
   layout = outcome;
+  floor = floorOutcome;
   wrapBytes = wrapBytesOutcome;
   elideEnd = elideEndOutcome;
   elideStart = elideStartOutcome;
@@ -62,6 +66,7 @@ library = record {
 abbrev pub byTable : List Range → Answers
 byTable t = record {
   layout = By.outcome (charsBy t);
+  floor = By.floorOutcome (charsBy t);
   wrapBytes = By.wrapBytesOutcome (charsBy t);
   elideEnd = By.elideEndOutcome (charsBy t);
   elideStart = By.elideStartOutcome (charsBy t);
@@ -93,6 +98,7 @@ valueTexts (l ∷ ls) = valueText l ∷ valueTexts ls
 -- ── the same answers, wherever the texts lent are Ok
 pub record SameOn (Ok : List Bytes → Type 0) (a b : Answers) : Type 0 where
   pub layout : (c : Call) (r : Recording) → Ok (lentTo (c .job) r) → a .layout c r ≡ b .layout c r
+  pub floor : (l : Bytes) (o : Room) (r : Recording) → Ok (r .dataBytes ∷ []) → a .floor l o r ≡ b .floor l o r
   pub wrapBytes : (w : ℕ) (t : Bool) (d : Bytes) (room : ℕ) → Ok (d ∷ []) → a .wrapBytes w t d room ≡ b .wrapBytes w t d room
   pub elideEnd : (room : ℕ) (s e : Bytes) (m : ℕ) → Ok (s ∷ e ∷ []) → a .elideEnd room s e m ≡ b .elideEnd room s e m
   pub elideStart : (room : ℕ) (s e : Bytes) (m : ℕ) → Ok (s ∷ e ∷ []) → a .elideStart room s e m ≡ b .elideStart room s e m
@@ -134,6 +140,8 @@ Unchanged = (t : List Range) (Ok : ℕ → Type 0) → ((c : ℕ) → Ok c → A
 pub record AnsweredBy (b : Answers) (Ok : List Bytes → Type 0) : Type 0 where
   -- a layout call: the job j on the content r in the buffers `old`, which are then `new`, with the answer x
   pub layout : (j : Job) (r : Recording) (old new : Lent) (x : Answer) → Ok (lentTo j r) → Leaves j r old new x → Promised (b .layout (callIn j old) r) old new x
+  pub floor : (l : Bytes) (r : Recording) (old new : Lent) (x : Answer) → Ok (r .dataBytes ∷ []) → Promised (floorOutcome l (roomIn old) r) old new x
+      → Promised (b .floor l (roomIn old) r) old new x
   pub wrapBytes : (w : ℕ) (t : Bool) (d old new : List ℕ) (x : Answer) → Ok (d ∷ []) → Promised (wrapBytesOutcome w t d (length old)) (lentLines old) (lentLines new) x
       → Promised (b .wrapBytes w t d (length old)) (lentLines old) (lentLines new) x
   pub elideEnd : (s e old new : Bytes) (m : ℕ) (x : Answer) → Ok (s ∷ e ∷ []) → Promised (elideEndOutcome (length old) s e m) (lent old) (lent new) x

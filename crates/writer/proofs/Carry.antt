@@ -54,7 +54,7 @@ one-entry zero p = refl
 one-entry (suc zero) p = refl
 one-entry (suc (suc k)) p = refl
 
-kind-entry : (k : ℕ) (p : List ℕ) → IsEntry (itemOf k p)
+pub kind-entry : (k : ℕ) (p : List ℕ) → IsEntry (itemOf k p)
 kind-entry zero p = tt
 kind-entry (suc zero) p = tt
 kind-entry (suc (suc k)) p = tt
@@ -259,7 +259,7 @@ pub placed : (e : Entry) (es : List Entry) → placeOf (e ∷ es) ≡ e .positio
 unfolding placeOf
 placed e es = refl
 
-valid-parts : (at d t : ℕ) (e : Entry) (es : List Entry) → Valid at d t (e ∷ es)
+pub valid-parts : (at d t : ℕ) (e : Entry) (es : List Entry) → Valid at d t (e ∷ es)
     → (at ≤ e .position) × (badShape (e .kind) (e .start) (e .len) ≡ false) × (e .start + e .len ≤ t) × Valid (e .position) d t es
 unfolding Valid
 valid-parts at d t e es v = v

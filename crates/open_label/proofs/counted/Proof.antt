@@ -1,5 +1,4 @@
 -- `counted`: an entry that `drops` drops adds nothing, any other four numbers and its text.
-use Prim.Native.Nat.{_+_}
 use mathlib.Core.Bool.{true, false}
 use mathlib.Core.Path.{refl}
 use native.Mathlib.Omega.{arith}

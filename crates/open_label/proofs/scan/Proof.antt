@@ -1,4 +1,5 @@
--- `scan`: `Scanning` says that what is counted and what the entries left give is the whole; a turn counts one entry (`goes`), a pop that finds no label open ends it (`refused`), and at the end no entry is left (`last-told`).
+-- `scan`: `Scanning` says that what is counted and what the entries left give is the whole; a turn counts one entry (`goes`), a pop that finds no label open ends it (`refused`), and at the end
+-- no entry is left (`last-open`, `last-closed`, `last-told`).
 use native.Mathlib.Omega.{arith}
 use borrow.Author.Needs.{needs}
 use Prim.Native.Nat.{_+_, _-_, _≤_}
@@ -30,14 +31,16 @@ abbrev μ-loop : tie.MeasureT-loop
 abbrev start : tie.At-loop Inv-loop μ-loop → tie.Start Inv-loop μ-loop
 start c = c .before .before .before .before .before
 
--- in a turn: the state with the entry in front that was read
+-- at the loop: the state, with these entries left
+abbrev Left : tie.At-loop Inv-loop μ-loop → List Entry → Type 0
+Left c es =
+    let a = start c .args in
+    Scanning (a .label .now) (a .content .now) (a .text .now) (entriesOf (a .entries .now)) es (c .loop .o) (c .loop .n) (c .loop .k)
+
+-- in a turn: the entry that was read is the first of them
 front : (c : tie.After-entry-at Inv-loop μ-loop)
-    → let l = c .before .before in let a = start l .args in
-    Scanning (a .label .now) (a .content .now) (a .text .now) (entriesOf (a .entries .now)) (c .entry-at .result ∷ entriesOf (drop (l .loop .k + 4) (a .entries .now))) (l .loop .o) (l .loop .n) (l .loop .k)
-front c =
-    let l = c .before .before in
-    let a = start l .args in
-    subst (λ (es : List Entry). Scanning (a .label .now) (a .content .now) (a .text .now) (entriesOf (a .entries .now)) es (l .loop .o) (l .loop .n) (l .loop .k)) (c .entry-at .ensures) (l .loop .inv .1)
+    → Left (c .before .before) (c .entry-at .result ∷ entriesOf (drop (c .before .before .loop .k + 4) (start (c .before .before) .args .entries .now)))
+front c = subst (Left (c .before .before)) (c .entry-at .ensures) (c .before .before .loop .inv .1)
 
 -- behind the loop: no entry is left
 none : (c : tie.After-loop Inv-loop μ-loop) → entriesOf (drop (c .before .loop .k) (start (c .before) .args .entries .now)) ≡ []
@@ -60,8 +63,10 @@ unopened-requires c κs = search needs
 returns : tie.Need-returns Inv-loop μ-loop
 unfolding ScanTold
 returns c =
-    let a = start (c .before .before .before .before) .args in
-    (fault-open (a .content .now) (a .entries .now) (a .text .now) (refused _ _ _ _ _ _ _ _ _ (front (c .before .before)) (start (c .before .before .before .before) .pre .1 .1) (sym (c .before .unopened .ensures) ∙ c .if1 .taken)), tt)
+    let l = c .before .before .before .before in
+    let a = start l .args in
+    let b = refused _ _ _ _ _ _ _ _ _ (front (c .before .before)) (start l .pre .1 .1) (sym (c .before .unopened .ensures) ∙ c .if1 .taken) in
+    (fault-open (a .content .now) (a .entries .now) (a .text .now) b, tt)
 
 opened-requires : tie.Need-opened-requires Inv-loop μ-loop
 opened-requires c κs =
@@ -84,22 +89,26 @@ loop-less c = omega (arith, c .before .before .before .before .before .loop-test
 
 loop-again : tie.Need-loop-again Inv-loop μ-loop
 loop-again c =
+    let turn = c .before .before .before .before in
+    let l = turn .before .before in
     let o = c .before .opened .ensures in
     let n = c .counted .ensures in (
-      c .before .before .before .before .before .loop-test .taken,
-      goes _ _ _ _ _ _ _ _ _ (front (c .before .before .before .before)) (start (c .before .before .before .before .before .before) .pre .1 .1) (sym (c .before .before .before .unopened .ensures) ∙ c .before .before .if1 .left) _ (o .0) (o .1) _ (n .0) (n .1 .0) (n .1 .1),
+      turn .before .loop-test .taken,
+      goes _ _ _ _ _ _ _ _ _ (front turn) (start l .pre .1 .1) (sym (c .before .before .before .unopened .ensures) ∙ c .before .before .if1 .left) _ (o .0) (o .1) _ (n .0) (n .1 .0) (n .1 .1),
     )
 
 returns-2 : tie.Need-returns-2 Inv-loop μ-loop
 unfolding ScanTold
 returns-2 c =
-    let a = start (c .before .before .before) .args in
-    (fault-open (a .content .now) (a .entries .now) (a .text .now) (last-open _ _ (a .entries .now) _ _ _ _ _ (c .before .before .before .loop .inv .1) (none (c .before .before)) (c .if2 .taken)), tt)
+    let l = c .before .before .before in
+    let a = start l .args in
+    (fault-open (a .content .now) (a .entries .now) (a .text .now) (last-open _ _ (a .entries .now) _ _ _ _ _ (l .loop .inv .1) (none (c .before .before)) (c .if2 .taken)), tt)
 
 returns-3 : tie.Need-returns-3 Inv-loop μ-loop
 returns-3 c =
-    let a = start (c .before .before .before) .args in
-    let s = c .before .before .before .loop .inv .1 in (
+    let l = c .before .before .before in
+    let a = start l .args in
+    let s = l .loop .inv .1 in (
       fault-none (a .content .now) (a .entries .now) (a .text .now) _ (last-closed _ _ (a .entries .now) _ _ _ _ _ s (none (c .before .before)) (c .if2 .left)),
       last-told _ _ (a .entries .now) _ _ _ _ _ s (none (c .before .before)),
     )
