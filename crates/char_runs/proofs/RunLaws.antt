@@ -31,6 +31,7 @@ drop-from s at end h = let z : at + (end - at) ≡ end = omega arith in drop-dro
 pub seam-end : (s : List ℕ) (at end : ℕ) → at ≤ end → end ≡ length s → Seam (drop at s) (end - at)
 seam-end s at end h e = seam-apart (drop at s) (end - at) (subst NoTrail (sym (drop-from s at end h ∙ drop-of-length-le s {i = end} (omega arith))) tt)
 
+-- the code's test of a byte
 within-trails : (b : ℕ) → within 0x80 0xBF b ≡ false → Trails b → ⊥
 within-trails b e t = false≢true (sym e ∙ rw (le-leb 0x80 b (t .0), le-leb b 0xBF (t .1)))
 
@@ -63,6 +64,7 @@ pub newline-alone : (s : List ℕ) (i : ℕ) → getD s i 0 ≡ 0x0A → same (c
 unfolding charIn charAt tailLen rowOf table37
 newline-alone s i h = rw h
 
+-- none in one list and none in another
 plain-append : (xs ys : List Character) → NoNewlines xs → NoNewlines ys → NoNewlines (xs ++ ys)
 plain-append [] ys p q = q
 plain-append (x ∷ xs) ys p q = (p .0, plain-append xs ys (p .1) q)
@@ -76,12 +78,14 @@ pub record Plain (s : List ℕ) (at end i width : ℕ) : Type 0 where
   pub columns : width ≡ widthOf (chars (part at i s))
   pub narrow : width ≤ 2 * (i - at)
 
-pub plain-none : (s : List ℕ) (at end : ℕ) → at ≤ end → Plain s at end at 0
+-- none so far
+plain-none : (s : List ℕ) (at end : ℕ) → at ≤ end → Plain s at end at 0
 unfolding chars
 plain-none s at end h =
     let z : at - at ≡ 0 = omega arith in
     record { from = omega arith; to = h; seam = seam-none s at; plain = rw z tt; columns = rw z refl; narrow = omega arith }
 
+-- one character more
 pub plain-further : (s : List ℕ) (at end i width n w : ℕ) → i < length s → i + n ≤ end → 1 ≤ n → w ≤ 2 → n ≡ length (charIn i s .text) → w ≡ wide (charIn i s) → (getD s i 0 ≡ 0x0A → ⊥)
     → Plain s at end i width → Plain s at end (i + n) (width + w)
 plain-further s at end i width n w m t some two e f b p =
