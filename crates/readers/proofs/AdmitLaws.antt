@@ -1,18 +1,18 @@
 -- From the checks to the two readers' promises. `admit` finds the content's fault first, then 34 and 35 (`content-refused`, `label-refused`, `content-unbalanced`, `all-fine`).
 -- Where it refuses, both readers' outcomes are that refusal (`refused-office`, `refused-floor`); where it does not, only the sizes of what they are left are judged (`office-kept`, `floor-kept`),
 -- and where the label is not pushed, the floor is left what the office is (`absent-kept`). The idea: nothing is left in `viewFaults` that refuses, so an outcome is `leftIn`.
-use Prim.Native.Nat.{ℕ, zero, suc, _<_}
+use Prim.Native.Nat.{ℕ, zero, suc}
 use native.Mathlib.Omega.{arith}
 use mathlib.Core.Bool.{Bool, true, false, not, _||_}
 use mathlib.Core.Path.{_≡_, refl, sym, ap, subst, _∙_}
-use mathlib.Core.List.{List, [], _∷_}
+use mathlib.Core.List.{[], _∷_}
 use lib.ListN.{length}
 use Rattle.chars.specs.Chars.{wellFormed}
 use Rattle.recording.specs.declared.Refusal.{Refusal}
 use Rattle.recording.specs.declared.Refusal.the-variants.{ViewLabel, ContentUnbalanced}
 use Rattle.recording.specs.declared.Answer.{Answer}
 use Rattle.recording.specs.declared.Answer.the-variants as A
-use Rattle.recording.specs.Recording.{Bytes, Recording, isNil, Item, items, encode, textOf}
+use Rattle.recording.specs.Recording.{Bytes, Recording, isNil, items, encode, textOf}
 use Rattle.recording.specs.Coloured.{balanced}
 use Rattle.recording.specs.Refusals.{numberOf, firstOf, refuseIf, recordingFault}
 use Rattle.recording.specs.Outcome.{Room, Faults, Outcome, refused, settle, Lent, roomIn, lentAfter, returned, answerOf, Promised}

@@ -1,5 +1,5 @@
--- A call of which only the sizes of what it leaves are judged (`leftIn`): each place where it returns gives the whole promise at once (`left-refused`, `left-written`), and it has room to write (`left-room`).
--- Over any items: the sizes that the code took are theirs (`Sized`). What the office is left has the content's sizes (`office-sized`); what the floor is left has those that `scan` told (`floor-sized`).
+-- A call of which only the sizes of what it leaves are judged (`leftIn`): where it returns it has the whole promise at once (`left-refused`, `left-written`), and it has room to write (`left-room`).
+-- Over any items: the sizes that the code took are theirs (`Sized`). What the office is left has the content's (`office-sized`); what the floor is left has those that `scan` told (`floor-sized`).
 use Prim.Native.Nat.{ℕ, _*_, _≤_}
 use native.Mathlib.Omega.{arith}
 use mathlib.Core.Path.{_≡_, refl, sym, ap, _∙_}

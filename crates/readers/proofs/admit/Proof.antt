@@ -1,12 +1,9 @@
 -- `admit` checks the content, then the label, then the balance, and stops at the first fault (AdmitLaws).
 -- The check is named once (`After-check`); each place further down counts back to it, and the arguments are reached from there.
 use borrow.Author.Needs.{needs}
-use Prim.Native.Nat.{_≤_}
-use native.Mathlib.Omega.{arith}
 use mathlib.Core.Path.{_≡_, sym, _∙_}
 use lib.ListN.{length}
-use borrow.Author.Tests.{ltb-false}
-use Rattle.recording.specs.declared.Checked.the-variants as C
+use borrow.Author.Tests.{ltb-false, not-true, not-false}
 use Rattle.recording.specs.Recording.{Recording, recording, items, textOf}
 use Rattle.recording.specs.Refusals.{recordingFault}
 use Rattle.recording.proofs.FaultLaws.{no-fault}
@@ -60,7 +57,8 @@ is-well-formed-requires c κs = search needs
 returns-3 : tie.Need-returns-3
 returns-3 c =
     let at-check = c .before .before .before .before .before .before in
-    label-refused (start at-check .args .label .now) (content at-check) (clean (c .before .before .before)) (sym (c .before .is-well-formed .ensures) ∙ c .if2 .taken)
+    let w = c .before .is-well-formed in
+    label-refused (start at-check .args .label .now) (content at-check) (clean (c .before .before .before)) (sym (w .ensures) ∙ not-true (w .result) (c .if2 .taken))
 
 scan-requires : tie.Need-scan-requires
 scan-requires c κs =
@@ -82,8 +80,9 @@ returns-4 c =
     let at-scan = c .before .before in
     let at-label = at-scan .before .before in
     let at-check = at-label .before .before .before .before .before in
+    let w = at-label .is-well-formed in
     content-unbalanced (start at-check .args .label .now) (content at-check) (clean (at-label .before .before)) (at-label .before .if1 .left)
-    (sym (at-label .is-well-formed .ensures) ∙ at-scan .before .if2 .left) (at-scan .scan .result) (at-scan .scan .ensures .0) (c .enum-told .given .1)
+    (sym (w .ensures) ∙ not-false (w .result) (at-scan .before .if2 .left)) (at-scan .scan .result) (at-scan .scan .ensures .0) (c .enum-told .given .1)
 
 returns-5 : tie.Need-returns-5
 returns-5 c =
@@ -94,8 +93,9 @@ returns-5 c =
     let k = at-check .check in
     let g = at-fine .before .checked2 .given in
     let h = c .before .scanned .given in
+    let w = at-label .is-well-formed in
     all-fine (start at-check .args .label .now) (content at-check) (clean at-fine) (at-label .before .if1 .left)
-    (sym (at-label .is-well-formed .ensures) ∙ at-scan .before .if2 .left) (at-scan .scan .result) (at-scan .scan .ensures .0)
+    (sym (w .ensures) ∙ not-false (w .result) (at-scan .before .if2 .left)) (at-scan .scan .result) (at-scan .scan .ensures .0)
     (h .0 .0) (h .1) (at-scan .scan .ensures .1) (g .0 .0) (fine-count (k .result) (g .0 .0) (length (textOf (items (content at-check)))) (g .1) (k .ensures .1 .0))
 
 pub admit-spec : {M : Type 1} → statement M

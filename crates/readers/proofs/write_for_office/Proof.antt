@@ -56,9 +56,11 @@ returns-2 : tie.Need-returns-2
 returns-2 c =
     let p = c .before .before .before .before .before .before in
     let s = p .before .before .before .before .before .before .before in
+    let a = start s .args in
     let g = p .before .before .before .before .before .admitted2 .given in
     let r = s .admit in
-    office-kept (start s .args .label .now) (content s) (r .result) (r .ensures .0) (g .0 .0) (g .1) _ _ (p .put-whole .result) (p .put-whole .ensures)
+    office-kept (a .label .now) (content s) (r .result) (r .ensures .0) (g .0 .0) (g .1) (lentOf (a .bytes .now) (a .numbers .now) (a .texts .now)) (lentOf _ _ _)
+    (p .put-whole .result) (p .put-whole .ensures)
 
 pub write-for-office-spec : {M : Type 1} → statement M
 write-for-office-spec =
