@@ -17,17 +17,15 @@ use Rattle.recording.specs.Refusals.{badShape}
 use Rattle.recording.proofs.EditLaws.{open-append, data-front}
 use Rattle.writer.specs.declared.Cursor.{Cursor}
 use Rattle.writer.specs.Write.{Out, out, add, Fits, left, itemAt}
-use Rattle.writer.proofs.Laws.{same-out, fits-left, add-append, Long}
-use Rattle.writer.proofs.Carry.{is-entry, bytes-wrote, turn-wrote, room-turn}
-use Rattle.writer.proofs.Carry as carry
+use Rattle.writer.proofs.Laws.{same-out, fits-left, add-append}
+use Rattle.writer.proofs.Carry.{is-entry, add-nil, bytes-wrote, turn-wrote, room-turn}
 use Rattle.writer.proofs.Progress.{Progress, room-now, long-now}
 use Rattle.view.specs.View.{dropRaws}
 use Rattle.view.proofs.DropLaws.{drop-data}
-use Rattle.open_label.specs.declared.Open.{Open}
 use Rattle.open_label.specs.declared.Walk.{Walk}
 use Rattle.open_label.specs.Open.{Tells, Opened, Drops}
 use Rattle.open_label.specs.Walk.{nextPlace, Arrived}
-use Rattle.open_label.proofs.WalkLaws.{entry-whole, entry-fine, entry-here, entry-is, front-next, back-next, ready-next, no-front, same-back}
+use Rattle.open_label.proofs.WalkLaws.{entry-whole, entry-fine, entry-here, front-next, back-next, ready-next, no-front, same-back}
 use Rattle.readers.specs.Entries.{Passed, shown, EntriesPut, EntriesFit, EntriesWritten}
 
 -- ── passing them
@@ -99,3 +97,136 @@ module _ (l ds ns ts : List ℕ) (w v : Walk) (p : ℕ) (s : Passing l ds ns ts 
           rest = sym (same-back ds ns ts (v .c) (s .arrived .ready) beyond) ∙ s .behind;
           tells = λ st h. rw all-gone at (s .tells st h);
         }
+
+-- ── writing them
+-- items without data are put the same whatever the data buffer holds
+any-data : (is : List Item) (od oe ot oe′ ot′ : List ℕ) (c c′ : Cursor) → dataOf is ≡ [] → out od oe′ ot′ c′ ≡ add is (out od oe ot c) → EntriesPut is oe ot c oe′ ot′ c′
+unfolding EntriesPut out add
+any-data is od oe ot oe′ ot′ c c′ none e b =
+    same-out (out b oe′ ot′ c′) (add is (out b oe ot c)) (sym (over-none (c .d) b) ∙ ap (λ (d : List ℕ). overAt (c .d) d b) (sym none)) (ap (λ (o : Out). o .entryNumbers) e)
+    (ap (λ (o : Out). o .text) e) (ap (λ (o : Out). o .d) e) (ap (λ (o : Out). o .e) e) (ap (λ (o : Out). o .t) e)
+
+-- an entry that goes, and one that stays
+pub gone-put : (goes : Bool) (x : Item) (oe ot : List ℕ) (c c′ : Cursor) → goes ≡ true → c′ .d ≡ c .d → c′ .e ≡ c .e → c′ .t ≡ c .t → EntriesPut (shown goes x) oe ot c oe ot c′
+unfolding EntriesPut
+gone-put goes x oe ot c c′ g d e t = rw g (λ od. bytes-wrote od od oe ot [] c c′ (sym (over-none (c .d) od)) (omega (arith, d)) e t)
+
+pub kept-put : (goes : Bool) (ts : List ℕ) (n : Entry) (oe ot oe′ ot′ : List ℕ) (c c′ : Cursor) → goes ≡ false → badShape (n .kind) (n .start) (n .len) ≡ false → n .start + n .len ≤ length ts
+    → oe′ ≡ overAt (c .e) (numbersOf (entriesFrom (c .d) (c .t) (itemAt ts n ∷ []))) oe → ot′ ≡ overAt (c .t) (textOf (itemAt ts n ∷ [])) ot
+    → c′ .d ≡ c .d → c′ .e ≡ c .e + 4 → c′ .t ≡ c .t + n .len → EntriesPut (shown goes (itemAt ts n)) oe ot c oe′ ot′ c′
+unfolding EntriesPut
+kept-put goes ts n oe ot oe′ ot′ c c′ g b w ee et d e t =
+    rw g (λ od. turn-wrote od od oe oe′ ot ot′ [] c c c′ (itemAt ts n) (n .len) (is-entry ts n b w) (sym (over-none (c .d) od)) (omega arith) refl refl ee et d e t)
+
+-- the entries passed are written, but for those that go; room for all of them was there
+pub record Putting (l ds ns ts : List ℕ) (w v : Walk) (p : ℕ) (oe₀ ot₀ oe ot : List ℕ) : Type 0 where
+  pub passing : Passing l ds ns ts w v p
+  pub fit : EntriesFit l ds ns ts w oe₀ ot₀
+  pub done : List Item
+  pub wrote : out (fit .bytes) oe ot (v .c) ≡ add done (out (fit .bytes) oe₀ ot₀ (w .c))
+  pub rest : (s : List Bytes) → Tells l (w .o) s
+      → done ++ dropRaws l (openAfter s (passing .gone)) (front 0 (left ds ns ts (v .c))) ≡ dropRaws l s (front 0 (left ds ns ts (w .c)))
+
+pub putting-first : (l ds ns ts : List ℕ) (w : Walk) (p : ℕ) (oe ot : List ℕ) → Arrived ds ns ts w → EntriesFit l ds ns ts w oe ot → p ≡ nextPlace ns (w .c) → Putting l ds ns ts w w p oe ot oe ot
+unfolding passing-first
+putting-first l ds ns ts w p oe ot a f n =
+    record { passing = passing-first l ds ns ts w p a n; fit = f; done = []; wrote = add-nil (out (f .bytes) oe ot (w .c)); rest = λ s h. refl }
+
+module _ (l ds ns ts : List ℕ) (w v : Walk) (p : ℕ) (oe₀ ot₀ oe ot : List ℕ) (s : Putting l ds ns ts w v p oe₀ ot₀ oe ot) where
+  -- what the floor is left of the place's entries, and of those to come, where the labels st are open at first
+  abbrev wholeOf : List Bytes → List Item
+  wholeOf st = dropRaws l st (front 0 (left ds ns ts (w .c)))
+
+  abbrev toCome : List Bytes → List Item
+  toCome st = dropRaws l (openAfter st (s .passing .gone)) (front 0 (left ds ns ts (v .c)))
+
+  -- the buffers at first and now
+  abbrev first : Out
+  first = out (s .fit .bytes) oe₀ ot₀ (w .c)
+
+  abbrev current : Out
+  current = out (s .fit .bytes) oe ot (v .c)
+
+  progress : Progress (wholeOf (s .fit .stack)) (toCome (s .fit .stack)) first current
+  progress = record { done = s .done; wrote = s .wrote; joins = s .rest (s .fit .stack) (s .fit .tells) }
+
+  -- there is room for what is to come, and for what is done; the buffers are as long as they were
+  room : Fits (toCome (s .fit .stack)) current
+  room = room-now (wholeOf (s .fit .stack)) (toCome (s .fit .stack)) first current progress (s .fit .room)
+
+  room-done : Fits (s .done) first
+  room-done =
+      fits-left (s .done) (toCome (s .fit .stack)) first (rw (s .rest (s .fit .stack) (s .fit .tells)) (s .fit .room))
+
+  pub long : (length oe ≡ length oe₀) × (length ot ≡ length ot₀)
+  unfolding out
+  long =
+      let g = long-now (wholeOf (s .fit .stack)) (toCome (s .fit .stack)) first current progress (s .fit .room) in (g .entryNumbers, g .text)
+
+  -- an entry is next
+  module _ (more : p ≤ v .c .at) (e : Entry) (q : entriesOf (drop (v .c .k) ns) ≡ e ∷ entriesOf (drop (v .c .k + 4) ns)) (goes : Bool) (drops : Drops e (v .o) goes) where
+    -- what the floor is left of the entries behind it
+    abbrev laterOf : Walk → List Bytes → List Item
+    laterOf v′ st = dropRaws l (openAfter st (s .passing .gone ++ (itemAt ts e ∷ []))) (front 0 (left ds ns ts (v′ .c)))
+
+    parted : (v′ : Walk) → v′ .c .at ≡ v .c .at → v′ .c .k ≡ v .c .k + 4 → (st : List Bytes) → Tells l (w .o) st
+        → toCome st ≡ shown goes (itemAt ts e) ++ laterOf v′ st
+    unfolding Drops
+    parted v′ a k st h =
+        ap (dropRaws l (openAfter st (s .passing .gone))) (front-step l ds ns ts w v p (s .passing) more e q v′ a k)
+        ∙ drops l ts (openAfter st (s .passing .gone)) (front 0 (left ds ns ts (v′ .c))) (s .passing .tells st h)
+        ∙ ap (λ (t : List Bytes). shown goes (itemAt ts e) ++ dropRaws l t (front 0 (left ds ns ts (v′ .c)))) (sym (open-append st (s .passing .gone) (itemAt ts e ∷ [])))
+
+    -- a walk behind it
+    abbrev after : Walk
+    after = record { c = record { at = v .c .at; k = v .c .k + 4; d = 0; e = 0; t = 0 }; o = v .o }
+
+    room-one : Fits (shown goes (itemAt ts e)) current
+    room-one =
+        fits-left (shown goes (itemAt ts e)) (laterOf after (s .fit .stack)) current
+        (rw (parted after refl refl (s .fit .stack) (s .fit .tells)) at room)
+
+    room-kept : goes ≡ false → Fits (itemAt ts e ∷ []) current
+    room-kept g = rw g at room-one
+
+    -- what `put_unless` asks
+    pub may-put : length ns ≤ 18446744073709551615
+        → ((badShape (e .kind) (e .start) (e .len) ≡ false) × (e .start + e .len ≤ length ts) × (e .position ≡ v .c .at))
+        × (((v .c .d ≤ 1048576) × (v .c .k + 4 ≤ 18446744073709551615))
+        × (goes ≡ false → (v .c .e + 4 ≤ length oe) × (v .c .t + e .len ≤ length ot) × (v .c .t ≤ 65536)))
+    unfolding out
+    may-put big =
+        let f = ok l ds ns ts w v p (s .passing) more e q in (
+          f,
+          (
+            (omega (arith, room-one .data-limit), omega (arith, big, whole l ds ns ts w v p (s .passing) more)),
+            (λ g.
+                let r = room-turn (s .fit .bytes) oe ot [] (v .c) (itemAt ts e) (e .len) (is-entry ts e (f .0) (f .1)) (room-kept g) in
+                (r .entryNumbers, r .text, omega (arith, r .text-limit))),
+          ),
+        )
+
+    pub putting-next : (v′ : Walk) (p′ : ℕ) (oe′ ot′ : List ℕ) → v′ .c .at ≡ v .c .at → v′ .c .k ≡ v .c .k + 4 → EntriesPut (shown goes (itemAt ts e)) oe ot (v .c) oe′ ot′ (v′ .c)
+        → Opened l (itemAt ts e) (v .o) (v′ .o) → v′ .o .depth ≤ v .o .depth + 1 → p′ ≡ nextPlace ns (v′ .c) → Putting l ds ns ts w v′ p′ oe₀ ot₀ oe′ ot′
+    unfolding EntriesPut passing-next
+    putting-next v′ p′ oe′ ot′ a k put o d n =
+        record {
+          passing = passing-next l ds ns ts w v p (s .passing) more e q v′ a k p′ o d n;
+          fit = s .fit;
+          done = s .done ++ shown goes (itemAt ts e);
+          wrote = put (s .fit .bytes) ∙ ap (add (shown goes (itemAt ts e))) (s .wrote) ∙ add-append (s .done) (shown goes (itemAt ts e)) first room-done;
+          rest = λ st h. append-assoc (s .done) (shown goes (itemAt ts e)) (laterOf v′ st)
+              ∙ ap (λ (is : List Item). s .done ++ is) (sym (parted v′ a k st h)) ∙ s .rest st h;
+        }
+
+  -- none is left
+  module _ (past : v .c .at < p) where
+    all-done : (st : List Bytes) → Tells l (w .o) st → s .done ≡ wholeOf st
+    all-done st h =
+        sym (append-nil (s .done)) ∙ ap (λ (is : List Item). s .done ++ dropRaws l (openAfter st (s .passing .gone)) is) (sym (none-left l ds ns ts w v p (s .passing) past)) ∙ s .rest st h
+
+    pub written : EntriesWritten l ds ns ts w oe₀ ot₀ v oe ot
+    unfolding EntriesWritten
+    written st h =
+        any-data (wholeOf st) (s .fit .bytes) oe₀ ot₀ oe ot (w .c) (v .c) (drop-data l st (front 0 (left ds ns ts (w .c))) ∙ data-front 0 (left ds ns ts (w .c)))
+        (s .wrote ∙ ap (λ (is : List Item). add is first) (all-done st h))

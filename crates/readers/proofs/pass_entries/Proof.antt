@@ -1,6 +1,5 @@
 -- `pass_entries`: `Passing` is the loop's invariant; a turn passes an entry (`passing-next`), and where none is left the walk is behind them (`passed`).
 use native.Mathlib.Omega.{arith}
-use borrow.Author.Needs.{needs}
 use Prim.Native.Nat.{_+_, _-_, _≤_}
 use lib.ListN.{length}
 use Rattle.readers.proofs.EntryLaws.{Passing, passing-first, whole, may-open, passing-next, passed}
