@@ -56,9 +56,10 @@ loop-holds c =
     let a = s .args in
     let p : Passed (a .label .now) (a .content .now) (a .entries .now) (a .text .now) firstWalk (c .pass-entries .result) =
     subst (λ (w : Walk). Passed (a .label .now) (a .content .now) (a .entries .now) (a .text .now) w (c .pass-entries .result)) (c .before .first-walk .ensures) (c .pass-entries .ensures) in
-    let g = going-first (a .label .now) (a .content .now) (a .entries .now) (a .text .now) (c .pass-entries .result) p in
-    (subst (λ (r : Run). Going (a .label .now) (a .content .now) (a .entries .now) (a .text .now) (c .pass-entries .result) r) (sym (c .before .before .copied-to .ensures)) g,
-    ap (λ (n : ℕ). 0 + length (flatten (drop n (fs (a .label .now) (a .content .now) (a .entries .now) (a .text .now))))) (p .here) ∙ omega arith)
+    let g = going-first (a .label .now) (a .content .now) (a .entries .now) (a .text .now) (c .pass-entries .result) p in (
+      subst (λ (r : Run). Going (a .label .now) (a .content .now) (a .entries .now) (a .text .now) (c .pass-entries .result) r) (sym (c .before .before .copied-to .ensures)) g,
+      ap (λ (n : ℕ). 0 + length (flatten (drop n (fs (a .label .now) (a .content .now) (a .entries .now) (a .text .now))))) (p .here) ∙ omega arith,
+    )
 
 next-run-requires : tie.Need-next-run-requires Inv-loop μ-loop
 next-run-requires c κs =
@@ -100,9 +101,11 @@ loop-again c =
     let k = behind (c .before .before) in
     let p = c .pass-entries2 .ensures in
     let n = length-run (a .label .now) (a .content .now) (a .entries .now) (a .text .now) (l .loop .w) (l .loop .run) (l .loop .inv .0) (c .before .before .before .next-run .result) (r .0) (r .1) k refl refl in
-    let h = ap (λ (m : ℕ). length (flatten (drop m (fs (a .label .now) (a .content .now) (a .entries .now) (a .text .now))))) (p .here) in
-    (going-next (a .label .now) (a .content .now) (a .entries .now) (a .text .now) (l .loop .w) (l .loop .run) (l .loop .inv .0) (c .before .before .before .next-run .result) (r .0) (r .1) k refl refl
-    (c .pass-entries2 .result) p, omega (arith, n, h, l .loop .inv .1, c .before .before .run-len .ensures))
+    let h = ap (λ (m : ℕ). length (flatten (drop m (fs (a .label .now) (a .content .now) (a .entries .now) (a .text .now))))) (p .here) in (
+      going-next (a .label .now) (a .content .now) (a .entries .now) (a .text .now) (l .loop .w) (l .loop .run) (l .loop .inv .0) (c .before .before .before .next-run .result) (r .0) (r .1) k refl refl
+          (c .pass-entries2 .result) p,
+      omega (arith, n, h, l .loop .inv .1, c .before .before .run-len .ensures),
+    )
 
 returns : tie.Need-returns Inv-loop μ-loop
 returns c =

@@ -67,9 +67,10 @@ put-entries-requires : tie.Need-put-entries-requires Inv-loop μ-loop
 put-entries-requires c κs =
     let s = c .before .before .before .before .before .before .before .before .before .before .before in
     let a = s .args in
-    let f = c .first-walk .ensures in
-    (subst (λ (w : Walk). Arrived (a .content .now) (a .entries .now) (a .text .now) w) (sym f) (first-arrived (a .label .now) (a .content .now) (a .entries .now) (a .text .now) (s .pre .0 .1)),
-    subst (λ (w : Walk). EntriesFit (a .label .now) (a .content .now) (a .entries .now) (a .text .now) w (a .numbers .now) (a .texts .now)) (sym f) (first-fit (a .label .now) (a .content .now) (a .entries .now) (a .text .now) (a .bytes .now) (a .numbers .now) (a .texts .now) (s .pre .1)))
+    let f = c .first-walk .ensures in (
+      subst (λ (w : Walk). Arrived (a .content .now) (a .entries .now) (a .text .now) w) (sym f) (first-arrived (a .label .now) (a .content .now) (a .entries .now) (a .text .now) (s .pre .0 .1)),
+      subst (λ (w : Walk). EntriesFit (a .label .now) (a .content .now) (a .entries .now) (a .text .now) w (a .numbers .now) (a .texts .now)) (sym f) (first-fit (a .label .now) (a .content .now) (a .entries .now) (a .text .now) (a .bytes .now) (a .numbers .now) (a .texts .now) (s .pre .1)),
+    )
 
 loop-holds : tie.Need-loop-holds Inv-loop μ-loop
 loop-holds c = λ oe ot f w. w
@@ -87,9 +88,11 @@ put-run-requires c κs =
     let l = n .before .before .before in
     let s = start l in
     let a = s .args in
-    let r = n .next-run .ensures in
-    (omega (arith, r .0 .further), r .0 .before,
-    run-room (a .label .now) (a .content .now) (a .entries .now) (a .text .now) (a .bytes .now) (a .numbers .now) (a .texts .now) (s .pre .1) (l .loop .w) (l .loop .run) _ _ _ (now l) (n .next-run .result) (r .0) (r .1))
+    let r = n .next-run .ensures in (
+      omega (arith, r .0 .further),
+      r .0 .before,
+      run-room (a .label .now) (a .content .now) (a .entries .now) (a .text .now) (a .bytes .now) (a .numbers .now) (a .texts .now) (s .pre .1) (l .loop .w) (l .loop .run) _ _ _ (now l) (n .next-run .result) (r .0) (r .1),
+    )
 
 put-entries-requires-2 : tie.Need-put-entries-requires-2 Inv-loop μ-loop
 put-entries-requires-2 c κs =
@@ -98,10 +101,11 @@ put-entries-requires-2 c κs =
     let s = start l in
     let a = s .args in
     let r = found u .next-run .ensures in
-    let x = u .put-run .ensures in
-    (arrived-next (a .label .now) (a .content .now) (a .entries .now) (a .text .now) (l .loop .w) (l .loop .run) (now l .going) (found u .next-run .result) (r .0) (r .1) (u .put-run .result) (x .0 .0) (x .0 .1),
-    entries-fit (a .label .now) (a .content .now) (a .entries .now) (a .text .now) (a .bytes .now) (a .numbers .now) (a .texts .now) (s .pre .1) (l .loop .w) (l .loop .run) _ _ _ (now l) (found u .next-run .result) (r .0) (r .1)
-    (u .put-run .result) (x .0 .0) (x .0 .1) (x .0 .2) (x .0 .3) (x .0 .4) _ (x .1))
+    let x = u .put-run .ensures in (
+      arrived-next (a .label .now) (a .content .now) (a .entries .now) (a .text .now) (l .loop .w) (l .loop .run) (now l .going) (found u .next-run .result) (r .0) (r .1) (u .put-run .result) (x .0 .0) (x .0 .1),
+      entries-fit (a .label .now) (a .content .now) (a .entries .now) (a .text .now) (a .bytes .now) (a .numbers .now) (a .texts .now) (s .pre .1) (l .loop .w) (l .loop .run) _ _ _ (now l) (found u .next-run .result) (r .0) (r .1)
+          (u .put-run .result) (x .0 .0) (x .0 .1) (x .0 .2) (x .0 .3) (x .0 .4) _ (x .1),
+    )
 
 loop-less : tie.Need-loop-less Inv-loop μ-loop
 loop-less c =

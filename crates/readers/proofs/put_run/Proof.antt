@@ -28,9 +28,10 @@ returns c =
     let s = c .before .before .before .before .before .before .before in
     let a = s .args in
     let t = c .before .before .before .before .if1 .taken in
-    let e = c .before .before .put-bytes .ensures in
-    ((refl, refl, e .0 .2 ∙ ap (λ (n : ℕ). a .c .d + n) (sym (length-copied (a .content .now) (a .c .at) (a .run) t (s .pre .1))), refl, refl),
-    e .1 .0 ∙ ap (λ (x : List ℕ). overAt (a .c .d) x (a .bytes .now)) (sym (bytes-copied (a .content .now) (a .c .at) (a .run) t)))
+    let e = c .before .before .put-bytes .ensures in (
+      (refl, refl, e .0 .2 ∙ ap (λ (n : ℕ). a .c .d + n) (sym (length-copied (a .content .now) (a .c .at) (a .run) t (s .pre .1))), refl, refl),
+      e .1 .0 ∙ ap (λ (x : List ℕ). overAt (a .c .d) x (a .bytes .now)) (sym (bytes-copied (a .content .now) (a .c .at) (a .run) t)),
+    )
 
 put-byte-times-requires : tie.Need-put-byte-times-requires
 put-byte-times-requires c κs =
@@ -46,9 +47,10 @@ returns-2 c =
     let s = c .before .before .before .before .before .before .before in
     let a = s .args in
     let t = c .before .before .before .before .if1 .left in
-    let e = c .before .before .put-byte-times .ensures in
-    ((refl, refl, e .0 ∙ ap (λ (n : ℕ). a .c .d + n) (sym (length-starred (a .content .now) (a .c .at) (a .run) t)), refl, refl),
-    e .1 ∙ ap (λ (x : List ℕ). overAt (a .c .d) x (a .bytes .now)) (sym (bytes-starred (a .content .now) (a .c .at) (a .run) t)))
+    let e = c .before .before .put-byte-times .ensures in (
+      (refl, refl, e .0 ∙ ap (λ (n : ℕ). a .c .d + n) (sym (length-starred (a .content .now) (a .c .at) (a .run) t)), refl, refl),
+      e .1 ∙ ap (λ (x : List ℕ). overAt (a .c .d) x (a .bytes .now)) (sym (bytes-starred (a .content .now) (a .c .at) (a .run) t)),
+    )
 
 pub put-run-spec : {M : Type 1} → statement M
 put-run-spec =
