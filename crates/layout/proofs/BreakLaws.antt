@@ -10,8 +10,9 @@ use lib.Dec.{leb, ltb, eqb}
 use borrow.Author.Tests.{leb-false, leb-true}
 use Rattle.chars.specs.Chars.{Character, chars, bytesOf, widthOf, wide}
 use Rattle.chars.proofs.CharsLaws.{bytes-chars, bytes-append, Read, Valid, valid-chars, valid-prefix, valid-suffix}
+use Rattle.recording.specs.Lists.{AllOf}
 use Rattle.recording.specs.Recording.{isNil}
-use Rattle.recording.proofs.Lists.{AllOf, all-append, all-left, all-right, or-right}
+use Rattle.recording.proofs.Lists.{all-append, all-left, all-right, or-right}
 use Rattle.layout.specs.Wrap.{ontoFirst, groupsFrom, groups, Word, ByteWord, wordOf, wordsOf, inHead, headsAsWords, splitWord, splitWords, splitWordsAtWidth, fitsLine, fullWidth, firstFit}
 use Rattle.layout.proofs.ByteWordLaws.{ChainFrom, Chain, Inner, RunOk, Next}
 use Rattle.layout.proofs.GroupLaws.{concat, Grouped, end, join, new, grouped, Single, groups-single, groups-concat}

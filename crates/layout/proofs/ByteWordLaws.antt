@@ -6,9 +6,9 @@ use mathlib.Core.Logic.{_⊎_, inl, inr}
 use mathlib.Core.Path.{_≡_, refl, sym, ap, _∙_}
 use mathlib.Core.List.{List, [], _∷_, _++_}
 use lib.Dec.{eqb}
+use Rattle.recording.specs.Lists.{AllOf}
 use Rattle.recording.specs.Recording.{isNil}
 use Rattle.layout.specs.Wrap.{ontoFirst, splitLines, ByteWord, byteWord, spaceBefore, byteBefore, byteWords}
-use Rattle.recording.proofs.Lists.{AllOf}
 use Rattle.layout.specs.Tabs.{spaces}
 use Rattle.layout.proofs.WordLaws.{joinWords}
 

@@ -5,7 +5,8 @@ use mathlib.Core.Bool.{Bool, true, false}
 use mathlib.Core.Path.{_≡_, refl, ap, _∙_}
 use mathlib.Core.List.{List, [], _∷_, _++_}
 use lib.ListN.{length}
-use Rattle.recording.proofs.Lists.{AllOf, all-left, all-right}
+use Rattle.recording.specs.Lists.{AllOf}
+use Rattle.recording.proofs.Lists.{all-left, all-right}
 use Rattle.layout.specs.Wrap.{ontoFirst, groupsFrom, groups}
 
 abbrev pub concat : {A : Type 0} → List (List A) → List A

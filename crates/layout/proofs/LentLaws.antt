@@ -11,8 +11,8 @@ use Rattle.buffer.specs.Held.{HoldsUpTo}
 use Rattle.buffer.proofs.HeldLaws.{held-all}
 use Rattle.recording.specs.declared.Answer.the-variants.{Done}
 use Rattle.recording.specs.Recording.{Recording, recording, dataOf, encode}
-use Rattle.recording.specs.Outcome.{Outcome, refused, done, settle, Lent, lentAfter, Returned, returned, answerOf}
-use Rattle.recording.proofs.FaultLaws.{readBack, read-back}
+use Rattle.recording.specs.Outcome.{Outcome, refused, done, settle, Lent, lentAfter, Returned, returned, readBack, answerOf}
+use Rattle.recording.proofs.FaultLaws.{read-back}
 use Rattle.layout.specs.Layout.{Job, resultItems, resultOf, refusal, outcome, contentAfter, after}
 use Rattle.layout.specs.Lent.{frontOf, callIn, Leaves}
 

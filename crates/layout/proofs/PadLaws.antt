@@ -9,10 +9,10 @@ use lib.ListN.{length, take, drop}
 use lib.Seq.{take-length, drop-length, take-nil, drop-nil}
 use borrow.Author.Tests.{eqb-true}
 use Rattle.recording.specs.declared.Entry.{Entry}
-use Rattle.recording.specs.Coloured.{Coloured, colouredFrom, balancedFrom, noneInsideOf, noneInside}
+use Rattle.recording.specs.Coloured.{Coloured, colouredFrom, openAfter, balancedFrom, noneInsideOf, noneInside}
 use Rattle.recording.specs.Recording.{Bytes, Recording, Item, byte, push, pop, raw, byteItems, itemOf, itemsFrom, items, entriesOf, partOf}
 use Rattle.recording.proofs.Lists.{and-left, and-right}
-use Rattle.recording.proofs.EditLaws.{openAfter, coloured-append}
+use Rattle.recording.proofs.EditLaws.{coloured-append}
 use Rattle.layout.specs.Layout.{copies, repeatPieces, padding}
 use Rattle.layout.specs.Plain.{times, withLabels}
 

@@ -11,11 +11,12 @@ use borrow.Author.Tests.{eqb-true}
 use lib.Seq.{drop-drop, take-at, drop-at, take-all}
 use Rattle.chars.specs.Chars.{Character, bytesOf}
 use Rattle.chars.proofs.CharsLaws.{bytes-append, valid-clean}
+use Rattle.recording.specs.Lists.{AllOf}
 use Rattle.recording.specs.Coloured.{Coloured, values}
 use Rattle.recording.specs.Edit.{labelsAt}
 use Rattle.recording.specs.Recording.{isNil, Bytes}
 use Rattle.recording.proofs.ItemsLaws.{values-append, values-take, values-drop}
-use Rattle.recording.proofs.Lists.{AllOf, all-left, all-right, all-append}
+use Rattle.recording.proofs.Lists.{all-left, all-right, all-append}
 use Rattle.layout.specs.Plain.{stretch, labelsOf, wrapped}
 use Rattle.layout.specs.Wrap.{ontoFirst, groups, splitLines, Word, ByteWord, byteWord, byteWords, wordsOf, splitWords, splitWordsAtWidth, fitsLine, fullWidth, firstFit, Line}
 use Rattle.layout.specs.Wrap.{lineOf, shownLen, wholeLen, groupLines, wrappedLine, linesFrom, wrapLines}

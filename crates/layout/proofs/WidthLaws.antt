@@ -13,8 +13,9 @@ use Rattle.chars.specs.Chars.{Character, chars, bytesOf, wide, widthOf, textWid
 use Rattle.chars.specs.Cut.{leadingZeroWidth}
 use Rattle.chars.proofs.CharsLaws.{valid-clean, width-append}
 use Rattle.chars.proofs.SeamLaws.{width-none, chars-low}
+use Rattle.recording.specs.Lists.{AllOf}
 use Rattle.recording.specs.Recording.{Bytes}
-use Rattle.recording.proofs.Lists.{AllOf, all-append}
+use Rattle.recording.proofs.Lists.{all-append}
 use Rattle.layout.specs.Wrap.{groups, splitLines, Word, byteWords, wordsOf, inHead, splitWordsAtWidth, fitsLine, fullWidth, firstFit, Line, wrappedLine, linesFrom, lineNumbers, wrapLines}
 use Rattle.layout.specs.Widths.{LoneWord, WidthFits, ListFits, WidthsTrusted}
 use Rattle.layout.proofs.GroupLaws.{all-concat, groups-concat, Joined, JoinedAll, groups-joined}

@@ -14,8 +14,9 @@ use Rattle.chars.specs.Chars.{Character, chars, bytesOf, wide}
 use Rattle.chars.specs.Cut.{keptWithin, leadingZeroWidth}
 use Rattle.chars.proofs.CharsLaws.{bytes-chars, bytes-append, Read, Valid, valid-chars, valid-clean, valid-suffix}
 use Rattle.chars.proofs.CutLaws.{keptRest, split-kept}
+use Rattle.recording.specs.Lists.{AllOf}
 use Rattle.recording.specs.Recording.{isNil}
-use Rattle.recording.proofs.Lists.{AllOf, all-right}
+use Rattle.recording.proofs.Lists.{all-right}
 use Rattle.layout.specs.Wrap.{ontoFirst, groups, splitLines, Word, ByteWord, spaceBefore, byteBefore, byteWords, wordsOf, inHead, headsAsWords, splitWords}
 use Rattle.layout.specs.Tabs.{spaces}
 use Rattle.layout.proofs.ByteWordLaws.{NoNewline, Inner, FirstText, runs-word}

@@ -7,16 +7,8 @@ use mathlib.Core.Path.{_≡_, refl, sym, ap, _∙_}
 use mathlib.Core.List.{List, [], _∷_, _++_, reverse, tail, append-assoc, reverse-append}
 use lib.ListN.{length, take, drop}
 use Rattle.recording.specs.Recording.{Bytes, Item, byte, push, pop, raw, dataOf}
-use Rattle.recording.specs.Coloured.{Coloured, colouredFrom, balancedFrom}
+use Rattle.recording.specs.Coloured.{Coloured, colouredFrom, openAfter, balancedFrom}
 use Rattle.recording.specs.Edit.{Op, keep, skip, put, front, back, entriesOnly, edit, labelsAt, under, editColoured, editData}
-
--- the labels that are open after some items
-abbrev pub openAfter : List Bytes → List Item → List Bytes
-openAfter s [] = s
-openAfter s (byte b ∷ is) = openAfter s is
-openAfter s (push l ∷ is) = openAfter (l ∷ s) is
-openAfter s (pop ∷ is) = openAfter (tail s) is
-openAfter s (raw t ∷ is) = openAfter s is
 
 abbrev pub Bal : List Bytes → List Item → Type 0
 Bal s is = balancedFrom (length s) is ≡ true

@@ -10,13 +10,14 @@ use lib.ListN.{length, take, drop, length-append}
 use borrow.Author.Tests.{eqb-true, eqb-false, eq-eqb, ltb-false, le-ltb}
 use Rattle.chars.specs.Chars.{wellFormed}
 use Rattle.buffer.proofs.Laws.{take-over}
+use Rattle.recording.specs.Lists.{AllOf}
 use Rattle.recording.specs.declared.Entry.{Entry}
 use Rattle.recording.specs.Recording.{Bytes, Recording, isNil, entriesOf, numbersOf, partOf, Item, byte, push, pop, raw, byteItems, itemOf, itemsFrom, items, dataOf, textOf, entriesFrom, encode}
 use Rattle.recording.specs.Edit.{Op, keep, skip, put, front, back, entriesOnly, edit}
 use Rattle.recording.specs.Refusals.{firstOf, refuseIf, badShape, entryFault, entriesFault, recordingFault, dataLimit, entryLimit, textLimit}
-use Rattle.recording.specs.Outcome.{Room, Result, Faults, Outcome, done, overLimit, noRoom, refusalOf, Lent, lentAfter, returned}
+use Rattle.recording.specs.Outcome.{Room, Result, Faults, Outcome, done, overLimit, noRoom, refusalOf, Lent, lentAfter, returned, readBack}
 use Rattle.recording.proofs.EditLaws.{AllPuts}
-use Rattle.recording.proofs.Lists.{AllOf, all-append, or-left, or-right, not-false}
+use Rattle.recording.proofs.Lists.{all-append, or-left, or-right, not-false}
 use Rattle.recording.proofs.ItemsLaws.{part-at, entries-numbers}
 use Rattle.recording.proofs.SizeLaws.{entryCount, count-numbers}
 
@@ -293,14 +294,6 @@ encoded is o h = fault-free (encode is) (parts (in-limits (encode is) h))
         in-order = unfold encode in rw (entries-numbers (entriesFrom 0 0 is)) (written is 0 0 0 (dataOf is) [] (omega arith) (omega arith) refl o)
 
 -- ── the lent buffers up to the returned lengths are the recording of the outcome
-abbrev pub readBack : Outcome → Lent → Recording
-readBack x b =
-    record {
-      dataBytes = take (returned x .dataBytes) (lentAfter x b .dataBytes);
-      entryNumbers = take (returned x .entryNumbers) (lentAfter x b .entryNumbers);
-      text = take (returned x .text) (lentAfter x b .text);
-    }
-
 pub read-back : (x : Result) (b : Lent) → readBack (done x) b ≡ x .recording
 unfolding returned lentAfter
 read-back x b = λ i. record {

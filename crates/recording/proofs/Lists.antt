@@ -1,11 +1,11 @@
--- Lists and Booleans alone: a property of all members, and what `&&` and `||` say.
+-- Lists and Booleans alone: a property of all members, what `&&` and `||` say, and byte lists that are equal.
 use mathlib.Core.Bool.{Bool, true, false, _&&_, _||_, not, false≢true}
 use mathlib.Core.Path.{_≡_, refl, sym}
 use mathlib.Core.List.{List, [], _∷_, _++_}
-
-abbrev pub AllOf : {A : Type 0} → (A → Type 0) → List A → Type 0
-AllOf P [] = Unit {0}
-AllOf P (a ∷ r) = P a × AllOf P r
+use Prim.Native.Nat.{ℕ}
+use lib.Dec.{eqb}
+use borrow.Author.Tests.{eq-eqb, eqb-true}
+use Rattle.recording.specs.Lists.{AllOf, same}
 
 pub all-append : {A : Type 0} (P : A → Type 0) (xs ys : List A) → AllOf P xs → AllOf P ys → AllOf P (xs ++ ys)
 all-append P [] ys h g = g
@@ -38,3 +38,15 @@ or-right false b h = h
 pub not-false : (b : Bool) → not b ≡ false → b ≡ true
 not-false true h = refl
 not-false false h = absurd (false≢true (sym h))
+
+-- ── byte lists that are equal
+pub same-self : (x : List ℕ) → same x x ≡ true
+same-self [] = refl
+same-self (a ∷ x) = simp (eq-eqb a a refl) (same-self x)
+
+pub same-equal : (x y : List ℕ) → same x y ≡ true → x ≡ y
+same-equal [] [] h = refl
+same-equal [] (b ∷ y) h = absurd (false≢true h)
+same-equal (a ∷ x) [] h = absurd (false≢true h)
+same-equal (a ∷ x) (b ∷ y) h =
+    let e = eqb-true a b (and-left (eqb a b) (same x y) h) in let f = same-equal x y (and-right (eqb a b) (same x y) h) in λ i. e i ∷ f i

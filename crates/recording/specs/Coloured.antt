@@ -23,6 +23,14 @@ colouredFrom stack (raw t ∷ is) = colouredFrom stack is
 unfoldable pub coloured : Recording → List Coloured
 coloured r = colouredFrom [] (items r)
 
+-- the labels that are open after some items, where those of s are open before them
+abbrev pub openAfter : List Bytes → List Item → List Bytes
+openAfter s [] = s
+openAfter s (byte b ∷ is) = openAfter s is
+openAfter s (push l ∷ is) = openAfter (l ∷ s) is
+openAfter s (pop ∷ is) = openAfter (tail s) is
+openAfter s (raw t ∷ is) = openAfter s is
+
 abbrev pub values : List Coloured → Bytes
 values [] = []
 values (c ∷ cs) = c .val ∷ values cs

@@ -4,7 +4,7 @@ use mathlib.Core.Bool.{cond, _||_}
 use mathlib.Core.List.{List, [], _∷_}
 use mathlib.Core.Path.{_≡_}
 use lib.Dec.{ltb, eqb}
-use lib.ListN.{length}
+use lib.ListN.{length, take}
 use Rattle.buffer.specs.Place.{over}
 use Rattle.recording.specs.declared.Answer.{Answer}
 use Rattle.recording.specs.declared.Answer.the-variants.{Refused, Done}
@@ -93,6 +93,15 @@ unfoldable pub returned : Outcome → Returned
 returned (refused n) = record { refusal = n; dataBytes = 0; entryNumbers = 0; text = 0; number = 0 }
 returned (done x) =
     record { refusal = 0; dataBytes = length (x .recording .dataBytes); entryNumbers = length (x .recording .entryNumbers); text = length (x .recording .text); number = x .number }
+
+-- what the lent buffers hold after a call, up to the lengths returned, read as a recording
+abbrev pub readBack : Outcome → Lent → Recording
+readBack x b =
+    record {
+      dataBytes = take (returned x .dataBytes) (lentAfter x b .dataBytes);
+      entryNumbers = take (returned x .entryNumbers) (lentAfter x b .entryNumbers);
+      text = take (returned x .text) (lentAfter x b .text);
+    }
 
 -- document 01's number and values for each case of the answer
 unfoldable pub answerOf : Answer → Returned

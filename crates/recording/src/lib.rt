@@ -39,6 +39,10 @@ pub enum Refusal {
     PrefixNewline,
     // A line that is not empty and does not begin with the prefix to be taken off.
     PrefixMissing,
+    // A reader's label that is empty or not well-formed UTF-8.
+    ViewLabel,
+    // A content whose labels are not balanced.
+    ContentUnbalanced,
     // Of a list of calls: two sets of buffers that differ in a length, numbers that are no calls, a list of answers that is too short.
     SetsDiffer,
     CallNumbers,
@@ -67,6 +71,8 @@ pub fn number_of(f: Refusal) -> u64
         Refusal::TabStop => 31,
         Refusal::PrefixNewline => 32,
         Refusal::PrefixMissing => 33,
+        Refusal::ViewLabel => 34,
+        Refusal::ContentUnbalanced => 35,
         Refusal::SetsDiffer => 61,
         Refusal::CallNumbers => 62,
         Refusal::AnswerListTooShort => 63,

@@ -1,34 +1,24 @@
 -- The whole output: the heading, then the rows, or the one bad row where the sheet is too long or its first line is not the heading.
 use Prim.Native.Nat.{ℕ, _+_, _-_, _≤_, _<_}
 use native.Mathlib.Omega.{arith}
-use mathlib.Core.Bool.{Bool, true, false, cond}
-use mathlib.Core.Path.{_≡_, refl, sym, ap, subst, _∙_}
+use mathlib.Core.Bool.{Bool, true, false}
+use mathlib.Core.Path.{_≡_, refl, sym, ap, _∙_}
 use mathlib.Core.List.{List, [], _∷_, _++_}
-use lib.Dec.{leb, ltb, eqb}
+use lib.Dec.{leb, ltb}
 use lib.ListN.{length, take, drop, length-append}
 use lib.Seq.{length-take-le, take-all}
-use borrow.Author.Tests.{lt-ltb, le-ltb, le-leb, lt-leb, leb-true, leb-false, eq-eqb, eqb-true}
+use borrow.Author.Tests.{lt-ltb, le-ltb, le-leb, lt-leb, leb-true, leb-false}
 use Rattle.buffer.specs.Place.{over, overAt}
+use Rattle.recording.specs.Lists.{same}
 use Rattle.recording.specs.Recording.{Bytes}
+use Rattle.recording.proofs.Lists.{same-self, same-equal}
 use Rattle.sheet.specs.Sheet.{upTo, SheetLine, sheetLine, sheetLines}
-use Rattle.rows.specs.Rows.{badRow, rowsFrom, sheetHeading, rowsHeading, same, readLimit, body, output}
-use Rattle.rows.proofs.RowLaws.{then-put, sheet-next, both}
+use Rattle.rows.specs.Rows.{badRow, rowsFrom, sheetHeading, rowsHeading, readLimit, body, output}
+use Rattle.rows.proofs.RowLaws.{then-put, sheet-next}
 
 -- ── texts compared
-same-self : (x : Bytes) → same x x ≡ true
-same-self [] = refl
-same-self (a ∷ x) = simp (eq-eqb a a refl) (same-self x)
-
-same-eq : (x y : Bytes) → same x y ≡ true → x ≡ y
-same-eq [] [] e = refl
-same-eq [] (b ∷ y) e = absurd (subst (λ (t : Bool). cond t ⊥ (Unit {0})) e tt)
-same-eq (a ∷ x) [] e = absurd (subst (λ (t : Bool). cond t ⊥ (Unit {0})) e tt)
-same-eq (a ∷ x) (b ∷ y) e =
-    let p = both (eqb a b) (same x y) e in
-    λ i. eqb-true a b (p .0) i ∷ same-eq x y (p .1) i
-
 not-same : (x y : Bytes) (t : Bool) → same x y ≡ t → (x ≡ y → ⊥) → t ≡ false
-not-same x y true e h = absurd (h (same-eq x y e))
+not-same x y true e h = absurd (h (same-equal x y e))
 not-same x y false e h = refl
 
 -- ── the first line, up to e

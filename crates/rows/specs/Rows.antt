@@ -1,9 +1,10 @@
 -- The output of `wraplist` (document 01, module 7): the whole of what is printed for a sheet.
 use Prim.Native.Nat.{ℕ, zero, suc, _+_, _/_, _%_}
-use mathlib.Core.Bool.{Bool, true, false, cond, _&&_}
+use mathlib.Core.Bool.{Bool, cond, _&&_}
 use mathlib.Core.List.{List, [], _∷_, _++_}
-use lib.Dec.{leb, ltb, eqb}
+use lib.Dec.{leb, ltb}
 use lib.ListN.{length}
+use Rattle.recording.specs.Lists.{same}
 use Rattle.recording.specs.Recording.{Bytes}
 use Rattle.layout.specs.Wrap.{Line, lineWidth, wrapLines}
 use Rattle.sheet.specs.Sheet.{SheetLine, sheetLines, valueFrom, breakOf, dataOf, widthField, breakField, dataField, goodLine}
@@ -65,12 +66,6 @@ sheetHeading = 0x77 ∷ 0x69 ∷ 0x64 ∷ 0x74 ∷ 0x68 ∷ 0x20 ∷ 0x62 ∷ 0x
 unfoldable pub rowsHeading : Bytes
 rowsHeading =
     0x72 ∷ 0x6F ∷ 0x77 ∷ 0x20 ∷ 0x6C ∷ 0x69 ∷ 0x6E ∷ 0x65 ∷ 0x20 ∷ 0x73 ∷ 0x74 ∷ 0x61 ∷ 0x72 ∷ 0x74 ∷ 0x20 ∷ 0x65 ∷ 0x6E ∷ 0x64 ∷ 0x20 ∷ 0x77 ∷ 0x69 ∷ 0x64 ∷ 0x74 ∷ 0x68 ∷ 0x0A ∷ []
-
-abbrev pub same : Bytes → Bytes → Bool
-same [] [] = true
-same [] (b ∷ y) = false
-same (a ∷ x) [] = false
-same (a ∷ x) (b ∷ y) = eqb a b && same x y
 
 abbrev pub sheetLimit : ℕ
 sheetLimit = 65536

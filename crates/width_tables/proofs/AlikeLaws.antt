@@ -8,8 +8,8 @@ use lib.ListN.{length, drop}
 use Rattle.chars.specs.Width.{Range}
 use Rattle.chars.specs.Chars.{Character, bytesOf, widthOf}
 use Rattle.chars.specs.Cut.{keptWithin, leadingZeroWidth}
+use Rattle.recording.specs.Lists.{AllOf}
 use Rattle.recording.specs.Recording.{Bytes, Recording}
-use Rattle.recording.proofs.Lists.{AllOf}
 use Rattle.layout.specs.Wrap.{ByteWord, Word, splitLines, byteWords, splitWordsAtWidth, firstFit, Line, lineBytes}
 use Rattle.layout.specs.Layout.{Job, withSecond, alone, writeWrapped, writeReplaced, writeTabsExpanded, Call}
 use Rattle.layout.specs.Layout.{writeTruncatedStart, writeTruncatedEnd, writePaddedStart, writePaddedEnd, writePaddedCentered, writeIndented, writeUnindented}

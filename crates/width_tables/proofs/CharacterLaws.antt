@@ -5,8 +5,8 @@ use mathlib.Core.List.{List, [], _∷_, _++_}
 use Rattle.chars.specs.Width.{Range, ranges, charWidth}
 use Rattle.chars.specs.Chars.{Character, chars, bytesOf}
 use Rattle.chars.proofs.CharsLaws.{bytes-chars, Valid, valid-chars}
+use Rattle.recording.specs.Lists.{AllOf}
 use Rattle.recording.specs.Recording.{Bytes}
-use Rattle.recording.proofs.Lists.{AllOf}
 use Rattle.width_tables.specs.ByTable.{atWidths, charsBy}
 use Rattle.width_tables.specs.Tables.{AsWide}
 

@@ -12,8 +12,9 @@ use Rattle.chars.specs.Chars.{Character, chars, bytesOf}
 use Rattle.chars.proofs.CharsLaws.{bytes-chars, Valid, valid-chars, valid-clean, valid-prefix, valid-suffix}
 use Rattle.chars.proofs.SeamLaws.{Low, chars-low, blank, chars-blank}
 use Rattle.chars.proofs.CutLaws.{longest, beforeLongest, split-longest, kept-from}
+use Rattle.recording.specs.Lists.{AllOf}
 use Rattle.recording.specs.Recording.{Bytes}
-use Rattle.recording.proofs.Lists.{AllOf, all-left, all-right, all-append}
+use Rattle.recording.proofs.Lists.{all-left, all-right, all-append}
 use Rattle.layout.specs.Wrap.{ByteWord, Word, splitLines, byteWords, groupLines}
 use Rattle.layout.proofs.GroupLaws.{concat}
 use Rattle.layout.proofs.WordLaws.{joinWords, unrun-runs, full, blanks, flat, bytes-flat, flat-append, flat-fitted}

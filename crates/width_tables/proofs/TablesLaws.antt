@@ -6,9 +6,9 @@ use lib.ListN.{length}
 use Rattle.chars.specs.Width.{Range, ranges}
 use Rattle.chars.specs.Chars.{Character, chars}
 use Rattle.buffer.specs.Place.{over}
+use Rattle.recording.specs.Lists.{AllOf}
 use Rattle.recording.specs.Recording.{Bytes}
 use Rattle.recording.specs.Outcome.{Outcome, Promised}
-use Rattle.recording.proofs.Lists.{AllOf}
 use Rattle.layout.specs.Layout.{contentAfter}
 use Rattle.layout.specs.Lent.{callIn}
 use Rattle.wrap_lines.specs.WrapBytes.{lentLines}

@@ -8,6 +8,7 @@ use lib.ListN.{length, drop}
 use Rattle.chars.specs.Width.{Range, widthIn}
 use Rattle.chars.specs.Chars.{Character, chars, bytesOf, widthOf}
 use Rattle.chars.specs.Cut.{keptWithin, leadingZeroWidth}
+use Rattle.recording.specs.Lists.{same}
 use Rattle.recording.specs.Recording.{Bytes, Recording, Item, items, encode}
 use Rattle.recording.specs.Edit.{Op, edit}
 use Rattle.recording.specs.Outcome.{Result, Outcome, settle}
@@ -19,7 +20,7 @@ use Rattle.layout.specs.Layout.{writeTruncatedStart, writeTruncatedEnd, writePa
 use Rattle.wrap_lines.specs.WrapBytes.{noRecording, lineRoom, wrapFaults}
 use Rattle.elide.specs.Elide.{cutAtEnd, cutAtStart, fitAtEnd, fitAtStart, Elided, elided, plainResult, plainRoom, plainFaults}
 use Rattle.sheet.specs.Sheet.{SheetLine, sheetLines, valueFrom, breakOf, dataOf, widthField, breakField, dataField, goodLine}
-use Rattle.rows.specs.Rows.{rowText, badRow, sheetHeading, rowsHeading, same, sheetLimit}
+use Rattle.rows.specs.Rows.{rowText, badRow, sheetHeading, rowsHeading, sheetLimit}
 
 -- the characters of a text, each as wide as the table says
 abbrev pub atWidths : List Range → List Character → List Character

@@ -8,8 +8,9 @@ use mathlib.Core.List.{List, [], _∷_}
 use lib.Dec.{eqb}
 use lib.ListN.{length, take, drop, length-append, length-drop}
 use lib.Seq.{length-take-le}
+use Rattle.recording.specs.Lists.{AllOf}
 use Rattle.recording.specs.Edit.{editData}
-use Rattle.recording.proofs.Lists.{AllOf, all-append}
+use Rattle.recording.proofs.Lists.{all-append}
 use Rattle.layout.specs.Wrap.{ontoFirst, splitLines, Word, Line, wholeLen, groupLines, wrappedLine, linesFrom, wrapLines}
 use Rattle.layout.specs.Layout.{wrapOps, writeWrapped, singleOps}
 use Rattle.layout.proofs.StepLaws.{Ordered}
