@@ -234,7 +234,6 @@ fn hidden_from_the_floor() {
     let (mut one, mut other) = (FormatRecorder::new(), FormatRecorder::new());
     write_for_floor(&mut one, &row("980 円", b"\x1b[1m"), "price").unwrap();
     write_for_floor(&mut other, &row("木9é.", b"\x1b[38;5;1m"), "price").unwrap();
-    write_for_office(&mut one, &one.clone(), "price").unwrap();
     assert_eq!((one.data(), &one), (&b"oak ****** b"[..], &other));
 }
 
