@@ -1,5 +1,6 @@
 pub mod CharsLaws
 pub mod CutLaws
+pub mod TrailLaws
 pub mod SeamLaws
 pub mod Table
 pub mod Leads

@@ -1,6 +1,7 @@
 -- The characters of any bytes (document 01, "Characters and widths"): well-formed sequences are read, each maximal ill-formed subpart is one U+FFFD.
 use Prim.Native.Nat.{ℕ, zero, suc, _+_}
 use mathlib.Core.Bool.{Bool, true, cond, _&&_}
+use mathlib.Core.Path.{_≡_}
 use mathlib.Core.List.{List, [], _∷_, _++_}
 use lib.ListN.{take, drop, getD}
 use Rattle.chars.specs.Utf8.{tailLen, complete, codePoint}
@@ -33,6 +34,10 @@ charsFrom (suc k) (b ∷ bs) = charsFrom k bs
 -- the characters of a text, whatever its bytes; backwards is the reversed list
 unfoldable pub chars : List ℕ → List Character
 chars bs = charsFrom 0 bs
+
+-- a place of a text at which a character ends, so that the bytes before it and those from it on are read as they are in the whole text
+abbrev pub Seam : List ℕ → ℕ → Type 0
+Seam s n = chars s ≡ chars (take n s) ++ chars (drop n s)
 
 abbrev pub bytesOf : List Character → List ℕ
 bytesOf [] = []

@@ -1,6 +1,6 @@
 -- UTF-8 as chapter 3 of the Unicode Standard has it: table 3-7 (well-formed byte sequences), table 3-6 (the bits of a code point).
 -- Crate `unicode_standard` has D86 (well-formed texts) and D93b (maximal subparts) in the Standard's words, and shows that `tailLen`, `complete` and `wellFormed` are these.
-use Prim.Native.Nat.{ℕ, suc, _+_, _*_, _%_}
+use Prim.Native.Nat.{ℕ, suc, _+_, _*_, _%_, _≤_}
 use mathlib.Core.Bool.{Bool, false, cond, _&&_}
 use mathlib.Core.List.{List, [], _∷_, tail}
 use lib.Dec.{leb, eqb}
@@ -47,6 +47,10 @@ rowIn (r ∷ rs) b = cond (leads r b) r (rowIn rs b)
 -- the row of a lead byte; a byte that leads no well-formed sequence has the empty row
 unfoldable pub rowOf : ℕ → Row
 rowOf b = rowIn table37 b
+
+-- a byte as the table has them behind the first one of a sequence
+abbrev pub Trails : ℕ → Type 0
+Trails b = (0x80 ≤ b) × (b ≤ 0xBF)
 
 -- how many bytes, one after another, stand in the columns
 abbrev pub matched : Row → List ℕ → ℕ

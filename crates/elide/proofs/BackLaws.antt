@@ -1,67 +1,25 @@
 -- Reading a well-formed text from its end back: the character before a place starts at the last byte there that is not in 80..BF.
--- The idea: table 3-7 has only 80..BF in each column after the first, and none of it in the first one.
-use Prim.Native.Nat.{ℕ, zero, suc, _+_, _-_, _≤_, _<_}
+-- The idea: table 3-7 has only 80..BF in each column after the first (`more-trails`), and none of it in the first one (`no-row`).
+use Prim.Native.Nat.{ℕ, suc, _+_, _-_, _≤_, _<_}
 use native.Mathlib.Omega.{arith}
 use mathlib.Core.Bool.{Bool, true, false, cond, _&&_}
 use mathlib.Core.Path.{_≡_, refl, sym, ap, _∙_, subst}
-use mathlib.Core.List.{List, [], _∷_, _++_, tail, reverse, reverse-cons, reverse-reverse, append-assoc, append-nil}
-use lib.Dec.{leb, T, leb→le}
+use mathlib.Core.List.{List, [], _∷_, _++_, reverse, reverse-cons, reverse-reverse, append-assoc, append-nil}
+use lib.Dec.{leb, T}
 use lib.ListN.{length, drop, getD, length-append}
 use lib.Seq.{drop-append-seam, getD-append-add}
 use borrow.Author.Tests.{leb-true, leb-false, le-leb, lt-leb, eqb-true}
-use Rattle.chars.specs.Utf8.{Row, within, table37, leads, rowIn, rowOf, matched, tailLen, complete}
+use Rattle.chars.specs.Utf8.{table37, rowOf, Trails, complete}
 use Rattle.chars.specs.Chars.{Character, charIn, chars, bytesOf, wide, widthOf, allOk, wellFormed}
 use Rattle.chars.specs.Cut.{keptWithin}
-use Rattle.chars.proofs.Table.{and-left, and-right}
 use Rattle.chars.proofs.ReaderLaws.{below, above}
+use Rattle.chars.proofs.TrailLaws.{more-trails, trails-at}
 use Rattle.chars.proofs.CharsLaws.{Read, Valid, bytes-chars, bytes-append, width-append, width-bound, valid-chars, valid-prefix, valid-suffix, chars-rest, char-next}
 use Rattle.chars.proofs.CutLaws.{keptRest, split-kept, width-reverse}
-use Rattle.elide.specs.Back.{Trails, StartBefore}
+use Rattle.elide.specs.Back.{StartBefore}
 
 -- ── table 3-7
-abbrev trailing : Row → Bool
-trailing [] = true
-trailing (c ∷ cs) = (leb 0x80 (c .low) && leb (c .high) 0xBF) && trailing cs
-
-abbrev allTrailing : List Row → Bool
-allTrailing [] = true
-allTrailing (r ∷ rs) = trailing (tail r) && allTrailing rs
-
-trailing-in : (rs : List Row) (b : ℕ) → T (allTrailing rs) → T (trailing (tail (rowIn rs b)))
-trailing-in [] b t = tt
-trailing-in (r ∷ rs) b t = go (leads r b) (trailing-in rs b (and-right (trailing (tail r)) (allTrailing rs) t))
-  where
-    go : (u : Bool) → T (trailing (tail (rowIn rs b))) → T (trailing (tail (cond u r (rowIn rs b))))
-    go true k = and-left (trailing (tail r)) (allTrailing rs) t
-    go false k = k
-
-row-trailing : (b : ℕ) → T (trailing (tail (rowOf b)))
-unfolding rowOf table37
-row-trailing b = trailing-in table37 b tt
-
-matched-trails : (cs : Row) (more rest : List ℕ) → T (trailing cs) → matched cs (more ++ rest) ≡ length more → (i : ℕ) → i < length more → Trails (getD (more ++ rest) i 0)
-matched-trails [] [] rest t e i h = absurd (omega arith)
-matched-trails [] (b ∷ more) rest t e i h = absurd (omega (arith, e))
-matched-trails (c ∷ cs) [] rest t e i h = absurd (omega arith)
-matched-trails (c ∷ cs) (b ∷ more) rest t e i h =
-    go (within (c .low) (c .high) b) refl e i h (matched-trails cs more rest (and-right (leb 0x80 (c .low) && leb (c .high) 0xBF) (trailing cs) t))
-  where
-    span : T (leb 0x80 (c .low) && leb (c .high) 0xBF)
-    span = and-left (leb 0x80 (c .low) && leb (c .high) 0xBF) (trailing cs) t
-
-    go : (u : Bool) → within (c .low) (c .high) b ≡ u → cond u (suc (matched cs (more ++ rest))) 0 ≡ suc (length more) → (j : ℕ) → j < suc (length more)
-        → (matched cs (more ++ rest) ≡ length more → (k : ℕ) → k < length more → Trails (getD (more ++ rest) k 0)) → Trails (getD (b ∷ (more ++ rest)) j 0)
-    go true w f zero l ih =
-        let x : T (within (c .low) (c .high) b) = subst T (sym w) tt in
-        let low = leb→le (c .low) b (and-left (leb (c .low) b) (leb b (c .high)) x) in
-        let high = leb→le b (c .high) (and-right (leb (c .low) b) (leb b (c .high)) x) in (
-          omega (arith, low, leb→le 0x80 (c .low) (and-left (leb 0x80 (c .low)) (leb (c .high) 0xBF) span)),
-          omega
-              (arith, high, leb→le (c .high) 0xBF (and-right (leb 0x80 (c .low)) (leb (c .high) 0xBF) span)),
-        )
-    go true w f (suc j) l ih = ih (omega (arith, f)) j (omega (arith, l))
-    go false w f j l ih = absurd (omega (arith, f))
-
+-- no sequence begins with a byte that trails
 no-row : (b : ℕ) → Trails b → rowOf b ≡ []
 unfolding rowOf table37
 no-row b h =
@@ -101,12 +59,11 @@ module _ (s : List ℕ) (xs : List Character) (c : Character) (ys : List Charact
       lead-stands (read .first) (read .more) (sym (read .ok) ∙ ok) (subst Trails (ap (λ (n : ℕ). getD s n 0) z ∙ byte-is 0) h)
 
   trail-bytes : (i : ℕ) → length (bytesOf xs) < i → i < length (bytesOf xs) + length (c .text) → Trails (getD s i 0)
-  unfolding tailLen
   trail-bytes i p q =
       let j : ℕ = i - suc (length (bytesOf xs)) in
       let k : i ≡ length (bytesOf xs) + suc j = omega arith in
       let m : j < length (read .more) = omega (arith, ap length (read .text)) in
-      subst Trails (sym (ap (λ (n : ℕ). getD s n 0) k ∙ byte-is (suc j))) (matched-trails (tail (rowOf (read .first))) (read .more) (bytesOf ys) (row-trailing (read .first)) (read .stops) j m)
+      subst Trails (sym (ap (λ (n : ℕ). getD s n 0) k ∙ byte-is (suc j))) (trails-at (read .more) (bytesOf ys) (more-trails c (bytesOf ys) read) j m)
 
   -- the place found from its end back is where it starts
   starts : (r : ℕ) → c .ok ≡ true → StartBefore s (length (bytesOf xs) + length (c .text)) r → r ≡ length (bytesOf xs)

@@ -1,11 +1,9 @@
--- Where the character before a place starts, as the bytes tell it that are read from there back. `proofs/BackLaws.antt` shows that it does in a well-formed text.
-use Prim.Native.Nat.{ℕ, _≤_, _<_}
+-- Where the character before a place starts, as the bytes tell it that are read from there back: at the last byte that does not trail.
+-- `proofs/BackLaws.antt` shows that it does in a well-formed text.
+use Prim.Native.Nat.{ℕ, _<_}
 use mathlib.Core.List.{List}
 use lib.ListN.{getD}
-
--- a byte that no character starts with where the text is well-formed
-abbrev pub Trails : ℕ → Type 0
-Trails b = (0x80 ≤ b) × (b ≤ 0xBF)
+use Rattle.chars.specs.Utf8.{Trails}
 
 -- r is the last place before `at` whose byte does not trail, or the first place
 pub record StartBefore (s : List ℕ) (at r : ℕ) : Type 0 where

@@ -21,7 +21,7 @@ run-append : (xs ys : List Call) (r : Recording) → run (xs ++ ys) r ≡ run ys
 run-append [] ys r = refl
 run-append (x ∷ xs) ys r = run-append xs ys (after x r)
 
-bal-run : (xs ys : List Call) (r : Recording) → balanced r ≡ true → Proper (xs ++ ys) r → balanced (run xs r) ≡ true
+pub bal-run : (xs ys : List Call) (r : Recording) → balanced r ≡ true → Proper (xs ++ ys) r → balanced (run xs r) ≡ true
 bal-run [] ys r h p = h
 bal-run (x ∷ xs) ys r h p = bal-run xs ys (after x r) (bal-after x r h (p .0)) (p .1)
 

@@ -79,11 +79,11 @@ indent-law p start (c ∷ cs) = go (start && not (eqb (c .val) 0x0A)) (indent-la
     go false e = ap (λ (l : List Coloured). c ∷ l) e
 
 -- ── replacing
-bal-bytes : (d : Bytes) → balancedFrom 0 (byteItems d) ≡ true
+pub bal-bytes : (d : Bytes) → balancedFrom 0 (byteItems d) ≡ true
 bal-bytes [] = refl
 bal-bytes (b ∷ d) = bal-bytes d
 
-under-bytes : (ls : List Bytes) (d : Bytes) → under ls (colouredFrom [] (byteItems d)) ≡ withLabels ls d
+pub under-bytes : (ls : List Bytes) (d : Bytes) → under ls (colouredFrom [] (byteItems d)) ≡ withLabels ls d
 under-bytes ls [] = refl
 under-bytes ls (b ∷ d) = rw (append-nil ls, under-bytes ls d)
 

@@ -149,7 +149,7 @@ Bare (raw t ∷ is) = ⊥
 abbrev pub BarePuts : List Op → Type 0
 BarePuts ops = AllPuts Bare ops
 
-bare-bytes : (d : Bytes) → Bare (byteItems d)
+pub bare-bytes : (d : Bytes) → Bare (byteItems d)
 bare-bytes [] = tt
 bare-bytes (b ∷ d) = bare-bytes d
 

@@ -6,9 +6,9 @@ use mathlib.Core.Bool.{Bool, true, false, cond}
 use mathlib.Core.Path.{_≡_, refl, sym, ap, _∙_}
 use mathlib.Core.List.{List, [], _∷_, _++_, append-nil, append-assoc}
 use lib.ListN.{length, take, drop}
-use Rattle.chars.specs.Chars.{Character, chars, bytesOf, widthOf, textWidth}
+use Rattle.chars.specs.Chars.{Character, chars, Seam, bytesOf, widthOf, textWidth}
 use Rattle.chars.proofs.CharsLaws.{bytes-chars}
-use Rattle.chars.proofs.SeamLaws.{Seam, Low, width-none, seam-low, seam-after}
+use Rattle.chars.proofs.SeamLaws.{Low, width-none, seam-low, seam-after}
 use Rattle.layout.specs.Tabs.{spaces}
 use Rattle.layout.proofs.TabLaws.{chars-spaces, width-spaces}
 use Rattle.layout.proofs.WordLaws.{length-spaces}

@@ -12,12 +12,12 @@ use lib.ListN.{length, take, drop, getD, length-append, length-drop, drop-of-len
 use lib.Seq.{drop-cons, drop-drop, drop-append-seam}
 use borrow.Rule.Slice.PartAt.{part-to-end}
 use borrow.Author.Tests.{leb-false, leb-true, lt-leb, eqb-true, ne-eqb}
-use Rattle.chars.specs.Chars.{Character, charIn, chars, bytesOf, wide, widthOf, textWidth}
+use Rattle.chars.specs.Chars.{Character, charIn, chars, Seam, bytesOf, wide, widthOf, textWidth}
 use Rattle.chars.specs.Cut.{keptWithin, leadingZeroWidth, truncateEndPos, truncateEndWidth, zeroWidthLen}
 use Rattle.chars.specs.declared.Seen.{Seen}
 use Rattle.chars.proofs.CharsLaws.{chars-end, char-next, char-some, char-inside, bytes-chars, Valid, valid-chars, valid-clean}
 use Rattle.chars.proofs.FoldLaws as folds
-use Rattle.chars.proofs.SeamLaws.{Seam, width-none, seam-start, seam-next}
+use Rattle.chars.proofs.SeamLaws.{width-none, seam-start, seam-next}
 use Rattle.layout.specs.Wrap.{lineOf, lineWidth}
 use Rattle.layout.proofs.WidthLaws.{zero-wide}
 use Rattle.line.specs.Rest.{restLines, lineText, endsWord, wordText, leading, space, spaceLen, oneChar, headOf, unreached, limitOf, going, firstHead, headLen, headWidth}

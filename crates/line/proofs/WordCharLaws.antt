@@ -1,17 +1,16 @@
 -- The characters of a word, read where more bytes come after the word: no character goes on past a 20 or a 0A.
--- The idea: a byte that continues a sequence is at least 80 (`high`).
+-- The idea: a byte that continues a sequence is at least 80 (`column-low`).
 use Prim.Native.Nat.{ℕ, zero, suc, _-_, _≤_, _<_}
 use native.Mathlib.Omega.{arith}
-use mathlib.Core.Bool.{Bool, true, false, cond, _&&_, _||_, false≢true}
+use mathlib.Core.Bool.{Bool, true, false, cond, _||_, false≢true}
 use mathlib.Core.Path.{_≡_, refl, sym, ap, _∙_}
 use mathlib.Core.List.{List, [], _∷_, tail}
-use lib.Dec.{leb, eqb, T, leb→le}
+use lib.Dec.{eqb, T}
 use lib.ListN.{length, take, drop}
 use borrow.Author.Tests.{lt-leb, eqb-true}
 use Rattle.chars.specs.Utf8.{Row, within, rowOf, matched, tailLen}
 use Rattle.chars.specs.Chars.{charAt}
-use Rattle.chars.proofs.Table.{and-left, and-right}
-use Rattle.chars.proofs.SeamLaws.{allHigh, high}
+use Rattle.chars.proofs.TrailLaws.{trailing, row-trailing, column-low, columns-on}
 use Rattle.line.specs.Rest.{endsWord, wordText}
 
 -- ── what follows a byte of a word
@@ -23,12 +22,12 @@ end-low x e = go (eqb x 0x20) refl (eqb x 0x0A) refl e
     go false p true q e = omega (arith, eqb-true x 0x0A q)
     go false p false q e = absurd (false≢true e)
 
-matched-word : (cs : Row) (r : List ℕ) → T (allHigh cs) → (matched cs (wordText r) ≡ matched cs r) × (take (matched cs r) (wordText r) ≡ take (matched cs r) r)
+matched-word : (cs : Row) (r : List ℕ) → T (trailing cs) → (matched cs (wordText r) ≡ matched cs r) × (take (matched cs r) (wordText r) ≡ take (matched cs r) r)
 unfolding wordText
 matched-word [] r h = (refl, refl)
 matched-word (c ∷ cs) [] h = (refl, refl)
 matched-word (c ∷ cs) (x ∷ r) h =
-    go (endsWord x) refl (within (c .low) (c .high) x) refl (leb→le 0x80 (c .low) (and-left (leb 0x80 (c .low)) (allHigh cs) h)) (matched-word cs r (and-right (leb 0x80 (c .low)) (allHigh cs) h))
+    go (endsWord x) refl (within (c .low) (c .high) x) refl (column-low c cs h) (matched-word cs r (columns-on c cs h))
   where
     go : (s : Bool) → endsWord x ≡ s → (t : Bool) → within (c .low) (c .high) x ≡ t → 0x80 ≤ c .low → (matched cs (wordText r) ≡ matched cs r)
         × (take (matched cs r) (wordText r) ≡ take (matched cs r) r)
@@ -41,7 +40,7 @@ matched-word (c ∷ cs) (x ∷ r) h =
 
 tail-word : (b : ℕ) (r : List ℕ) → (tailLen b (wordText r) ≡ tailLen b r) × (take (tailLen b r) (wordText r) ≡ take (tailLen b r) r)
 unfolding tailLen
-tail-word b r = matched-word (tail (rowOf b)) r (high b)
+tail-word b r = matched-word (tail (rowOf b)) r (row-trailing b)
 
 pub char-word : (b : ℕ) (r : List ℕ) → charAt b (wordText r) ≡ charAt b r
 unfolding charAt

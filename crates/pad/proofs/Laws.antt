@@ -4,13 +4,12 @@ use mathlib.Core.List.{List, [], _∷_, _++_, append-assoc, append-nil}
 use Prim.Native.Nat.{ℕ, zero, suc, _+_, _-_, _≤_, _<_}
 use native.Mathlib.Numerals.{add-one}
 use native.Mathlib.Omega.{arith}
-use lib.ListN.{length, take, drop, set, getD, length-append}
-use lib.Seq.{sets-eq, drop-drop, drop-cons}
+use lib.ListN.{length, take, drop, getD, replicate, length-append, length-replicate}
+use lib.Seq.{drop-cons}
 use Rattle.buffer.specs.Place.{overAt, part}
+use Rattle.buffer.proofs.Laws.{over-none, over-twice}
 use Rattle.recording.specs.Recording.{Item, byteItems}
 use Rattle.recording.proofs.ItemsLaws.{bytes-append}
-use Rattle.writer.proofs.Laws.{over-twice}
-use Rattle.writer.proofs.Carry.{over-none}
 use Rattle.layout.specs.Layout.{copies}
 use Rattle.pad.specs.Padding.{repeated, onceIf}
 
@@ -47,19 +46,13 @@ repeated-none zero = refl
 repeated-none (suc n) = repeated-none n
 
 -- ── a single byte
-pub length-single : (n b : ℕ) → length (repeated n (b ∷ [])) ≡ n
+pub repeated-byte : (n b : ℕ) → repeated n (b ∷ []) ≡ replicate n b
 unfolding repeated
-length-single zero b = refl
-length-single (suc n) b = ap suc (length-single n b)
+repeated-byte zero b = refl
+repeated-byte (suc n) b = ap (λ (l : List ℕ). b ∷ l) (repeated-byte n b)
 
-one-store : (l : List ℕ) (k b : ℕ) → k < length l → set l k b ≡ overAt k (b ∷ []) l
-unfolding overAt
-one-store l k b h = sets-eq (b ∷ []) l k (omega arith) ∙ append-assoc (take k l) (b ∷ []) (drop (k + 1) l) ∙ rw drop-drop
-
-pub store-next : (at i b : ℕ) (l old : List ℕ) → l ≡ overAt at (repeated i (b ∷ [])) old → at ≤ length old → at + i < length l → set l (at + i) b ≡ overAt at (repeated (i + 1) (b ∷ [])) old
-store-next at i b l old e h m =
-    one-store l (at + i) b m ∙ ap (λ (x : List ℕ). overAt (at + i) (b ∷ []) x) e
-    ∙ ap (λ (n : ℕ). overAt (at + n) (b ∷ []) (overAt at (repeated i (b ∷ [])) old)) (sym (length-single i b)) ∙ repeated-next at i (b ∷ []) old h
+pub length-single : (n b : ℕ) → length (repeated n (b ∷ [])) ≡ n
+length-single n b = ap length (repeated-byte n b) ∙ length-replicate n b
 
 -- ── a piece of no byte, and one of a single byte
 pub piece-none : (a b n at : ℕ) (s old : List ℕ) → a ≡ b → (at ≡ at + length (repeated n (part a b s))) × (old ≡ overAt at (repeated n (part a b s)) old)

@@ -2,6 +2,7 @@
 // Each keeps one promise, `Leaves` (layout), for its job. All three are `write_padded` with a side.
 // `bytes`, `numbers` and `texts` are the lent buffers; `content`, `entries` and `text` the recording that is padded.
 use buffer::put;
+use buffer::put_byte_times;
 use chars::LEADS;
 use chars::text_width;
 use recording::Answer;
@@ -34,19 +35,6 @@ enum Side {
     End,
     // Half of it, rounded down, before the content and the rest behind it.
     Centered,
-}
-
-// Writes one byte n times: a plain loop of stores, which compiles to wide ones.
-fn put_byte_times(out: &mut [u8], at: usize, b: u8, n: usize) -> usize
-    requires { ⌜ at + n ≤ length (now out) ⌝ }
-    ensures { λ r. ⌜ (r ≡ at + n) × (now (out .exit) ≡ overAt at (repeated n (b ∷ [])) (now (out .entry))) ⌝ }
-{
-    let mut i = 0;
-    while i < n {
-        out[at + i] = b;
-        i += 1;
-    }
-    at + n
 }
 
 // Writes the bytes of `from` from a up to b n times, copy by copy.

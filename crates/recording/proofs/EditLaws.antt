@@ -249,14 +249,14 @@ back-add m n (pop ∷ is) = back-add m n is
 back-add m n (raw t ∷ is) = back-add m n is
 
 -- ── steps put together: of two that keep or skip one is made, and before the next byte skipping is keeping
-only-append : (a b : List Item) → entriesOnly (a ++ b) ≡ entriesOnly a ++ entriesOnly b
+pub only-append : (a b : List Item) → entriesOnly (a ++ b) ≡ entriesOnly a ++ entriesOnly b
 only-append [] b = refl
 only-append (byte x ∷ a) b = only-append a b
 only-append (push l ∷ a) b = ap (λ (r : List Item). push l ∷ r) (only-append a b)
 only-append (pop ∷ a) b = ap (λ (r : List Item). pop ∷ r) (only-append a b)
 only-append (raw t ∷ a) b = ap (λ (r : List Item). raw t ∷ r) (only-append a b)
 
-only-entries : (is : List Item) → entriesOnly (front 0 is) ≡ front 0 is
+pub only-entries : (is : List Item) → entriesOnly (front 0 is) ≡ front 0 is
 only-entries [] = refl
 only-entries (byte x ∷ is) = refl
 only-entries (push l ∷ is) = ap (λ (r : List Item). push l ∷ r) (only-entries is)

@@ -92,9 +92,12 @@ module _ (f : Faults) (o : Room) (x : Result) where
             stops-sizes g = rw (a, b, c, d, e, g)
 
   -- ── what it then answers and leaves
-  pub is-refused : (r : Refusal) → refusalOf f o x ≡ numberOf r → settle f o x ≡ refused (numberOf r)
+  pub refused-by : (n : ℕ) → 0 < n → refusalOf f o x ≡ n → settle f o x ≡ refused n
   unfolding settle
-  is-refused r e = let z : eqb (numberOf r) 0 ≡ false = ne-eqb (numberOf r) 0 (λ q. omega (arith, number-pos r, q)) in rw (e, z)
+  refused-by n h e = rw (e, ne-eqb n 0 (λ q. omega (arith, h, q)))
+
+  pub is-refused : (r : Refusal) → refusalOf f o x ≡ numberOf r → settle f o x ≡ refused (numberOf r)
+  is-refused r e = refused-by (numberOf r) (number-pos r) e
 
   pub is-done : refusalOf f o x ≡ 0 → settle f o x ≡ done x
   unfolding settle

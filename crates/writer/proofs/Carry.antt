@@ -5,10 +5,10 @@ use mathlib.Core.Bool.{false}
 use mathlib.Core.List.{List, [], _∷_, _++_, append-assoc, append-nil}
 use Prim.Native.Nat.{ℕ, zero, suc, _+_, _-_, _≤_, _<_}
 use native.Mathlib.Omega.{arith}
-use lib.ListN.{length, take, drop, getD, length-drop, length-take, take-append-drop}
+use lib.ListN.{length, take, drop, getD, length-drop, length-take}
 use lib.Seq.{drop-cons, drop-drop}
 use Rattle.buffer.specs.Place.{over, overAt, part}
-use Rattle.buffer.proofs.Laws.{length-part}
+use Rattle.buffer.proofs.Laws.{over-none, length-part}
 use Rattle.recording.specs.declared.Entry.{Entry}
 use Rattle.recording.specs.Recording.{entriesOf, numbersOf, partOf, Item, byte, push, pop, raw, itemOf, byteItems, itemsFrom, dataOf, textOf, entriesFrom}
 use Rattle.recording.specs.Edit.{front, back, entriesOnly}
@@ -85,10 +85,6 @@ entries-none (b ∷ p) d t = entries-none p (suc d) t
 pub count-none : (p : List ℕ) → entryCount (byteItems p) ≡ 0
 count-none [] = refl
 count-none (b ∷ p) = count-none p
-
-pub over-none : (at : ℕ) (old : List ℕ) → overAt at [] old ≡ old
-unfolding overAt over
-over-none at old = take-append-drop at old
 
 -- ── what the leaves wrote, as one equation
 pub add-nil : (o : Out) → o ≡ add [] o

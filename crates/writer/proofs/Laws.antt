@@ -8,8 +8,9 @@ use Prim.Native.Nat.{ℕ, zero, suc, _+_, _-_, _*_, _≤_}
 use native.Mathlib.Numerals.{add-one, add-two, add-three}
 use native.Mathlib.Omega.{arith}
 use lib.ListN.{length, take, drop, set, length-append, length-drop, length-take}
-use lib.Seq.{sets-eq, drop-drop, take-at, drop-at, length-take-le}
+use lib.Seq.{sets-eq, drop-drop}
 use Rattle.buffer.specs.Place.{over, overAt, part}
+use Rattle.buffer.proofs.Laws.{over-twice}
 use Rattle.recording.specs.declared.Entry.{Entry}
 use Rattle.recording.specs.Recording.{numbersOf, partOf, Item, itemOf, dataOf, textOf, entriesFrom}
 use Rattle.recording.specs.Refusals.{badShape}
@@ -69,22 +70,6 @@ text-written at text old e b =
     ap (λ (n : ℕ). overAt at (take n (drop (e .start) text)) old) h ∙ ap (λ (x : List ℕ). overAt at x old) (sym (text-of-entry text e b))
 
 -- ── items put at the ends
-pub over-twice : (at : ℕ) (a b old : List ℕ) → at ≤ length old → overAt (at + length a) b (overAt at a old) ≡ overAt at (a ++ b) old
-unfolding overAt
-over-twice at a b old h =
-    let l : length (take at old) ≡ at = length-take-le at old h in
-    let m : length (take at old ++ a) ≡ at + length a = length-append (take at old) a ∙ ap (λ (n : ℕ). n + length a) l in
-    rw (
-      ← append-assoc (take at old) a (drop (length a) (drop at old)),
-      take-at (take at old ++ a) (drop (length a) (drop at old)) (at + length a) m,
-      drop-at (take at old ++ a)
-          (drop (length a) (drop at old)) (at + length a) m,
-      length-append a b,
-      drop-drop,
-      append-assoc,
-    )
-    (ap (λ (x : List ℕ). take at old ++ x) (sym (append-assoc a b (drop (length a + length b) (drop at old)))))
-
 pub same-out : (a b : Out) → a .dataBytes ≡ b .dataBytes → a .entryNumbers ≡ b .entryNumbers → a .text ≡ b .text → a .d ≡ b .d → a .e ≡ b .e → a .t ≡ b .t → a ≡ b
 same-out a b p q r s t u = λ i. record { dataBytes = p i; entryNumbers = q i; text = r i; d = s i; e = t i; t = u i }
 

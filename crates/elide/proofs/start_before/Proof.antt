@@ -8,7 +8,7 @@ use Prim.Native.Nat.{ℕ, _-_, _≤_, _<_}
 use lib.Dec.{leb}
 use lib.ListN.{length, getD}
 use borrow.Author.Tests.{leb-true, leb-false}
-use Rattle.elide.specs.Back.{Trails}
+use Rattle.chars.specs.Utf8.{Trails}
 use Rattle.elide.proofs.start_before.Statement.{statement}
 use Rattle.elide.proofs.start_before.Tie as tie
 use Rattle.elide.proofs.start_before.Reads as reads

@@ -7,12 +7,12 @@ use mathlib.Core.List.{List}
 use lib.ListN.{length, getD}
 use Rattle.buffer.specs.Place.{overAt}
 use Rattle.pad.specs.Padding.{repeated}
-use Rattle.pad.proofs.Laws.{piece-none, piece-one, length-single}
+use Rattle.pad.proofs.Laws.{piece-none, piece-one, repeated-byte, length-single}
 use Rattle.pad.proofs.put_piece.Statement.{statement}
 use Rattle.pad.proofs.put_piece.Tie as tie
 use Rattle.pad.proofs.put_piece.Reads as reads
 use Rattle.pad.proofs.put_piece.Lts as lts
-use Rattle.pad.proofs.put_byte_times.Reads as put-byte-times-reads
+use Rattle.buffer.proofs.put_byte_times.Reads as put-byte-times-reads
 use Rattle.pad.proofs.put_copies.Reads as put-copies-reads
 
 returns : tie.Need-returns
@@ -40,7 +40,7 @@ returns-2 c =
     let e = piece-one (a .a) (a .b) (a .from .now) (c .before .before .before .before .before .if2 .taken) (c .before .before .before .before .before .before .before .before .before .pre .1) in
     let r = c .before .before .put-byte-times .ensures in (
       r .0 ∙ ap (λ (m : ℕ). a .at + m) (sym (length-single (a .n) _)) ∙ ap (λ (l : List ℕ). a .at + length (repeated (a .n) l)) (sym e),
-      r .1 ∙ ap (λ (l : List ℕ). overAt (a .at) (repeated (a .n) l) (a .out .now)) (sym e),
+      r .1 ∙ ap (λ (l : List ℕ). overAt (a .at) l (a .out .now)) (sym (repeated-byte (a .n) _)) ∙ ap (λ (l : List ℕ). overAt (a .at) (repeated (a .n) l) (a .out .now)) (sym e),
     )
 
 put-copies-requires : tie.Need-put-copies-requires

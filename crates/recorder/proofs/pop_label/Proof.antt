@@ -1,7 +1,7 @@
 -- `pop_label`: refused as the outcome has it (AddLaws), or the four numbers at the entries' end are the result over the buffer (`entry-left`).
 use native.Mathlib.Omega.{arith}
 use borrow.Author.Needs.{needs}
-use Rattle.writer.proofs.Carry.{over-none}
+use Rattle.buffer.proofs.Laws.{over-none}
 use Rattle.recorder.proofs.AddLaws.{check-refused, is-inside, limits, too-large, accepted, fits, add-refused, add-done, entry-sizes, entry-left}
 use Rattle.recording.specs.Outcome.{roomIn}
 use Rattle.recorder.specs.Recorder.{lentOf, leaves, usedOf, addFaults, popped, withEntry, withPop}

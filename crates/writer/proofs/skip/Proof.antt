@@ -1,7 +1,7 @@
 -- `skip`: as `keep`, with the entries alone written (`entriesOnly`).
 use native.Mathlib.Omega.{arith}
 use borrow.Author.Needs.{needs}
-use Rattle.writer.proofs.Carry.{State, TurnRoom, room-turn, turnItems, turn-wrote, bytes-wrote, over-none, add-nil, long-now, whole, ok, entry-is, fits-turn, step, finish}
+use Rattle.writer.proofs.Carry.{State, TurnRoom, room-turn, turnItems, turn-wrote, bytes-wrote, add-nil, long-now, whole, ok, entry-is, fits-turn, step, finish}
 use Rattle.writer.proofs.Carry.{only-append, only-bytes, only-none, only-entry}
 use Rattle.writer.specs.Write.{out, add, Fits, Ready, left, placeOf, itemAt}
 use Rattle.writer.specs.declared.Cursor.{Cursor}
@@ -10,6 +10,7 @@ use Rattle.recording.specs.Edit.{front, back, entriesOnly}
 use Rattle.recording.specs.Recording.{Item, numbersOf, entriesOf, textOf, entriesFrom}
 use Rattle.recording.specs.declared.Entry.{Entry}
 use Rattle.buffer.specs.Place.{overAt, part}
+use Rattle.buffer.proofs.Laws.{over-none}
 use Rattle.buffer.specs.LendsOn.{LendsOn, ownArrays, acts, touches, loops, calls}
 use lib.ListN.{length, drop}
 use mathlib.Core.Path.{_≡_, refl, sym, ap, _∙_}

@@ -1,22 +1,20 @@
--- A loop of stores: after i of them the buffer is the old one with the byte i times from `at` on, and one store more is `store-next`.
+-- A loop of stores: after i of them the buffer is the old one with the byte i times from `at` on, and one store more is `store-next`. All of them are one run more (`run-held`).
 use native.Mathlib.Omega.{arith}
 use borrow.Author.Needs.{needs}
-use Rattle.pad.proofs.Laws.{repeated-first}
-use Prim.Native.Nat.{ℕ, _-_, _≤_}
-use mathlib.Core.Path.{_≡_, ap, _∙_}
-use mathlib.Core.List.{[], _∷_}
-use lib.ListN.{length}
+use Prim.Native.Nat.{ℕ, _+_, _-_, _≤_}
+use mathlib.Core.Path.{_≡_, sym, ap, _∙_}
+use lib.ListN.{length, replicate, length-replicate}
 use Rattle.buffer.specs.Place.{overAt}
-use Rattle.pad.specs.Padding.{repeated}
-use Rattle.pad.proofs.Laws.{store-next}
-use Rattle.pad.proofs.put_byte_times.Statement.{statement}
-use Rattle.pad.proofs.put_byte_times.Tie as tie
-use Rattle.pad.proofs.put_byte_times.Reads as reads
-use Rattle.pad.proofs.put_byte_times.Lts as lts
+use Rattle.buffer.proofs.Laws.{over-none, store-next}
+use Rattle.buffer.proofs.HeldLaws.{run-held}
+use Rattle.buffer.proofs.put_byte_times.Statement.{statement}
+use Rattle.buffer.proofs.put_byte_times.Tie as tie
+use Rattle.buffer.proofs.put_byte_times.Reads as reads
+use Rattle.buffer.proofs.put_byte_times.Lts as lts
 
 abbrev Inv-loop : tie.InvT-loop
 Inv-loop out₀ at b n i₀ out i =
-    (i ≤ n) × (length out ≡ length out₀) × (out ≡ overAt at (repeated i (b ∷ [])) out₀)
+    (i ≤ n) × (length out ≡ length out₀) × (out ≡ overAt at (replicate i b) out₀)
 
 abbrev μ-loop : tie.MeasureT-loop
 μ-loop out₀ at b n i₀ out i =
@@ -24,7 +22,7 @@ abbrev μ-loop : tie.MeasureT-loop
 
 loop-holds : tie.Need-loop-holds Inv-loop μ-loop
 loop-holds c =
-    (search needs, search needs, repeated-first _ _ _)
+    (search needs, search needs, sym (over-none _ _))
 
 add-out : tie.Need-add-out Inv-loop μ-loop
 add-out c = search needs
@@ -51,8 +49,10 @@ same-length c = search needs
 returns : tie.Need-returns Inv-loop μ-loop
 returns c =
     let l = c .before .loop in
-    let e : l .i ≡ c .before .before .args .n = omega arith in
-    (search needs, l .inv .2 ∙ ap (λ (m : ℕ). overAt (c .before .before .args .at) (repeated m (c .before .before .args .b ∷ [])) (c .before .before .args .out .now)) e)
+    let a = c .before .before .args in
+    let e : l .i ≡ a .n = omega arith in
+    let stored = l .inv .2 ∙ ap (λ (m : ℕ). overAt (a .at) (replicate m (a .b)) (a .out .now)) e in
+    (search needs, stored, run-held (a .at) (a .at + a .n) (replicate (a .n) (a .b)) (a .out .now) (l .out) stored (omega (arith, length-replicate (a .n) (a .b))))
 
 pub put-byte-times-spec : {M : Type 1} → statement M
 put-byte-times-spec =

@@ -1,0 +1,3 @@
+pub mod PlacedLaws
+pub mod FateLaws
+pub mod RunLaws

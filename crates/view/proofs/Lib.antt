@@ -1,0 +1,13 @@
+pub mod PinsHold
+pub mod DropLaws
+pub mod AlikeLaws
+pub mod ColourLaws
+pub mod SizeLaws
+pub mod NewlineLaws
+pub mod OutcomeLaws
+pub mod ReflLaws
+pub mod Twins
+pub mod OpenLaws
+pub mod PassLaws
+pub mod AbsentLaws
+pub mod Shown

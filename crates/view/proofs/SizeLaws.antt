@@ -1,0 +1,187 @@
+-- The lengths of what the floor is left, for code that settles 9 and 21 to 23 before it writes: data by the characters (`floor-data`, `floor-data-length`), entries and text by the content without
+-- the raw sequences that go (`floor-entries`, `floor-text`). None is longer than what the office is left (`data-bound`, `entries-bound`, `text-bound`).
+-- The idea for data: what is two columns wide takes three bytes in UTF-8, so no character has more columns than bytes.
+use Prim.Native.Nat.{ℕ, suc, _+_, _*_, _≤_, _<_}
+use native.Mathlib.Omega.{arith}
+use mathlib.Core.Bool.{Bool, true, false, cond, _&&_, _||_, not, false≢true}
+use mathlib.Core.Path.{_≡_, refl, sym, ap, _∙_}
+use mathlib.Core.List.{List, [], _∷_, _++_, tail}
+use lib.Dec.{leb, eqb}
+use lib.ListN.{length, drop, length-append, length-replicate}
+use lib.Seq.{take-append-seam, drop-append-seam}
+use borrow.Author.Tests.{leb-true}
+use Rattle.chars.specs.Utf8.{Row, span, within, table37, leads, rowIn, rowOf, complete, codePoint}
+use Rattle.chars.specs.Width.{Range, ranges, widthIn, charWidth}
+use Rattle.chars.specs.Chars.{Character, chars, bytesOf, wide}
+use Rattle.chars.proofs.CharsLaws.{Read, Valid, bytes-chars, valid-chars, width-two}
+use Rattle.chars.proofs.RangeLaws.{bounds}
+use Rattle.recording.specs.Recording.{Bytes, Recording, Item, byte, push, pop, raw, items, encode, textOf}
+use Rattle.recording.specs.Coloured.{Coloured, coloured}
+use Rattle.recording.specs.Edit.{Op, edit, editData}
+use Rattle.recording.proofs.EditLaws.{edit-data}
+use Rattle.recording.proofs.ItemsLaws.{data-items, data-bytes}
+use Rattle.recording.proofs.Lists.{and-left, and-right}
+use Rattle.recording.proofs.SizeLaws.{entryCount, count-numbers, textLen, edit-count, edit-text}
+use Rattle.layout.proofs.StripLaws.{no-puts}
+use Rattle.view.specs.View.{among, hiddenFrom, hidden, stars, floorOps, dropRaws, floorItems, floorOf}
+use Rattle.view.proofs.DropLaws.{bare-floor, drop-data}
+
+-- ── data: for each character its stars or its bytes
+abbrev pub floorBytes : List Bool → List Character → Bytes
+floorBytes [] cs = []
+floorBytes (h ∷ hs) [] = []
+floorBytes (true ∷ hs) (c ∷ cs) = stars c ++ floorBytes hs cs
+floorBytes (false ∷ hs) (c ∷ cs) = c .text ++ floorBytes hs cs
+
+-- and how many these are: one number to add for each character
+abbrev pub floorLength : List Bool → List Character → ℕ
+floorLength [] cs = 0
+floorLength (h ∷ hs) [] = 0
+floorLength (true ∷ hs) (c ∷ cs) = wide c + floorLength hs cs
+floorLength (false ∷ hs) (c ∷ cs) = length (c .text) + floorLength hs cs
+
+edit-bytes : (hs : List Bool) (cs : List Character) → length hs ≡ length cs → editData (floorOps hs cs) (bytesOf cs) ≡ floorBytes hs cs
+edit-bytes [] [] e = refl
+edit-bytes [] (c ∷ cs) e = absurd (omega (arith, e))
+edit-bytes (h ∷ hs) [] e = absurd (omega (arith, e))
+edit-bytes (true ∷ hs) (c ∷ cs) e = rw (data-bytes (stars c), drop-append-seam (c .text) (bytesOf cs), edit-bytes hs cs (omega (arith, e)))
+edit-bytes (false ∷ hs) (c ∷ cs) e = rw (take-append-seam (c .text) (bytesOf cs), drop-append-seam (c .text) (bytesOf cs), edit-bytes hs cs (omega (arith, e)))
+
+length-floor : (hs : List Bool) (cs : List Character) → length (floorBytes hs cs) ≡ floorLength hs cs
+length-floor [] cs = refl
+length-floor (h ∷ hs) [] = refl
+length-floor (true ∷ hs) (c ∷ cs) = omega (arith, length-append (stars c) (floorBytes hs cs), length-replicate {A = ℕ} (wide c) 0x2A, length-floor hs cs)
+length-floor (false ∷ hs) (c ∷ cs) = omega (arith, length-append (c .text) (floorBytes hs cs), length-floor hs cs)
+
+pub length-hidden : (l : Bytes) (cs : List Character) (xs : List Coloured) → length (hiddenFrom l cs xs) ≡ length cs
+length-hidden l [] xs = refl
+length-hidden l (c ∷ cs) xs = ap suc (length-hidden l cs (drop (length (c .text)) xs))
+
+-- ── entries and text: stars have none
+module _ (l : Bytes) (r : Recording) where
+  abbrev ops : List Op
+  ops = floorOps (hidden l r) (chars (r .dataBytes))
+
+  pub floor-data : floorOf l r .dataBytes ≡ floorBytes (hidden l r) (chars (r .dataBytes))
+  unfolding encode floorItems hidden
+  floor-data =
+      edit-data ops (dropRaws l [] (items r)) ∙ ap (editData ops) (drop-data l [] (items r) ∙ data-items r ∙ sym (bytes-chars (r .dataBytes)))
+      ∙ edit-bytes (hidden l r) (chars (r .dataBytes)) (length-hidden l (chars (r .dataBytes)) (coloured r))
+
+  pub floor-data-length : length (floorOf l r .dataBytes) ≡ floorLength (hidden l r) (chars (r .dataBytes))
+  floor-data-length = ap length floor-data ∙ length-floor (hidden l r) (chars (r .dataBytes))
+
+  pub floor-entries : length (floorOf l r .entryNumbers) ≡ 4 * entryCount (dropRaws l [] (items r))
+  unfolding encode floorItems
+  floor-entries =
+      count-numbers (edit ops (dropRaws l [] (items r))) 0 0
+      ∙ ap (λ (n : ℕ). 4 * n) (omega (arith, edit-count ops (dropRaws l [] (items r)), no-puts ops (bare-floor (hidden l r) (chars (r .dataBytes))) .0))
+
+  pub floor-text : length (floorOf l r .text) ≡ textLen (dropRaws l [] (items r))
+  unfolding encode floorItems
+  floor-text = omega (arith, edit-text ops (dropRaws l [] (items r)), no-puts ops (bare-floor (hidden l r) (chars (r .dataBytes))) .1)
+
+-- ── none is longer than what the office is left
+raw-count : (t : Bool) (x : Bytes) (is : List Item) → entryCount (cond t [] (raw x ∷ []) ++ is) ≤ suc (entryCount is)
+raw-count true x is = omega arith
+raw-count false x is = omega arith
+
+raw-text : (t : Bool) (x : Bytes) (is : List Item) → textLen (cond t [] (raw x ∷ []) ++ is) ≤ length x + textLen is
+raw-text true x is = omega arith
+raw-text false x is = omega (arith, length-append x (textOf is))
+
+drop-count : (l : Bytes) (s : List Bytes) (is : List Item) → entryCount (dropRaws l s is) ≤ entryCount is
+drop-count l s [] = omega arith
+drop-count l s (byte b ∷ is) = drop-count l s is
+drop-count l s (push k ∷ is) = omega (arith, drop-count l (k ∷ s) is)
+drop-count l s (pop ∷ is) = omega (arith, drop-count l (tail s) is)
+drop-count l s (raw t ∷ is) = omega (arith, raw-count (among l s) t (dropRaws l s is), drop-count l s is)
+
+drop-text : (l : Bytes) (s : List Bytes) (is : List Item) → textLen (dropRaws l s is) ≤ textLen is
+drop-text l s [] = omega arith
+drop-text l s (byte b ∷ is) = drop-text l s is
+drop-text l s (push k ∷ is) = omega (arith, drop-text l (k ∷ s) is, length-append k (textOf is), length-append k (textOf (dropRaws l (k ∷ s) is)))
+drop-text l s (pop ∷ is) = drop-text l (tail s) is
+drop-text l s (raw t ∷ is) = omega (arith, raw-text (among l s) t (dropRaws l s is), drop-text l s is, length-append t (textOf is))
+
+-- below 1100 nothing is two columns wide
+abbrev lowNarrow : List Range → Bool
+lowNarrow [] = true
+lowNarrow (r ∷ rs) = (leb (r .columns) 1 || leb 0x1100 (r .first)) && lowNarrow rs
+
+narrow-in : (rs : List Range) (c : ℕ) → lowNarrow rs ≡ true → c < 0x1100 → widthIn rs c ≤ 1
+narrow-in [] c h b = omega arith
+narrow-in (r ∷ rs) c h b =
+    go (within (r .first) (r .last) c) refl (leb (r .columns) 1) refl (and-left (leb (r .columns) 1 || leb 0x1100 (r .first)) (lowNarrow rs) h)
+    (narrow-in rs c (and-right (leb (r .columns) 1 || leb 0x1100 (r .first)) (lowNarrow rs) h) b)
+  where
+    go : (t : Bool) → within (r .first) (r .last) c ≡ t → (u : Bool) → leb (r .columns) 1 ≡ u → (u || leb 0x1100 (r .first)) ≡ true → widthIn rs c ≤ 1
+        → cond t (r .columns) (widthIn rs c) ≤ 1
+    go false e u f g ih = ih
+    go true e true f g ih = leb-true (r .columns) 1 f
+    go true e false f g ih = absurd (omega (arith, b, leb-true 0x1100 (r .first) g, bounds (r .first) (r .last) c e))
+
+narrow : (c : ℕ) → c < 0x1100 → charWidth c ≤ 1
+unfolding charWidth ranges
+narrow c h = narrow-in ranges c refl h
+
+-- a sequence of one byte is ASCII
+abbrev noneSingle : List Row → Bool
+noneSingle [] = true
+noneSingle (r ∷ rs) = not (eqb 1 (length r)) && noneSingle rs
+
+no-single : (rs : List Row) (b : ℕ) → noneSingle rs ≡ true → eqb 1 (length (rowIn rs b)) ≡ false
+no-single [] b h = refl
+no-single (r ∷ rs) b h =
+    go (leads r b) (eqb 1 (length r)) refl (and-left (not (eqb 1 (length r))) (noneSingle rs) h) (no-single rs b (and-right (not (eqb 1 (length r))) (noneSingle rs) h))
+  where
+    go : (t : Bool) (u : Bool) → eqb 1 (length r) ≡ u → not u ≡ true → eqb 1 (length (rowIn rs b)) ≡ false → eqb 1 (length (cond t r (rowIn rs b))) ≡ false
+    go false u e f ih = ih
+    go true true e f ih = absurd (false≢true f)
+    go true false e f ih = e
+
+single-ascii : (b : ℕ) → eqb 1 (length (rowOf b)) ≡ true → b ≤ 0x7F
+unfolding rowOf table37
+single-ascii b h = go (within 0x00 0x7F b) refl h
+  where
+    go : (t : Bool) → within 0x00 0x7F b ≡ t → eqb 1 (length (cond t (span 0x00 0x7F ∷ []) (rowIn (tail table37) b))) ≡ true → b ≤ 0x7F
+    go true e g = bounds 0x00 0x7F b e .1
+    go false e g = absurd (false≢true (sym (no-single (tail table37) b refl) ∙ g))
+
+-- so no character has more columns than bytes
+replacement-width : charWidth 0xFFFD ≤ 1
+unfolding charWidth ranges
+replacement-width = omega arith
+
+single-width : (b : ℕ) → charWidth (cond (complete b []) (codePoint (b ∷ [])) 0xFFFD) ≤ 1
+unfolding complete
+single-width b = go (eqb 1 (length (rowOf b))) refl
+  where
+    go : (t : Bool) → eqb 1 (length (rowOf b)) ≡ t → charWidth (cond t b 0xFFFD) ≤ 1
+    go true e = narrow b (omega (arith, single-ascii b e))
+    go false e = replacement-width
+
+read-width : (b : ℕ) (more : List ℕ) → charWidth (cond (complete b more) (codePoint (b ∷ more)) 0xFFFD) ≤ suc (length more)
+read-width b [] = single-width b
+read-width b (x ∷ more) = omega (arith, width-two (cond (complete b (x ∷ more)) (codePoint (b ∷ x ∷ more)) 0xFFFD))
+
+wide-text : (c : Character) (rest : List ℕ) → Read c rest → wide c ≤ length (c .text)
+wide-text c rest R = rw (R .text, R .columns, R .code) (read-width (R .first) (R .more))
+
+length-bound : (hs : List Bool) (cs : List Character) → Valid cs → floorLength hs cs ≤ length (bytesOf cs)
+length-bound [] cs v = omega arith
+length-bound (h ∷ hs) [] v = omega arith
+length-bound (true ∷ hs) (c ∷ cs) v = omega (arith, wide-text c (bytesOf cs) (v .0), length-bound hs cs (v .1), length-append (c .text) (bytesOf cs))
+length-bound (false ∷ hs) (c ∷ cs) v = omega (arith, length-bound hs cs (v .1), length-append (c .text) (bytesOf cs))
+
+module _ (l : Bytes) (r : Recording) where
+  pub data-bound : length (floorOf l r .dataBytes) ≤ length (r .dataBytes)
+  data-bound = omega (arith, floor-data-length l r, length-bound (hidden l r) (chars (r .dataBytes)) (valid-chars (r .dataBytes)), ap length (bytes-chars (r .dataBytes)))
+
+  pub entries-bound : length (floorOf l r .entryNumbers) ≤ length (encode (items r) .entryNumbers)
+  unfolding encode
+  entries-bound = omega (arith, floor-entries l r, drop-count l [] (items r), count-numbers (items r) 0 0)
+
+  pub text-bound : length (floorOf l r .text) ≤ length (encode (items r) .text)
+  unfolding encode
+  text-bound = omega (arith, floor-text l r, drop-text l [] (items r))
