@@ -219,7 +219,7 @@ fn hidden_in_part() {
     assert!(out.ops().eq(ops));
 }
 
-/// Two rows that differ under the label, in columns as wide: the floor reads the same.
+/// Two rows that differ under the label, character for character of the same width: the floor reads the same.
 #[test]
 fn hidden_from_the_floor() {
     let row = |price: &str, raw: &[u8]| {
@@ -233,7 +233,7 @@ fn hidden_from_the_floor() {
     };
     let (mut one, mut other) = (FormatRecorder::new(), FormatRecorder::new());
     write_for_floor(&mut one, &row("980 円", b"\x1b[1m"), "price").unwrap();
-    write_for_floor(&mut other, &row("木9é.", b"\x1b[38;5;1m"), "price").unwrap();
+    write_for_floor(&mut other, &row("7é─.木", b"\x1b[38;5;1m"), "price").unwrap();
     assert_eq!((one.data(), &one), (&b"oak ****** b"[..], &other));
 }
 
