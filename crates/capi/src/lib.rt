@@ -456,7 +456,7 @@ pub extern "C" fn ruszvedok_write_for_office(
 )
     ensures { λ _. ⌜ PromisedNumbers
         (officeOutcome (now (label .entry)) (roomIn (lentOf (now (bytes .entry)) (now (numbers .entry)) (now (texts .entry))))
-            (recording (now (content .entry)) (now (entries .entry)) (now (text .entry))))
+        (recording (now (content .entry)) (now (entries .entry)) (now (text .entry))))
         (lentOf (now (bytes .entry)) (now (numbers .entry)) (now (texts .entry))) (lentOf (now (bytes .exit)) (now (numbers .exit)) (now (texts .exit))) (now (res .exit)) ⌝ }
 {
     let a = write_for_office(content, entries, text, label, bytes, numbers, texts);
@@ -478,7 +478,7 @@ pub extern "C" fn ruszvedok_write_for_floor(
 )
     ensures { λ _. ⌜ PromisedNumbers
         (floorOutcome (now (label .entry)) (roomIn (lentOf (now (bytes .entry)) (now (numbers .entry)) (now (texts .entry))))
-            (recording (now (content .entry)) (now (entries .entry)) (now (text .entry))))
+        (recording (now (content .entry)) (now (entries .entry)) (now (text .entry))))
         (lentOf (now (bytes .entry)) (now (numbers .entry)) (now (texts .entry))) (lentOf (now (bytes .exit)) (now (numbers .exit)) (now (texts .exit))) (now (res .exit)) ⌝ }
 {
     let a = write_for_floor(content, entries, text, label, bytes, numbers, texts);

@@ -965,26 +965,8 @@ fn view_call(
     res: &mut [u64; 5],
 ) {
     match call {
-        27 => ruszvedok_write_for_office(
-            content,
-            entries,
-            text,
-            label,
-            bytes,
-            numbers,
-            texts,
-            res,
-        ),
-        _ => ruszvedok_write_for_floor(
-            content,
-            entries,
-            text,
-            label,
-            bytes,
-            numbers,
-            texts,
-            res,
-        ),
+        27 => ruszvedok_write_for_office(content, entries, text, label, bytes, numbers, texts, res),
+        _ => ruszvedok_write_for_floor(content, entries, text, label, bytes, numbers, texts, res),
     }
 }
 
