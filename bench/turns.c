@@ -56,6 +56,8 @@ ON_ROW(wrap_bytes, r->view.data, r->view.data_len, t.width, t.break_words, LINES
 ON_ROW(write_wrapped, CONTENT, t.width, t.break_words, LENT, LINES, res)
 ON_ROW(write_replaced, CONTENT, r->records, r->records_len, (const uint8_t *)"new", 3, LENT, res)
 ON_ROW(write_tabs_expanded, CONTENT, 8, LENT, res)
+ON_ROW(write_for_office, CONTENT, (const uint8_t *)"work", 4, LENT, res)
+ON_ROW(write_for_floor, CONTENT, (const uint8_t *)"work", 4, LENT, res)
 ON_ROW(elide_start, r->view.data, r->view.data_len, (const uint8_t *)"..", 2, (uint32_t)r->half, out_data, ROOM, res)
 ON_ROW(elide_end, r->view.data, r->view.data_len, (const uint8_t *)"..", 2, (uint32_t)r->half, out_data, ROOM, res)
 ON_ROW(complete_newline, r->view.data, r->view.data_len, out_data, ROOM, res)
@@ -70,8 +72,8 @@ static const call calls[] = {
     OF(replay, false, false), OF(write_truncated_start, false, false), OF(write_truncated_end, false, false),
     OF(write_padded_start, false, false), OF(write_padded_end, false, false), OF(write_padded_centered, false, false),
     OF(write_indented, false, false), OF(write_unindented, false, false), OF(wrap_bytes, true, false), OF(write_wrapped, true, false),
-    OF(write_replaced, false, false), OF(write_tabs_expanded, false, false), OF(elide_start, false, true), OF(elide_end, false, true),
-    OF(complete_newline, false, true)};
+    OF(write_replaced, false, false), OF(write_tabs_expanded, false, false), OF(write_for_office, false, false),
+    OF(write_for_floor, false, false), OF(elide_start, false, true), OF(elide_end, false, true), OF(complete_newline, false, true)};
 
 static const call *named(const char *name)
 {

@@ -46,6 +46,13 @@ pub const CASES: &[Case] = &[
     Case { name: "write_wrapped", sizes: &ROWS, sides: write_wrapped },
     Case { name: "write_replaced", sizes: &ROWS, sides: write_replaced },
     Case { name: "write_tabs_expanded", sizes: &TABBED, sides: write_tabs_expanded },
+    Case { name: "write_for_office", sizes: &ROWS, sides: write_for_office },
+    Case { name: "write_for_floor", sizes: &ROWS, sides: |input| write_for_floor(ours::write_for_floor, rows_of(input, priced)) },
+    Case { name: "write_for_floor_whole_page", sizes: &ROWS, sides: |input| write_for_floor(ours::write_for_floor, rows_of(input, priced_whole)) },
+    Case { name: "write_for_floor_absent", sizes: &ROWS, sides: |input| write_for_floor(ours::write_for_floor, rows(input)) },
+    Case { name: "write_for_floor_many_entries", sizes: &SHORT_ROWS, sides: |input| write_for_floor(ours::write_for_floor, rows_of(input, priced_often)) },
+    Case { name: "write_for_floor_by_pieces", sizes: &ROWS, sides: |input| write_for_floor(ours::write_for_floor_by_pieces, rows_of(input, priced)) },
+    Case { name: "write_for_floor_by_pieces_absent", sizes: &ROWS, sides: |input| write_for_floor(ours::write_for_floor_by_pieces, rows(input)) },
     Case { name: "elide_start", sizes: &ROWS, sides: elide_start },
     Case { name: "elide_end", sizes: &ROWS, sides: elide_end },
     Case { name: "complete_newline", sizes: &ROWS, sides: complete_newline },
@@ -123,7 +130,10 @@ fn row(text: &[u8]) -> Row {
 }
 
 fn labelled(data: Vec<u8>, count: usize) -> Row {
-    let recording = recordings::labelled(data, count);
+    of_recording(recordings::labelled(data, count))
+}
+
+fn of_recording(recording: Recording) -> Row {
     Row { lists: recording.to_lists(), recorder: recording.to_recorder(), width: original::text_width(&recording.data), recording }
 }
 
@@ -295,10 +305,11 @@ fn indented(text: &[u8], prefix: &[u8], line: usize, numbers: &mut Numbers) -> V
     data
 }
 
-type Unindent = fn(&mut dyn Formatter, &FormatRecorder, &[u8]) -> Io<u64>;
+/// A call of ours with a prefix or a label; gives back its refusal or 0.
+type Ours = fn(&mut dyn Formatter, &FormatRecorder, &[u8]) -> Io<u64>;
 
 /// With an entry for that many bytes, six in a short row. Against a function of ours: the original has none.
-fn unindented_beside(rust: Unindent, input: &Input, prefix: &'static [u8], line: usize, apart: usize) -> Result<Pair, String> {
+fn unindented_beside(rust: Ours, input: &Input, prefix: &'static [u8], line: usize, apart: usize) -> Result<Pair, String> {
     let mut numbers = Numbers::new(input.size as u64);
     let mut row = |text: &Vec<u8>| labelled(indented(text, prefix, line, &mut numbers), (text.len() / apart / 2 * 2).max(6));
     recorded_rows(
@@ -380,6 +391,61 @@ fn write_tabs_expanded(input: &Input) -> Result<Pair, String> {
         &input.with_tabs(),
         |row, out| ours::write_tabs_expanded(out, &row.recorder, 8).map(|()| 0),
         |row, room| lent::write_tabs_expanded(view(&row.lists), 8, room.lent()),
+    )
+}
+
+const PRICE: &[u8] = b"price";
+
+/// The text in lines of that many bytes, each with entries: a part of the line for each of its places, a kind and its text.
+fn in_lines(text: &[u8], line: usize, parts: &[(f64, Kind, &[u8])]) -> Recording {
+    let mut made = Recording::plain(text);
+    let lines = (text.len() / line).max(1);
+    (1..lines).for_each(|i| made.data[i * line] = b'\n');
+    for i in 0..lines {
+        let entry = |(part, kind, text): &(f64, Kind, &[u8])| Entry { at: i * line + (part * line as f64) as usize, kind: *kind, text: text.to_vec() };
+        made.entries.extend(parts.iter().map(entry));
+    }
+    made
+}
+
+/// Lines of 100 bytes, or of as many as 4,096 entries are enough for, with a label on a quarter of each and the one that hides on a tenth.
+fn priced(text: &[u8]) -> Recording {
+    let parts = [(0.1, Kind::Push, &b"grade"[..]), (0.35, Kind::Pop, b""), (0.8, Kind::Push, PRICE), (0.9, Kind::Pop, b"")];
+    in_lines(text, text.len().min(LINE).max(text.len() / 1000), &parts)
+}
+
+/// All of it under the label that hides, in lines of 100 bytes.
+fn priced_whole(text: &[u8]) -> Recording {
+    let mut made = in_lines(text, text.len().min(LINE), &[]);
+    made.entries = vec![Entry { at: 0, kind: Kind::Push, text: PRICE.to_vec() }, Entry { at: text.len(), kind: Kind::Pop, text: vec![] }];
+    made
+}
+
+/// Six entries for 100 bytes: a raw sequence under the label that hides and one beside it, and a label inside of it.
+fn priced_often(text: &[u8]) -> Recording {
+    let raw = &b"\x1B[1m"[..];
+    let parts = [(0.2, Kind::Raw, raw), (0.5, Kind::Push, PRICE), (0.5, Kind::Raw, raw), (0.55, Kind::Push, b"sum"), (0.6, Kind::Pop, b""), (0.65, Kind::Pop, b"")];
+    in_lines(text, text.len().min(LINE), &parts)
+}
+
+fn rows_of(input: &Input, made: fn(&[u8]) -> Recording) -> Vec<Row> {
+    input.texts.iter().map(|text| of_recording(made(text))).collect()
+}
+
+/// Against a function of ours: the original has none.
+fn write_for_office(input: &Input) -> Result<Pair, String> {
+    recorded_rows(
+        rows_of(input, priced),
+        |row, out| ours::write_for_office(out, &row.recorder, PRICE),
+        |row, room| lent::write_for_office(view(&row.lists), PRICE, room.lent()),
+    )
+}
+
+fn write_for_floor(rust: Ours, rows: Vec<Row>) -> Result<Pair, String> {
+    recorded_rows(
+        rows,
+        move |row, out| rust(out, &row.recorder, PRICE),
+        |row, room| lent::write_for_floor(view(&row.lists), PRICE, room.lent()),
     )
 }
 

@@ -1,7 +1,9 @@
 //! Calls that the Rust original has not, each as the plainest good Rust over the original's recorder, to be timed beside the library's.
 use std::io::Result as Io;
+use std::ops::Range;
 
 use bstr::ByteSlice as _;
+use oracle::Kind;
 use oracle::original::{FormatRecorder, Formatter};
 use unicode_width::UnicodeWidthChar as _;
 
@@ -75,5 +77,185 @@ fn unindented<'a, L: Iterator<Item = &'a [u8]>>(
         }
         Ok(())
     })?;
+    Ok(0)
+}
+
+/// The labels that are open, by whether each is the one that hides, and how many of them are.
+struct Open<'a> {
+    label: &'a [u8],
+    labels: Vec<bool>,
+    hiding: usize,
+}
+
+impl<'a> Open<'a> {
+    fn new(label: &'a [u8]) -> Self {
+        Self { label, labels: vec![], hiding: 0 }
+    }
+
+    /// Passes an entry; false if it is a pop that has nothing to close.
+    fn pass(&mut self, kind: Kind, text: &[u8]) -> bool {
+        match kind {
+            Kind::Push => {
+                self.labels.push(text == self.label);
+                self.hiding += (text == self.label) as usize;
+            }
+            Kind::Pop => match self.labels.pop() {
+                Some(hides) => self.hiding -= hides as usize,
+                None => return false,
+            },
+            Kind::Raw => {}
+        }
+        true
+    }
+}
+
+/// Refusal 34: whether it is no label of a reader.
+fn no_label(label: &[u8]) -> bool {
+    label.is_empty() || std::str::from_utf8(label).is_err()
+}
+
+/// Writes what the office reads; gives back 0, or the number of its refusal.
+pub fn write_for_office(formatter: &mut dyn Formatter, recorded_content: &FormatRecorder, label: &[u8]) -> Io<u64> {
+    if no_label(label) {
+        return Ok(34);
+    }
+    let mut open = 0usize;
+    for (_, kind, _) in recorded_content.entries() {
+        match kind {
+            Kind::Push => open += 1,
+            Kind::Pop if open == 0 => return Ok(35),
+            Kind::Pop => open -= 1,
+            Kind::Raw => {}
+        }
+    }
+    if open > 0 {
+        return Ok(35);
+    }
+    recorded_content.replay(formatter).map(|()| 0)
+}
+
+/// The stretches of data under the label; none if the recording is unbalanced.
+fn hidden(recorded_content: &FormatRecorder, label: &[u8]) -> Option<Vec<Range<usize>>> {
+    let (mut open, mut stretches, mut at) = (Open::new(label), vec![], 0);
+    for (position, kind, text) in recorded_content.entries() {
+        if open.hiding > 0 && at < position {
+            stretches.push(at..position);
+        }
+        at = position;
+        if !open.pass(kind, text) {
+            return None;
+        }
+    }
+    open.labels.is_empty().then_some(stretches)
+}
+
+/// What is still to be written of the floor's data: kept bytes up to a place, or stars.
+struct Floor<'a> {
+    data: &'a [u8],
+    /// All data before it is written or replaced.
+    written: usize,
+    stars: usize,
+}
+
+impl Floor<'_> {
+    /// Writes the stars, and the kept bytes up to `end`.
+    fn flush(&mut self, formatter: &mut dyn Formatter, end: usize) -> Io<()> {
+        const STARS: [u8; 64] = [b'*'; 64];
+        while self.stars > 0 {
+            let count = self.stars.min(STARS.len());
+            formatter.write_all(&STARS[..count])?;
+            self.stars -= count;
+        }
+        if self.written < end {
+            formatter.write_all(&self.data[self.written..end])?;
+            self.written = end;
+        }
+        Ok(())
+    }
+
+    /// Replaces the character at `at`, of which the bytes before are kept, unless it is a 0A; gives back its end.
+    fn replace(&mut self, formatter: &mut dyn Formatter, at: usize) -> Io<usize> {
+        let (c, size) = bstr::decode_utf8(&self.data[at..]);
+        if c != Some('\n') {
+            if self.written < at {
+                self.flush(formatter, at)?;
+            }
+            // U+FFFD has one column.
+            self.stars += c.map_or(1, |c| c.width().unwrap_or(0));
+            self.written = at + size;
+        }
+        Ok(at + size)
+    }
+}
+
+/// Writes what the floor reads: for each character with any byte under the label its width in stars, and no raw sequence under the label.
+/// Gives back 0, or the number of its refusal. Every character is read, as the original does in wrapping and cutting.
+pub fn write_for_floor(formatter: &mut dyn Formatter, recorded_content: &FormatRecorder, label: &[u8]) -> Io<u64> {
+    floor(formatter, recorded_content, label, |data, mut at, start| {
+        while at < start {
+            let size = bstr::decode_utf8(&data[at..]).1;
+            if at + size > start {
+                break;
+            }
+            at += size;
+        }
+        at
+    })
+}
+
+/// The same without reading what is under no label: the character at a place is found by looking back, since each byte that continues no
+/// other begins a character, and one has at most four.
+pub fn write_for_floor_by_pieces(formatter: &mut dyn Formatter, recorded_content: &FormatRecorder, label: &[u8]) -> Io<u64> {
+    floor(formatter, recorded_content, label, |data, at, start| {
+        let back = (at.max(start.saturating_sub(3))..start).rev().find(|i| data[*i] & 0xC0 != 0x80);
+        match back {
+            Some(lead) if data[start] & 0xC0 == 0x80 && lead + bstr::decode_utf8(&data[lead..]).1 > start => lead,
+            _ => start,
+        }
+    })
+}
+
+/// `first` gives the beginning of the character that the byte at a place is of, from the beginning of one at or before it.
+fn floor(
+    formatter: &mut dyn Formatter,
+    recorded_content: &FormatRecorder,
+    label: &[u8],
+    first: impl Fn(&[u8], usize, usize) -> usize,
+) -> Io<u64> {
+    if no_label(label) {
+        return Ok(34);
+    }
+    let Some(stretches) = hidden(recorded_content, label) else {
+        return Ok(35);
+    };
+    let data = recorded_content.data();
+    let (mut open, mut floor) = (Open::new(label), Floor { data, written: 0, stars: 0 });
+    let mut stretches = stretches.into_iter();
+    let mut stretch = stretches.next();
+    // The beginning of a character: all before it is read.
+    let mut at = 0;
+    for (position, kind, text) in recorded_content.entries() {
+        // Characters that begin before the entry and have a byte under the label.
+        while let Some(s) = &stretch {
+            at = first(data, at, s.start.max(at));
+            if at >= position {
+                break;
+            }
+            at = floor.replace(formatter, at)?;
+            while stretch.as_ref().is_some_and(|s| s.end <= at) {
+                stretch = stretches.next();
+            }
+        }
+        floor.flush(formatter, position)?;
+        open.pass(kind, text);
+        match kind {
+            // SAFETY: a recorder's label is a `String`.
+            Kind::Push => formatter.push_label(unsafe { std::str::from_utf8_unchecked(text) }),
+            Kind::Pop => formatter.pop_label(),
+            Kind::Raw if open.hiding == 0 => formatter.raw()?.write_all(text)?,
+            Kind::Raw => {}
+        }
+    }
+    floor.flush(formatter, data.len())?;
     Ok(0)
 }

@@ -116,6 +116,14 @@ static void layout(void)
     refused("no stops", RUSZVEDOK_TAB_STOP);
     ruszvedok_write_tabs_expanded(PLAIN("\t"), 65, BUFFERS, res);
     refused("stops too far apart", RUSZVEDOK_TAB_STOP);
+    ruszvedok_write_for_office(PLAIN("oak"), BYTES("price"), BUFFERS, res);
+    left("for the office", "oak", 0);
+    ruszvedok_write_for_floor(PLAIN("oak"), BYTES("price"), BUFFERS, res);
+    left("for the floor, nothing hidden", "oak", 0);
+    ruszvedok_write_for_floor(PLAIN("oak"), BYTES(""), BUFFERS, res);
+    refused("for the floor, no label", RUSZVEDOK_VIEW_LABEL);
+    ruszvedok_write_for_office(PLAIN("oak"), BYTES("\xE6\x9C"), BUFFERS, res);
+    refused("for the office, ill-formed label", RUSZVEDOK_VIEW_LABEL);
     ruszvedok_elide_end(BYTES("spruce"), BYTES(".."), 4, data, COUNT(data), res);
     left("C15", "sp..", 4);
     ruszvedok_elide_start(BYTES("spruce"), BYTES(".."), 4, data, COUNT(data), res);
@@ -156,6 +164,25 @@ static void labels(void)
     refused("length over its buffer", RUSZVEDOK_LENGTH_OVER_BUFFER);
 }
 
+/* What the office and the floor read of a row with a price: a wide character and a digit, a raw sequence among them. */
+static void readers(void)
+{
+    const uint8_t row[] = "oak \xE6\x9C\xA8" "7\n", row_text[] = "price\x1B[";
+    const uint32_t row_entries[] = {4, 0, 0, 5, 5, 2, 5, 2, 9, 1, 0, 0}, wanted[] = {4, 0, 0, 5, 8, 1, 0, 0};
+    ruszvedok_write_for_office(row, 9, row_entries, 12, row_text, 7, BYTES("price"), BUFFERS, res);
+    expect("office, entries", res[2] == 12 && memcmp(entries, row_entries, sizeof row_entries) == 0 && res[3] == 7 && memcmp(text, row_text, 7) == 0);
+    left("office", (const char *)row, 0);
+    ruszvedok_write_for_floor(row, 9, row_entries, 12, row_text, 7, BYTES("price"), BUFFERS, res);
+    expect("floor, entries", res[2] == 8 && memcmp(entries, wanted, sizeof wanted) == 0 && res[3] == 5 && memcmp(text, "price", 5) == 0);
+    left("floor", "oak ***\n", 0);
+    ruszvedok_write_for_floor(row, 9, row_entries, 12, row_text, 7, BYTES("price"), data, 7, entries, COUNT(entries), text, COUNT(text), res);
+    refused("floor, data buffer", RUSZVEDOK_DATA_BUFFER_TOO_SHORT);
+    ruszvedok_write_for_floor(row, 9, row_entries, 8, row_text, 7, BYTES("price"), BUFFERS, res);
+    refused("floor, a label stays open", RUSZVEDOK_CONTENT_UNBALANCED);
+    ruszvedok_write_for_office(row, 9, row_entries + 8, 4, row_text, 7, BYTES("price"), BUFFERS, res);
+    refused("office, a pop without a label", RUSZVEDOK_CONTENT_UNBALANCED);
+}
+
 /* A recording's data is this, after a call that was not refused and had this number. */
 static void holds(const char *what, ruszvedok_answer answer, const ruszvedok_recording *row, const char *bytes, uint64_t number)
 {
@@ -184,6 +211,8 @@ static void structs(void)
     expect("C1, its last line", lines[2 * RUSZVEDOK_LINE_NUMBERS + RUSZVEDOK_LINE_FIRST] == 10
             && lines[2 * RUSZVEDOK_LINE_NUMBERS + RUSZVEDOK_LINE_END] == 11
             && lines[2 * RUSZVEDOK_LINE_NUMBERS + RUSZVEDOK_LINE_WIDTH] == 1);
+    holds("office, structs", ruszvedok_write_for_office_to(&out, row, BYTES("price")), &out, "spruce", 0);
+    holds("floor, structs", ruszvedok_write_for_floor_to(&out, dots, BYTES("price")), &out, "..", 0);
     holds("replayed, structs", ruszvedok_replay_to(&out, row), &out, "spruce", 0);
     expect("refused, structs", ruszvedok_write_padded_end_to(&out, row, dot, 17).refusal == RUSZVEDOK_DATA_BUFFER_TOO_SHORT);
     expect("what it held", out.data_len == 6 && memcmp(out.data, "spruce", 6) == 0);
@@ -310,6 +339,7 @@ int main(void)
     wrapping();
     layout();
     labels();
+    readers();
     structs();
     lists();
     list_numbers();

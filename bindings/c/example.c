@@ -1,6 +1,6 @@
 /* A board row, recorded with its grades as labels, then truncated, padded and wrapped, by calls of their own and as a list of
  * calls; each result is printed with its labels, and the wrapped lines once more, right-aligned. Two rows of a ticket, whose tabs
- * go to stops; they are indented, and the indent is taken off.
+ * go to stops; they are indented, and the indent is taken off. A row with a price, as the office and as the floor reads it.
  * Plain C11, and C++ as well. */
 #include "ruszvedok.h"
 
@@ -52,6 +52,7 @@ int main(void)
     RUSZVEDOK_RECORDING(row, 128, 8, 64);
     RUSZVEDOK_RECORDING(rest, 16, 2, 16);
     RUSZVEDOK_RECORDING(ticket, 64, 4, 16);
+    RUSZVEDOK_RECORDING(priced, 32, 2, 8);
     RUSZVEDOK_RECORDING(out, 256, 16, 128);
     RUSZVEDOK_RECORDING(other, 256, 16, 128);
     RUSZVEDOK_CALLS(list, 3, 16, 16);
@@ -103,6 +104,14 @@ int main(void)
     print("indented by", 2, ruszvedok_view_of(&other));
     number(ruszvedok_write_unindented_to(&out, ruszvedok_view_of(&other), ruszvedok_plain("> ")));
     print("taken off again,", 2, ruszvedok_view_of(&out));
+
+    /* Both read as many columns; what stands under the label is the office's alone. */
+    number(ruszvedok_string_to(&priced, "oak 12 ft "));
+    number(ruszvedok_labeled_to(&priced, "price", "980 \xE5\x86\x86"));
+    number(ruszvedok_write_for_office_to(&out, ruszvedok_view_of(&priced), (const uint8_t *)"price", 5));
+    print("for the office, width", (unsigned)ruszvedok_text_width(out.data, out.data_len), ruszvedok_view_of(&out));
+    number(ruszvedok_write_for_floor_to(&out, ruszvedok_view_of(&priced), (const uint8_t *)"price", 5));
+    print("for the floor, width", (unsigned)ruszvedok_text_width(out.data, out.data_len), ruszvedok_view_of(&out));
 
     /* Eight bytes are too few for the result: the call is refused and leaves them alone. */
     memset(few_data, 0xEE, sizeof few_data);

@@ -20,7 +20,7 @@
  *
  * The calls on recordings stand here twice: as the library exports them, and at the end, with _to behind the name, over the structs
  * ruszvedok_view (a recording that is read) and ruszvedok_recording (buffers that hold one), which are shorter to use. A whole list of
- * them is made in one call by ruszvedok_run_calls_to: ruszvedok_add_call makes the list. */
+ * layout calls is made in one call by ruszvedok_run_calls_to: ruszvedok_add_call makes the list. */
 #ifndef RUSZVEDOK_H
 #define RUSZVEDOK_H
 
@@ -250,8 +250,8 @@ enum ruszvedok_call_kind {
 };
 
 /* Refusals. The first cause in this order is given: 10; the content, then the second recording, each 1, 2, 5 for its lengths and
- * then entry by entry 3, 4, 5, 6; a pushed label (6), an appended raw sequence (3); 7; 8; 31; 32; 33; 9; 21 to 24. Of a list
- * of calls: 10; 61; 62; 63. */
+ * then entry by entry 3, 4, 5, 6; a pushed label (6), an appended raw sequence (3); 7; 8; 31; 32; 33; 34; 35; 9; 21 to 24.
+ * Of a list of calls: 10; 61; 62; 63. */
 enum ruszvedok_refusal {
     RUSZVEDOK_DATA_TOO_LONG = 1,           /* Data over its limit. */
     RUSZVEDOK_ENTRY_NUMBERS = 2,           /* Entry numbers that are not four an entry, or over their limit. */
@@ -270,6 +270,8 @@ enum ruszvedok_refusal {
     RUSZVEDOK_TAB_STOP = 31,               /* A tab stop that is 0 or over 64. */
     RUSZVEDOK_PREFIX_NEWLINE = 32,         /* A prefix to be taken off that has a 0A. */
     RUSZVEDOK_PREFIX_MISSING = 33,         /* A line that is not empty and does not begin with the prefix to be taken off. */
+    RUSZVEDOK_VIEW_LABEL = 34,             /* A reader's label that is empty or not well-formed UTF-8. */
+    RUSZVEDOK_CONTENT_UNBALANCED = 35,     /* A content whose labels are not balanced. */
     RUSZVEDOK_SETS_DIFFER = 61,            /* Two sets of buffers that differ in a length. */
     RUSZVEDOK_CALL_NUMBERS = 62,           /* Calls that are not eight numbers each, an unknown kind, a range not within its pool. */
     RUSZVEDOK_ANSWER_LIST_TOO_SHORT = 63   /* The list of answers is too short, at two numbers a call. */
@@ -297,6 +299,8 @@ static inline const char *ruszvedok_refusal_name(uint64_t refusal)
     case RUSZVEDOK_TAB_STOP: return "TAB_STOP";
     case RUSZVEDOK_PREFIX_NEWLINE: return "PREFIX_NEWLINE";
     case RUSZVEDOK_PREFIX_MISSING: return "PREFIX_MISSING";
+    case RUSZVEDOK_VIEW_LABEL: return "VIEW_LABEL";
+    case RUSZVEDOK_CONTENT_UNBALANCED: return "CONTENT_UNBALANCED";
     case RUSZVEDOK_SETS_DIFFER: return "SETS_DIFFER";
     case RUSZVEDOK_CALL_NUMBERS: return "CALL_NUMBERS";
     case RUSZVEDOK_ANSWER_LIST_TOO_SHORT: return "ANSWER_LIST_TOO_SHORT";
@@ -326,6 +330,8 @@ static inline const char *ruszvedok_refusal_reason(uint64_t refusal)
     case RUSZVEDOK_TAB_STOP: return "a tab stop that is 0 or over 64";
     case RUSZVEDOK_PREFIX_NEWLINE: return "a prefix to be taken off that has a 0A";
     case RUSZVEDOK_PREFIX_MISSING: return "a line that is not empty and does not begin with the prefix to be taken off";
+    case RUSZVEDOK_VIEW_LABEL: return "a reader's label that is empty or not well-formed UTF-8";
+    case RUSZVEDOK_CONTENT_UNBALANCED: return "a content whose labels are not balanced";
     case RUSZVEDOK_SETS_DIFFER: return "two sets of buffers that differ in a length";
     case RUSZVEDOK_CALL_NUMBERS: return "calls that are not eight numbers each, an unknown kind, a range not within its pool";
     case RUSZVEDOK_ANSWER_LIST_TOO_SHORT: return "the list of answers is too short, at two numbers a call";
@@ -464,6 +470,25 @@ void ruszvedok_write_replaced(
 void ruszvedok_write_tabs_expanded(
     const uint8_t *content, size_t content_len, const uint32_t *entries, size_t entries_len, const uint8_t *text, size_t text_len,
     uint32_t stop,
+    uint8_t *out_data, size_t out_data_len, uint32_t *out_entries, size_t out_entries_len, uint8_t *out_text, size_t out_text_len,
+    uint64_t res[5]);
+
+/* ---- two readers of one recording, which no list of calls holds ---- */
+
+/* Writes what the office reads of a recording: all of it, as replaying leaves it. `label` is the one that hides from the floor.
+ * A label that is empty or ill-formed is refused by 34, a content whose labels are not balanced by 35. */
+void ruszvedok_write_for_office(
+    const uint8_t *content, size_t content_len, const uint32_t *entries, size_t entries_len, const uint8_t *text, size_t text_len,
+    const uint8_t *label, size_t label_len,
+    uint8_t *out_data, size_t out_data_len, uint32_t *out_entries, size_t out_entries_len, uint8_t *out_text, size_t out_text_len,
+    uint64_t res[5]);
+
+/* Writes what the floor reads of a recording: instead of each character with any byte under the label as many `*` as it is wide,
+ * under the labels of its first byte, and no raw sequence that is placed under the label; 0A stays. A character of width 0 is
+ * gone; an entry inside a character so replaced comes after its stars. The same is refused as for the office. */
+void ruszvedok_write_for_floor(
+    const uint8_t *content, size_t content_len, const uint32_t *entries, size_t entries_len, const uint8_t *text, size_t text_len,
+    const uint8_t *label, size_t label_len,
     uint8_t *out_data, size_t out_data_len, uint32_t *out_entries, size_t out_entries_len, uint8_t *out_text, size_t out_text_len,
     uint64_t res[5]);
 
@@ -626,6 +651,22 @@ static inline ruszvedok_answer ruszvedok_write_tabs_expanded_to(ruszvedok_record
 {
     uint64_t res[5];
     ruszvedok_write_tabs_expanded(RUSZVEDOK_READ(content), stop, RUSZVEDOK_LENT(out), res);
+    return ruszvedok_take_over(out, res);
+}
+
+static inline ruszvedok_answer ruszvedok_write_for_office_to(
+    ruszvedok_recording *out, ruszvedok_view content, const uint8_t *label, size_t label_len)
+{
+    uint64_t res[5];
+    ruszvedok_write_for_office(RUSZVEDOK_READ(content), label, label_len, RUSZVEDOK_LENT(out), res);
+    return ruszvedok_take_over(out, res);
+}
+
+static inline ruszvedok_answer ruszvedok_write_for_floor_to(
+    ruszvedok_recording *out, ruszvedok_view content, const uint8_t *label, size_t label_len)
+{
+    uint64_t res[5];
+    ruszvedok_write_for_floor(RUSZVEDOK_READ(content), label, label_len, RUSZVEDOK_LENT(out), res);
     return ruszvedok_take_over(out, res);
 }
 

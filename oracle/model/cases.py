@@ -1,5 +1,5 @@
-"""The model's own tests: document 01's cases C1 to C16, with document 02's widths of lines, tab stops, indent taken off and pictures; its reading of UTF-8 against Python's decoder; and laws, on
-random inputs."""
+"""The model's own tests: document 01's cases C1 to C16, with document 02's widths of lines, tab stops, indent taken off, pictures and two readers; its reading of UTF-8 against Python's decoder; and
+laws, on random inputs (those of the two readers are in `views.py`)."""
 import random
 from contextlib import contextmanager
 
@@ -8,7 +8,7 @@ import random_calls
 import ruszvedok_model
 
 from runs import NAMES
-from ruszvedok_model import (CALLS, PICTURES, TEXT_CALLS, Recording, balanced, call, char_width, chars, coloured, listed_lines, recording, text_width, width_of, wraplist)
+from ruszvedok_model import (CALLS, PICTURES, PUSH, RAW, TEXT_CALLS, Recording, balanced, call, char_width, chars, coloured, listed_lines, recording, text_width, width_of, wraplist)
 
 FACE, TRUCK = "\U0001F600".encode(), "\U0001F680".encode()
 WRAPS = [
@@ -76,6 +76,20 @@ REFUSALS = [
     ("33 before 9", ("write_unindented", recording(b"a", *TWICE), recording(b">")), 33),
     ("9 before 21", ("write_unindented", recording(b">a", *TWICE), recording(b">")), 9),
     ("the prefix's text is not counted", ("write_unindented", recording(b">a"), recording(b">", *TWICE)), 21),
+    *[(f"{refusal} of {name}, {why}", (name, content, label), refusal) for name in ("write_for_office", "write_for_floor") for why, content, label, refusal in [
+        ("the label is empty", recording(b""), b"", 34),
+        ("the label is ill-formed", recording(b""), b"x\xE6", 34),
+        ("a label stays open", recording(b"a", (0, 0, 0, 1), b"x"), b"y", 35),
+        ("a pop has nothing to close", recording(b"a", (0, 1, 0, 0, 0, 0, 0, 1), b"x"), b"y", 35),
+        ("6 before 34", recording(b"", (0, 0, 0, 1), b"\xFF"), b"", 6),
+        ("34 before 35", recording(b"", (0, 1, 0, 0)), b"", 34),
+        ("34 before 9", recording(b"", *TWICE), b"\xFF", 34),
+        ("35 before 9", recording(b"", *TWICE), b"y", 35),
+        ("9 before 21", recording(b"a", TWICE[0] + (1, 1, 0, 0), TWICE[1]), b"y", 9),
+    ]],
+    ("9 of the office, whose raw sequence stays", ("write_for_office", recording(b"a", TWICE[0] + (1, 1, 0, 0), TWICE[1]), TWICE[1]), 9),
+    ("21 of the floor, whose raw sequence goes", ("write_for_floor", recording(b"a", TWICE[0] + (1, 1, 0, 0), TWICE[1]), TWICE[1]), 21),
+    ("nothing is left of a tab", ("write_for_floor", recording(b"\t", (0, 0, 0, 1, 1, 1, 0, 0), b"x"), b"x"), 22),
 ]
 # The code points on both sides of the ends of the two ranges, and their neighbours inside.
 PICTURE_WIDTHS = [(0x1F5FF, 1), (0x1F600, 2), (0x1F601, 2), (0x1F64E, 2), (0x1F64F, 2), (0x1F650, 1), (0x1F67F, 1), (0x1F680, 2), (0x1F681, 2), (0x1F6C4, 2), (0x1F6C5, 2), (0x1F6C6, 1)]
@@ -84,6 +98,38 @@ TABBED = recording(b"a\tb", (1, 0, 0, 1, 2, 1, 0, 0), b"x")
 # Entries at the line's first byte, inside the prefix, at its end, and behind it; a prefix with entries of its own.
 QUOTED = recording(b"> a\n> b", (0, 0, 0, 1, 1, 2, 1, 1, 2, 1, 0, 0, 4, 0, 0, 1, 5, 0, 2, 1, 6, 1, 0, 0, 7, 1, 0, 0), b"xRy")
 QUOTE = recording(b"> ", (0, 0, 0, 1, 1, 2, 1, 1, 2, 1, 0, 0), b"pS")
+# The floor's reading for x (document 02, Q-6): data and entries, and what is left of them.
+TREE = "木".encode()
+X, Y, POP, Q, R = (PUSH, b"x"), (PUSH, b"y"), (1, b""), (RAW, b"q"), (RAW, b"r")
+FLOOR = [
+    ("a wide character", TREE, [(0, X), (3, POP)], b"**", [(0, X), (2, POP)]),
+    ("one of width 0, a tab among them, and a face", b"a\xCC\x81\tb" + FACE, [(1, X), (4, POP), (5, X), (9, POP)], b"ab**", [(1, X), (1, POP), (2, X), (4, POP)]),
+    ("0A stays", b"1\n2", [(0, X), (3, POP)], b"*\n*", [(0, X), (3, POP)]),
+    ("0A alone under it", b"1\n2", [(1, X), (2, POP)], b"1\n2", [(1, X), (2, POP)]),
+    ("its last byte only: under the labels of its first", TREE + b"a", [(0, Y), (2, X), (3, POP), (3, POP)], b"**a", [(0, Y), (2, X), (2, POP), (2, POP)]),
+    ("its first byte only", TREE + b"a", [(0, X), (1, POP)], b"**a", [(0, X), (2, POP)]),
+    ("entries inside, in their order", TREE, [(0, X), (1, Y), (2, POP), (3, POP)], b"**", [(0, X), (2, Y), (2, POP), (2, POP)]),
+    ("entries inside a character that stays", TREE + b"1", [(1, Y), (2, POP), (3, X), (4, POP)], TREE + b"*", [(1, Y), (2, POP), (3, X), (4, POP)]),
+    ("over no byte of a character: it stays, the raw sequence goes", TREE, [(1, X), (1, R), (1, POP)], TREE, [(1, X), (1, POP)]),
+    ("raw sequences before, under and behind", b"1", [(0, Q), (0, X), (0, R), (1, R), (1, POP), (1, Q)], b"*", [(0, Q), (0, X), (1, POP), (1, Q)]),
+    ("raw sequences inside a character, under and behind", TREE, [(0, X), (2, R), (2, POP), (2, Q)], b"**", [(0, X), (2, POP), (2, Q)]),
+    ("a raw sequence inside one that the label reaches later", TREE, [(1, Q), (2, X), (3, POP)], b"**", [(2, Q), (2, X), (2, POP)]),
+    ("twice, one inside the other", b"123", [(0, X), (0, X), (1, POP), (1, R), (2, POP), (2, Q)], b"**3", [(0, X), (0, X), (1, POP), (2, POP), (2, Q)]),
+    ("under another inside it, and inside another", b"1234", [(0, X), (0, Y), (1, POP), (1, POP), (2, Y), (3, X), (4, POP), (4, POP)], b"*23*",
+     [(0, X), (0, Y), (1, POP), (1, POP), (2, Y), (3, X), (4, POP), (4, POP)]),
+    ("longer and shorter labels are others", b"12", [(0, (PUSH, b"xx")), (0, R), (1, POP), (1, (PUSH, b"")), (2, POP)], b"12", [(0, (PUSH, b"xx")), (0, R), (1, POP), (1, (PUSH, b"")), (2, POP)]),
+    ("ill-formed bytes: one each, but for a sequence cut off", b"\xFF\xE6\x9C\xE0\x80A", [(0, X), (5, POP)], b"****A", [(0, X), (4, POP)]),
+    ("two that meet", b"\xC3\xCC\x81\xA9", [(1, X), (3, POP)], b"\xC3\xA9", [(1, X), (1, POP)]),
+]
+
+
+def entry_list(parts):
+    """Entry numbers and text of entries given by place, kind and text."""
+    numbers, text = [], b""
+    for position, (kind, part) in parts:
+        numbers += (position, kind, 0 if kind == 1 else len(text), len(part))
+        text += part
+    return numbers, text
 
 
 def document_cases():
@@ -113,6 +159,12 @@ def document_cases():
     numbers, (data, entries, text, _) = call("write_unindented", QUOTED, QUOTE, room=(3, 28, 4))
     if (numbers[0], data, text) != (0, b"a\nb", b"xRxy") or entries != (0, 0, 0, 1, 0, 2, 1, 1, 0, 1, 0, 0, 2, 0, 2, 1, 2, 0, 3, 1, 2, 1, 0, 0, 3, 1, 0, 0):
         wrong.append("Q-3, the entries")
+    for name, content, parts, data, left in FLOOR:
+        given, expected = recording(content, *entry_list(parts)), recording(data, *entry_list(left))
+        numbers, buffers = call("write_for_floor", given, b"x", room=tuple(map(len, expected)))
+        office = call("write_for_office", given, b"x", room=tuple(map(len, given)))
+        if (numbers, buffers[:3], office) != ((0, *map(len, expected), 0), expected, ((0, *map(len, given), 0), given + ((),))):
+            wrong.append(f"Q-6, {name}")
     if there_and_back(recording(b">a\n>\n>b"), recording(b">"), "write_unindented", "write_indented")[1].data != b">a\n\n>b":
         wrong.append("Q-3, a line that is exactly the prefix does not come back")
     return wrong
@@ -277,8 +329,8 @@ def any_call(pick):
     if name in random_calls.LAYOUT:
         content = random_calls.content(pick)
         return (name, content, *random_calls.LAYOUT[name](pick, content)), room
-    if name in random_calls.LAYOUT_WITH_CONTENT:
-        return (name, *random_calls.LAYOUT_WITH_CONTENT[name](pick)), room
+    if name in random_calls.WITH_CONTENT:
+        return (name, *random_calls.WITH_CONTENT[name](pick)), room
     if name in ("truncate_end_pos", "truncate_start_pos"):
         return (name, text, random_calls.width(pick)), room
     if name == "wrap_bytes":

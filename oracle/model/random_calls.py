@@ -1,8 +1,9 @@
 """Random calls for `compare_calls`: recordings of short texts rich in what is hard, some of them faulty, a few as long as a limit or longer.
 
-`LAYOUT` has for each layout call what it takes after its content, `LAYOUT_WITH_CONTENT` what it takes together with it; a new call is a line of one of them. `list_of_calls` makes a list
-for `run_calls`.
+`LAYOUT` has for each layout call what it takes after its content, `LAYOUT_WITH_CONTENT` what it takes together with it; a new call is a line of one of them. `VIEWS` has the two readers, which no
+list holds. `list_of_calls` makes a list for `run_calls`.
 """
+import views
 from runs import NAMES, Pools
 from ruszvedok_model import recording
 
@@ -189,6 +190,34 @@ def unindenting(pick):
     return indented(pick, prefix), prefixed(pick, prefix)
 
 
+# ── contents with something under a label, and labels
+
+def long_view(pick):
+    """Entries or text at a limit or one beyond it, of the content or of what a reader is left; under the label x and not."""
+    more, half = pick.choice((-1, 0, 0, 1, 1)), 32768 + pick.choice((-1, 0, 1))
+    way = int(pick.random() * 5)
+    if way == 0:
+        return recording(b"1" * 1048577, (0, 0, 0, 1, 9, 1, 0, 0), b"x")
+    if way == 1:
+        return recording("1木2".encode(), (1, 0, 0, 1) * 2048 + (4, 1, 0, 0) * 2048 + (4, 2, 0, 1) * (more > 0), b"x")
+    if way == 2:
+        return recording("1木2".encode(), (1, 0, 0, 1, 1, 2, 0, 1) + (2, 2, 0, 1, 2, 0, 1, 1, 2, 1, 0, 0) * 1364 + (4, 1, 0, 0) * (1 + max(more, 0)), b"xy")
+    if way == 3:
+        return recording(b"12", (0, 0, 0, 1, 1, 2, 1, 65535 + more, 2, 1, 0, 0), b"x" * (65536 + more))
+    raws = [(0, 2, 0, half), (2, 2, 0, half)]
+    under = [(0, 0, 0, 1), *raws, (2, 1, 0, 0)] if pick.random() < 0.5 else [raws[0], (0, 0, 0, 1), raws[1], (2, 1, 0, 0)] if pick.random() < 0.5 else raws
+    return recording(b"12", sum(under, ()), b"x" * (half + 9))
+
+
+def viewing(pick):
+    """A content, mostly balanced, and a label that it mostly has; a few are any, damaged, or at a limit."""
+    way = pick.random()
+    if way < 0.001:
+        return long_view(pick), pick.choice((b"x", b"x", b"y"))
+    made = content(pick) if way < 0.06 else views.content(pick)
+    return damaged(pick, made.data, list(made.numbers), made.text) if way > 0.94 else made, views.label(pick)
+
+
 # What a layout call takes after its content.
 LAYOUT = {
     "replay": lambda pick, r: (),
@@ -204,14 +233,18 @@ LAYOUT = {
 }
 # What a layout call takes with its content, where the two are made for each other.
 LAYOUT_WITH_CONTENT = {"write_unindented": unindenting}
+# What the two readers take (document 02, Q-6): a content and a label.
+VIEWS = {"write_for_office": viewing, "write_for_floor": viewing}
+# All calls whose content is made for them.
+WITH_CONTENT = {**LAYOUT_WITH_CONTENT, **VIEWS}
 # Those of them that are lent a line list.
 LINED = ("write_wrapped",)
 
 
 def inputs(pick, name):
     """A content, and what else the call takes."""
-    if name in LAYOUT_WITH_CONTENT:
-        return LAYOUT_WITH_CONTENT[name](pick)
+    if name in WITH_CONTENT:
+        return WITH_CONTENT[name](pick)
     r = any_content(pick)
     return r, *LAYOUT[name](pick, r)
 

@@ -49,13 +49,17 @@ def balanced(r):
     return open_labels == 0
 
 
+def open_after(labels, e):
+    """The labels open behind an entry, outermost first: a push opens its label, a pop closes the last one still open."""
+    return labels + (e.text,) if e.kind == PUSH else labels[:-1] if e.kind == POP else labels
+
+
 def coloured(r):
     """Each data byte with the labels open at it, outermost first."""
     left, labels, result = entries(r), (), []
     for offset, byte in enumerate(r.data):
         while left and left[0].position <= offset:
-            e = left.pop(0)
-            labels = labels + (e.text,) if e.kind == PUSH else labels[:-1] if e.kind == POP else labels
+            labels = open_after(labels, left.pop(0))
         result.append((byte, labels))
     return result
 
@@ -574,6 +578,38 @@ def write_unindented(content, prefix, out):
     return 0
 
 
+# ── Document 02, Q-6: prices for the office only
+
+def write_for_office(content, label, out):
+    """The office reader gets what `replay` leaves."""
+    return replay(content, out)
+
+
+def write_for_floor(content, label, out):
+    """For each character with any byte under the label as many `*` as its width, under the labels of its first byte; 0A stays. An entry inside a character so replaced comes after its `*`s."""
+    under = [label in labels for _, labels in coloured(content)]
+    copy, at = Copy(without_raws_under(content, label), out), 0
+    for c in chars(content.data):
+        if any(under[at:at + c.length]) and c.code != 0x0A:
+            copy.add(b"*", width_of(c))
+            copy.drop(at + c.length)
+        else:
+            copy.keep(at + c.length)
+        at += c.length
+    copy.finish()
+    return 0
+
+
+def without_raws_under(r, label):
+    """The recording without the raw sequences placed under the label: those where it is among the labels open where the entry stands, entry by entry."""
+    labels, numbers = (), []
+    for i, e in enumerate(entries(r)):
+        labels = open_after(labels, e)
+        if e.kind != RAW or label not in labels:
+            numbers += r.numbers[4 * i:4 * i + 4]
+    return recording(r.data, numbers, r.text)
+
+
 # ── Refusals
 
 class Refused(Exception):
@@ -687,6 +723,17 @@ def unindent_call(content, prefix, buffers):
     return settle(out, write_unindented(content, prefix, out), [], buffers)
 
 
+def view_call(write):
+    """34, the label is empty or ill-formed, and 35, the content is unbalanced, follow the content's checks in this order, for both readers, and come before 9."""
+    def run(content, label, buffers):
+        check_recording(content)
+        refuse_if(label == b"" or not well_formed(label), 34)
+        refuse_if(not balanced(content), 35)
+        out = Result()
+        return settle(out, write(content, label, out), [], buffers)
+    return run
+
+
 def plain_call(work):
     def run(*inputs, buffers):
         check_plain(*[t for t in inputs if isinstance(t, bytes)])
@@ -731,6 +778,8 @@ CALLS = {
     "write_replaced": replace_call,
     "write_tabs_expanded": tabs_call,
     "write_unindented": unindent_call,
+    "write_for_office": view_call(write_for_office),
+    "write_for_floor": view_call(write_for_floor),
     "elide_start": plain_call(elide_start),
     "elide_end": plain_call(elide_end),
     "complete_newline": plain_call(lambda text: (complete_newline(text), 0)),

@@ -10,8 +10,8 @@ import ruszvedok_model as model
 
 NAMES = ("text_width well_formed truncate_end_pos truncate_start_pos zero_width_len replay write_truncated_start write_truncated_end write_padded_start write_padded_end "
          "write_padded_centered write_indented wrap_bytes write_wrapped write_replaced elide_start elide_end complete_newline write push_label pop_label raw "
-         "char_width read_char trim_start_zero_width_chars write_tabs_expanded write_unindented").split()
-KEYS = "data entries text second second_entries second_text records new added used width break code answer out out_entries out_text lines characters".split()
+         "char_width read_char trim_start_zero_width_chars write_tabs_expanded write_unindented write_for_office write_for_floor").split()
+KEYS = "data entries text second second_entries second_text records new added used width break code answer out out_entries out_text lines characters label".split()
 WORDS = {"push": 0, "pop": 1, "raw": 2}
 ESCAPES = {"n": 0x0A, "t": 0x09}
 FIELD = re.compile(r'(?:[^ "]|"[^"]*")+')
@@ -97,6 +97,8 @@ class Line:
             return self.content(), self.numbers("records"), self.bytes("new")
         if name == "replay":
             return self.content(),
+        if name in ("write_for_office", "write_for_floor"):
+            return self.content(), self.bytes("label")
         if name in ("write_indented", "write_unindented"):
             return self.content(), self.second()
         if name.startswith(("write_truncated", "write_padded")):

@@ -22,8 +22,8 @@ mod formatter {
     include!(concat!(env!("RUSZVEDOK_RUST_SRC"), "/formatter.rs"));
 
     impl FormatRecorder {
-        /// The entries, which no public call hands out.
-        pub(crate) fn entries(&self) -> impl Iterator<Item = (usize, crate::Kind, &[u8])> {
+        /// The entries, which no public call of the file hands out: position, kind, and label or raw bytes of each.
+        pub fn entries(&self) -> impl Iterator<Item = (usize, crate::Kind, &[u8])> {
             self.ops.iter().map(|(at, op)| match op {
                 FormatOp::PushLabel(label) => (*at, crate::Kind::Push, label.as_bytes()),
                 FormatOp::PopLabel => (*at, crate::Kind::Pop, &[][..]),

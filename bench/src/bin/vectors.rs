@@ -37,7 +37,8 @@ const CALLS: &[(&str, Maker)] = &[
 ];
 
 /// The program's names after these calls; only the first part of the list has lines of them.
-const OTHERS: [&str; 5] = ["char_width", "read_char", "trim_start_zero_width_chars", "write_tabs_expanded", "write_unindented"];
+const OTHERS: [&str; 7] =
+    ["char_width", "read_char", "trim_start_zero_width_chars", "write_tabs_expanded", "write_unindented", "write_for_office", "write_for_floor"];
 
 /// What the first line of the second part starts with.
 const MARK: &str = "# ── Made by bench/vectors";

@@ -1,9 +1,10 @@
 //! A board row, recorded with its grades as labels, then truncated, padded and wrapped, by calls of their own and as a list of calls; each
 //! result is printed with its labels, and the wrapped lines once more, right-aligned. Two rows of a ticket, whose tabs go to stops; they are
-//! indented, and the indent is taken off. The same as `bindings/c/example.c`, which prints the same.
+//! indented, and the indent is taken off. A row with a price, as the office and as the floor reads it. The same as `bindings/c/example.c`,
+//! which prints the same.
 use ruszvedok::lent::{self, Buffers};
-use ruszvedok::{run_layouts, text_width, write_indented, write_padded_centered, write_tabs_expanded, write_truncated_end};
-use ruszvedok::{write_truncated_start, write_unindented, write_wrapped, FormatOp, FormatRecorder, Layout, Refusal};
+use ruszvedok::{run_layouts, text_width, write_for_floor, write_for_office, write_indented, write_padded_centered, write_tabs_expanded};
+use ruszvedok::{write_truncated_end, write_truncated_start, write_unindented, write_wrapped, FormatOp, FormatRecorder, Layout, Refusal};
 
 /// Prints the data with {label:..} around what is labelled.
 fn print(title: &str, width: usize, row: &FormatRecorder) -> Result<(), Refusal> {
@@ -69,6 +70,14 @@ fn main() -> Result<(), Refusal> {
     print("indented by", 2, &report)?;
     write_unindented(&mut out, &report, &mark)?;
     print("taken off again,", 2, &out)?;
+
+    // Both read as many columns; what stands under the label is the office's alone.
+    let mut priced = FormatRecorder::with_data("oak 12 ft ")?;
+    priced.write_labeled("price", "980 円")?;
+    write_for_office(&mut out, &priced, "price")?;
+    print("for the office, width", text_width(out.data()), &out)?;
+    write_for_floor(&mut out, &priced, "price")?;
+    print("for the floor, width", text_width(out.data()), &out)?;
 
     // A recorder lengthens its buffers. Lent ones have the length they have: eight bytes are too few, and are left alone.
     let (mut few, mut entries, mut text) = ([0xEE; 8], [0; 64], [0; 128]);

@@ -388,6 +388,28 @@ pub fn write_tabs_expanded(content: View, stop: u32, out: Buffers) -> Result<Don
     layout!(ruszvedok_write_tabs_expanded, [content], [stop], out)
 }
 
+/// What the office reads of a recording: all of it, as [`replay`] leaves it. The label is the one that hides from the floor.
+///
+/// # Errors
+///
+/// Refusals 1 to 6, 34, 35, 9, 21 to 23.
+#[inline]
+pub fn write_for_office(content: View, label: &[u8], out: Buffers) -> Result<Done, Refusal> {
+    layout!(ruszvedok_write_for_office, [content], [label.as_ptr(), label.len()], out)
+}
+
+/// What the floor reads of a recording: instead of each character with any byte under the label as many `*` as it is wide, under the
+/// labels of its first byte; 0A stays. Raw sequences placed under the label are dropped, and an entry inside a character so replaced
+/// comes after its stars.
+///
+/// # Errors
+///
+/// Refusals 1 to 6, 34, 35, 9, 21 to 23.
+#[inline]
+pub fn write_for_floor(content: View, label: &[u8], out: Buffers) -> Result<Done, Refusal> {
+    layout!(ruszvedok_write_for_floor, [content], [label.as_ptr(), label.len()], out)
+}
+
 /// All calls of a list, each on what the last one not refused left; the number is how many were not refused. The content is what `used`
 /// says of `first`, and the result is left there; `other` has the same lengths. Both beyond the result, and `lines`, hold what the calls
 /// left on the way. `answers` gets two numbers a call: its refusal or 0, and its number.

@@ -1,5 +1,5 @@
 //! Recorded text and its layout: text with labels is cut, padded, indented, wrapped and replaced, its tabs are expanded, an indent is
-//! taken off, and the labels stay in step.
+//! taken off, and the labels stay in step. What is under a label can be hidden from one of two readers.
 //!
 //! The work is done by a library whose every function is proved to meet its contract (`crates/capi` and what is below it). This crate
 //! is three layers over its C names, none of which is proved:
@@ -37,7 +37,7 @@ pub use recorder::{FormatOp, FormatRecorder, Span};
 pub use refusal::Refusal;
 pub use sys::{LINE_NUMBERS, MAX_DATA, MAX_ENTRIES, MAX_ENTRY_NUMBERS, MAX_TEXT};
 pub use text_util::{
-    complete_newline, elide_end, elide_start, text_width, trim_start_zero_width_chars, wrap_bytes, write_indented,
-    write_padded_centered, write_padded_end, write_padded_start, write_replaced, write_tabs_expanded, write_truncated_end,
-    write_truncated_start, write_unindented, write_wrapped,
+    complete_newline, elide_end, elide_start, text_width, trim_start_zero_width_chars, wrap_bytes, write_for_floor,
+    write_for_office, write_indented, write_padded_centered, write_padded_end, write_padded_start, write_replaced,
+    write_tabs_expanded, write_truncated_end, write_truncated_start, write_unindented, write_wrapped,
 };

@@ -43,6 +43,10 @@ pub enum Refusal {
     PrefixNewline,
     /// 33: a line that is not empty and does not begin with the prefix to be taken off.
     PrefixMissing,
+    /// 34: a reader's label that is empty or not well-formed UTF-8.
+    ViewLabel,
+    /// 35: a content whose labels are not balanced.
+    ContentUnbalanced,
     /// 61: two sets of buffers that differ in a length.
     SetsDiffer,
     /// 62: calls that are not eight numbers each, an unknown kind, a range not within its pool.
@@ -73,6 +77,8 @@ impl Refusal {
         Self::TabStop,
         Self::PrefixNewline,
         Self::PrefixMissing,
+        Self::ViewLabel,
+        Self::ContentUnbalanced,
         Self::SetsDiffer,
         Self::CallNumbers,
         Self::AnswerListTooShort,
@@ -99,6 +105,8 @@ impl Refusal {
             Self::TabStop => 31,
             Self::PrefixNewline => 32,
             Self::PrefixMissing => 33,
+            Self::ViewLabel => 34,
+            Self::ContentUnbalanced => 35,
             Self::SetsDiffer => 61,
             Self::CallNumbers => 62,
             Self::AnswerListTooShort => 63,
@@ -127,6 +135,8 @@ impl Refusal {
             Self::TabStop => "a tab stop that is 0 or over 64",
             Self::PrefixNewline => "a prefix to be taken off that has a 0A",
             Self::PrefixMissing => "a line that is not empty and does not begin with the prefix to be taken off",
+            Self::ViewLabel => "a reader's label that is empty or not well-formed UTF-8",
+            Self::ContentUnbalanced => "a content whose labels are not balanced",
             Self::SetsDiffer => "two sets of buffers that differ in a length",
             Self::CallNumbers => "calls that are not eight numbers each, an unknown kind, a range not within its pool",
             Self::AnswerListTooShort => "the list of answers is too short, at two numbers a call",

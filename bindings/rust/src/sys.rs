@@ -114,6 +114,16 @@ extern "C" {
         text_len: usize, stop: u32, out_data: *mut u8, out_data_len: usize, out_entries: *mut u32,
         out_entries_len: usize, out_text: *mut u8, out_text_len: usize, res: *mut [u64; 5],
     );
+    pub fn ruszvedok_write_for_office(
+        content: *const u8, content_len: usize, entries: *const u32, entries_len: usize, text: *const u8,
+        text_len: usize, label: *const u8, label_len: usize, out_data: *mut u8, out_data_len: usize,
+        out_entries: *mut u32, out_entries_len: usize, out_text: *mut u8, out_text_len: usize, res: *mut [u64; 5],
+    );
+    pub fn ruszvedok_write_for_floor(
+        content: *const u8, content_len: usize, entries: *const u32, entries_len: usize, text: *const u8,
+        text_len: usize, label: *const u8, label_len: usize, out_data: *mut u8, out_data_len: usize,
+        out_entries: *mut u32, out_entries_len: usize, out_text: *mut u8, out_text_len: usize, res: *mut [u64; 5],
+    );
     pub fn ruszvedok_run_calls(
         calls: *const u32, calls_len: usize, pool: *const u8, pool_len: usize, pool_numbers: *const u32,
         pool_numbers_len: usize, data_len: usize, entries_len: usize, text_len: usize, data: *mut u8, data_room: usize,

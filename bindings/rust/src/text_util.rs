@@ -1,13 +1,14 @@
-//! The layout calls and the calls on plain texts, with the original's names and order of parameters. `write_unindented` and
-//! `write_tabs_expanded` are the library's own.
+//! The layout calls and the calls on plain texts, with the original's names and order of parameters. `write_unindented`,
+//! `write_tabs_expanded` and the two readers, `write_for_office` and `write_for_floor`, are the library's own.
 //!
-//! What a layout call leaves TAKES THE PLACE of what `out` held; the original appends. After a refusal `out` holds what it held.
+//! What a call leaves TAKES THE PLACE of what `out` held; the original appends. After a refusal `out` holds what it held.
 //!
 //! # Errors
 //!
 //! Of all refusals these can come: [`Refusal::ResultOverLimit`], [`Refusal::ReplacementRange`] (`write_replaced`),
-//! [`Refusal::PrefixNewline`] and [`Refusal::PrefixMissing`] (`write_unindented`), [`Refusal::TabStop`] (`write_tabs_expanded`) and,
-//! for texts that are no recordings, [`Refusal::DataTooLong`].
+//! [`Refusal::PrefixNewline`] and [`Refusal::PrefixMissing`] (`write_unindented`), [`Refusal::TabStop`] (`write_tabs_expanded`),
+//! [`Refusal::ViewLabel`] and [`Refusal::ContentUnbalanced`] (the two readers) and, for texts that are no recordings,
+//! [`Refusal::DataTooLong`].
 use std::borrow::Cow;
 
 use crate::lent::{self, Done, Lines, Replacement};
@@ -280,6 +281,45 @@ pub fn write_tabs_expanded(out: &mut FormatRecorder, recorded_content: &FormatRe
     let content = recorded_content.view();
     // A stop over 32 bits becomes the largest, which is refused too.
     out.lend(content.used(), |out, _| lent::write_tabs_expanded(content, columns(stop), out)).map(drop)
+}
+
+/// Writes what the office reads: all of the content. The label is the one that hides from the floor, see [`write_for_floor`]. (The
+/// original has no such function.)
+///
+/// # Errors
+///
+/// [`Refusal::ViewLabel`] if the label is empty, [`Refusal::ContentUnbalanced`] if a label of the content is not closed or a pop has none
+/// to close.
+pub fn write_for_office(out: &mut FormatRecorder, recorded_content: &FormatRecorder, label: &str) -> Result<(), Refusal> {
+    let content = recorded_content.view();
+    out.lend(content.used(), |out, _| lent::write_for_office(content, label.as_bytes(), out)).map(drop)
+}
+
+/// Writes what the floor reads: instead of each character with any byte under the label as many `*` as it is wide, under the labels of
+/// its first byte; 0A stays. Raw sequences placed under the label are dropped, and an entry inside a character so replaced comes after
+/// its stars. What is under the label shows in nothing else than these columns. (The original has no such function.)
+///
+/// ```
+/// use ruszvedok::{write_for_floor, write_for_office, FormatRecorder, Refusal};
+///
+/// let mut row = FormatRecorder::with_data("oak 12 ft ")?;
+/// row.write_labeled("price", "7.50")?;
+/// let mut out = FormatRecorder::new();
+/// write_for_office(&mut out, &row, "price")?;
+/// assert_eq!(out.data(), b"oak 12 ft 7.50");
+/// write_for_floor(&mut out, &row, "price")?;
+/// assert_eq!(out.data(), b"oak 12 ft ****");
+/// assert_eq!(write_for_floor(&mut out, &row, ""), Err(Refusal::ViewLabel));
+/// # Ok::<(), Refusal>(())
+/// ```
+///
+/// # Errors
+///
+/// [`Refusal::ViewLabel`] if the label is empty, [`Refusal::ContentUnbalanced`] if a label of the content is not closed or a pop has none
+/// to close.
+pub fn write_for_floor(out: &mut FormatRecorder, recorded_content: &FormatRecorder, label: &str) -> Result<(), Refusal> {
+    let content = recorded_content.view();
+    out.lend(content.used(), |out, _| lent::write_for_floor(content, label.as_bytes(), out)).map(drop)
 }
 
 /// Wraps lines at the given width: the lines without their newlines, each a part of `text`, with its width. (The original gives no

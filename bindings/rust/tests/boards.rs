@@ -174,6 +174,69 @@ fn indented_and_back() {
     }
 }
 
+/// Document 02, Q-6: what is under a label, for the office and for the floor.
+#[test]
+fn two_readers() {
+    let mut row = plain("oak ");
+    row.raw(b"\x1b[m").unwrap();
+    row.push_label("price").unwrap();
+    row.raw(b"\x1b[1m").unwrap();
+    row.write_data("木").unwrap();
+    row.write_labeled("sum", "\u{301}7\n\t").unwrap();
+    row.pop_label().unwrap();
+    row.write_data(" b").unwrap();
+    let (mut office, mut floor) = (plain("something else"), FormatRecorder::new());
+    write_for_office(&mut office, &row, "price").unwrap();
+    assert_eq!(office, row);
+    write_for_floor(&mut floor, &row, "price").unwrap();
+    assert_eq!(floor.data(), b"oak ***\n b");
+    let ops = [
+        (4, FormatOp::RawEscapeSequence(b"\x1b[m")),
+        (4, FormatOp::PushLabel("price")),
+        (6, FormatOp::PushLabel("sum")),
+        (8, FormatOp::PopLabel),
+        (8, FormatOp::PopLabel),
+    ];
+    assert!(floor.ops().eq(ops));
+    // Another label hides something else, and an absent one nothing.
+    write_for_floor(&mut floor, &row, "sum").unwrap();
+    assert_eq!(floor.data(), "oak 木*\n b".as_bytes());
+    write_for_floor(&mut floor, &row, "pric").unwrap();
+    assert_eq!(floor, row);
+}
+
+/// A character with a byte under the label is replaced as a whole, and what stands inside of it comes behind its stars.
+#[test]
+fn hidden_in_part() {
+    let mut row = FormatRecorder::with_data(b"\xE6").unwrap();
+    row.write_labeled("price", b"\x9C").unwrap();
+    row.write_data(b"\xA8b\xE6\x9C").unwrap();
+    row.write_labeled("price", b"\xC3").unwrap();
+    let mut out = FormatRecorder::new();
+    write_for_floor(&mut out, &row, "price").unwrap();
+    assert_eq!(out.data(), b"**b\xE6\x9C*");
+    let ops = [(2, FormatOp::PushLabel("price")), (2, FormatOp::PopLabel), (5, FormatOp::PushLabel("price")), (6, FormatOp::PopLabel)];
+    assert!(out.ops().eq(ops));
+}
+
+/// Two rows that differ under the label, character for character of the same width: the floor reads the same.
+#[test]
+fn hidden_from_the_floor() {
+    let row = |price: &str, raw: &[u8]| {
+        let mut row = plain("oak ");
+        row.push_label("price").unwrap();
+        row.raw(raw).unwrap();
+        row.write_data(price).unwrap();
+        row.pop_label().unwrap();
+        row.write_data(" b").unwrap();
+        row
+    };
+    let (mut one, mut other) = (FormatRecorder::new(), FormatRecorder::new());
+    write_for_floor(&mut one, &row("980 円", b"\x1b[1m"), "price").unwrap();
+    write_for_floor(&mut other, &row("7é─.木", b"\x1b[38;5;1m"), "price").unwrap();
+    assert_eq!((one.data(), &one), (&b"oak ****** b"[..], &other));
+}
+
 #[test]
 fn c15_plain_texts() {
     assert_eq!(elide_end("spruce", "..", 4), Ok(("sp..".into(), 4))); // C15

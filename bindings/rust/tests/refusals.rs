@@ -145,6 +145,39 @@ fn of_prefixes() {
     }
 }
 
+/// 34 and 35 come behind the content's own refusals, in this order, and before 9 and those of the buffers; for both readers.
+#[test]
+fn of_two_readers() {
+    let row = View { data: "木7".as_bytes(), entries: &[0, 0, 0, 1, 1, 2, 1, 2, 4, 1, 0, 0], text: b"x\x1B[" };
+    let (open, closed) = (View { entries: &row.entries[..8], ..row }, View { entries: &[0, 1, 0, 0, 0, 0, 0, 1], ..row });
+    // Over the limit of text, as the parts of two raw sequences beside the label overlap.
+    let long = vec![b'x'; MAX_TEXT];
+    let entries: Vec<u32> = [[0, 2, 0, MAX_TEXT as u32]; 2].concat();
+    let over = View { data: b"a", entries: &entries, text: &long };
+    for call in [lent::write_for_office, lent::write_for_floor] {
+        let of = |row, label: &[u8], sizes| refused(sizes, |out| call(row, label, out));
+        for sizes in [ENOUGH, (0, 0, 0)] {
+            for label in [&b""[..], b"x\xE6\x9C"] {
+                assert_eq!((of(row, label, sizes), of(open, label, sizes), of(over, label, sizes)), (34, 34, 34));
+                assert_eq!(of(View { text: b"\xFF\x1B[", ..row }, label, sizes), 6);
+            }
+            assert_eq!((of(open, b"x", sizes), of(closed, b"x", sizes), of(closed, b"y", sizes)), (35, 35, 35));
+            assert_eq!(of(View { text: b"\xFF\x1B[", ..open }, b"x", sizes), 6);
+            assert_eq!(of(over, b"x", sizes), 9);
+        }
+    }
+    // What a reader is left counts: a wide character is two stars, and the raw sequence goes.
+    for (sizes, office, floor) in [((4, 12, 3), 0, 0), ((3, 8, 1), 21, 0), ((4, 8, 1), 22, 0), ((4, 12, 1), 23, 0), ((2, 8, 1), 21, 21), ((3, 7, 1), 21, 22), ((3, 8, 0), 21, 23)] {
+        assert_eq!(refused(sizes, |out| lent::write_for_office(row, b"x", out)), office, "{sizes:?}");
+        assert_eq!(refused(sizes, |out| lent::write_for_floor(row, b"x", out)), floor, "{sizes:?}");
+    }
+    for (row, label, refusal) in [(row, "", Refusal::ViewLabel), (open, "x", Refusal::ContentUnbalanced)] {
+        let (row, mut out) = (FormatRecorder::try_from(row).unwrap(), FormatRecorder::with_data("held").unwrap());
+        assert_eq!((write_for_office(&mut out, &row, label), write_for_floor(&mut out, &row, label)), (Err(refusal), Err(refusal)));
+        assert_eq!(out.data(), b"held");
+    }
+}
+
 #[test]
 fn of_plain_texts() {
     let long = "a".repeat(MAX_DATA + 1);
@@ -162,7 +195,7 @@ fn of_plain_texts() {
 #[test]
 fn names_and_numbers() {
     let numbers: Vec<_> = Refusal::ALL.iter().map(|refusal| refusal.number()).collect();
-    assert_eq!(numbers, [1, 2, 3, 4, 5, 6, 7, 8, 9, 10, 21, 22, 23, 24, 31, 32, 33, 61, 62, 63]);
+    assert_eq!(numbers, [1, 2, 3, 4, 5, 6, 7, 8, 9, 10, 21, 22, 23, 24, 31, 32, 33, 34, 35, 61, 62, 63]);
     assert!(Refusal::ALL.iter().all(|refusal| Refusal::from_number(refusal.number()) == Some(*refusal)));
     assert_eq!((Refusal::from_number(0), Refusal::from_number(11)), (None, Some(Refusal::Other(11))));
     assert_eq!(Refusal::ResultOverLimit.to_string(), "a result over a limit of the recording (refusal 9)");

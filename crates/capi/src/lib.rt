@@ -14,6 +14,8 @@ use indent::write_indented;
 use pad::write_padded_centered;
 use pad::write_padded_end;
 use pad::write_padded_start;
+use readers::write_for_floor;
+use readers::write_for_office;
 use recorder::pop_label;
 use recorder::push_label;
 use recorder::raw;
@@ -33,10 +35,12 @@ ghost use lib.ListN.{length};
 ghost use Rattle.chars.specs.Chars.{textWidth, wellFormed};
 ghost use Rattle.chars.specs.Cut.{truncateEndPos, truncateEndWidth, truncateStartPos, truncateStartWidth, zeroWidthLen};
 ghost use Rattle.recording.specs.Recording.{recording};
+ghost use Rattle.recording.specs.Outcome.{roomIn};
 ghost use Rattle.recorder.specs.Recorder.{replayed, written, pushed, popped, rawAdded};
 ghost use Rattle.layout.specs.Layout.{truncateStart, truncateEnd, padStart, padEnd, padCentered, indent, unindent, wrap, replace, expandTabs};
 ghost use Rattle.layout.specs.Lent.{lentOf, lentLined};
 ghost use Rattle.wrap_lines.specs.WrapBytes.{lentLines, wrapBytesOutcome};
+ghost use Rattle.view.specs.View.{officeOutcome, floorOutcome};
 ghost use Rattle.replace.specs.Records.{recordsOf};
 ghost use Rattle.call_lists.specs.Runs.{given, buffers};
 ghost use Rattle.elide.specs.Elide.{lent, elideEndOutcome, elideStartOutcome, completeNewlineOutcome};
@@ -435,6 +439,49 @@ pub extern "C" fn ruszvedok_write_tabs_expanded(
         (lentOf (now (bytes .entry)) (now (numbers .entry)) (now (texts .entry))) (lentOf (now (bytes .exit)) (now (numbers .exit)) (now (texts .exit))) (now (res .exit)) ⌝ }
 {
     let a = write_tabs_expanded(content, entries, text, stop, bytes, numbers, texts);
+    store(a, res);
+}
+
+// Writes what the office reads of a recording: all of it, as replaying leaves it. `label` is the one that hides from the floor.
+#[no_mangle]
+pub extern "C" fn ruszvedok_write_for_office(
+    content: &[u8],
+    entries: &[u32],
+    text: &[u8],
+    label: &[u8],
+    bytes: &mut [u8],
+    numbers: &mut [u32],
+    texts: &mut [u8],
+    res: &mut [u64; 5],
+)
+    ensures { λ _. ⌜ PromisedNumbers
+        (officeOutcome (now (label .entry)) (roomIn (lentOf (now (bytes .entry)) (now (numbers .entry)) (now (texts .entry))))
+        (recording (now (content .entry)) (now (entries .entry)) (now (text .entry))))
+        (lentOf (now (bytes .entry)) (now (numbers .entry)) (now (texts .entry))) (lentOf (now (bytes .exit)) (now (numbers .exit)) (now (texts .exit))) (now (res .exit)) ⌝ }
+{
+    let a = write_for_office(content, entries, text, label, bytes, numbers, texts);
+    store(a, res);
+}
+
+// Writes what the floor reads of a recording: instead of each character with any byte under the label as many `*` as it is wide, under the labels of its first byte, and no raw sequence that is
+// placed under the label; 0A stays.
+#[no_mangle]
+pub extern "C" fn ruszvedok_write_for_floor(
+    content: &[u8],
+    entries: &[u32],
+    text: &[u8],
+    label: &[u8],
+    bytes: &mut [u8],
+    numbers: &mut [u32],
+    texts: &mut [u8],
+    res: &mut [u64; 5],
+)
+    ensures { λ _. ⌜ PromisedNumbers
+        (floorOutcome (now (label .entry)) (roomIn (lentOf (now (bytes .entry)) (now (numbers .entry)) (now (texts .entry))))
+        (recording (now (content .entry)) (now (entries .entry)) (now (text .entry))))
+        (lentOf (now (bytes .entry)) (now (numbers .entry)) (now (texts .entry))) (lentOf (now (bytes .exit)) (now (numbers .exit)) (now (texts .exit))) (now (res .exit)) ⌝ }
+{
+    let a = write_for_floor(content, entries, text, label, bytes, numbers, texts);
     store(a, res);
 }
 

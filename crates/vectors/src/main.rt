@@ -18,6 +18,8 @@ use capi::ruszvedok_truncate_start_pos;
 use capi::ruszvedok_well_formed;
 use capi::ruszvedok_wrap_bytes;
 use capi::ruszvedok_write;
+use capi::ruszvedok_write_for_floor;
+use capi::ruszvedok_write_for_office;
 use capi::ruszvedok_write_indented;
 use capi::ruszvedok_write_padded_centered;
 use capi::ruszvedok_write_padded_end;
@@ -41,9 +43,9 @@ ghost use lib.ListN.{length};
 ghost use Rattle.chars.specs.Leads.{leadTable};
 
 // How many calls there are in the table of names in `main`, and how many rows are printed: one more, of the lines that are wrong on purpose.
-const CALLS: usize = 27;
+const CALLS: usize = 29;
 
-const ROWS: usize = 28;
+const ROWS: usize = 30;
 
 // What stands for a word that is no number.
 const NONE: u64 = 18446744073709551615;
@@ -87,7 +89,9 @@ const LINES: usize = 17;
 
 const CHARACTERS: usize = 18;
 
-const KEYS: usize = 19;
+const LABEL: usize = 19;
+
+const KEYS: usize = 20;
 
 // ── fields
 
@@ -160,7 +164,7 @@ fn value_in(f: &[u8], key: usize) -> usize
     behind(
         f,
         part(
-            b"data entries text second second_entries second_text records new added used width break code answer out out_entries out_text lines characters",
+            b"data entries text second second_entries second_text records new added used width break code answer out out_entries out_text lines characters label",
             0x20,
             key,
         ),
@@ -948,6 +952,24 @@ fn other_call(
     }
 }
 
+// The two readers.
+fn view_call(
+    call: usize,
+    content: &[u8],
+    entries: &[u32],
+    text: &[u8],
+    label: &[u8],
+    bytes: &mut [u8],
+    numbers: &mut [u32],
+    texts: &mut [u8],
+    res: &mut [u64; 5],
+) {
+    match call {
+        27 => ruszvedok_write_for_office(content, entries, text, label, bytes, numbers, texts, res),
+        _ => ruszvedok_write_for_floor(content, entries, text, label, bytes, numbers, texts, res),
+    }
+}
+
 fn layout_call(
     call: usize,
     content: &[u8],
@@ -988,6 +1010,17 @@ fn layout_call(
             second_entries,
             second_text,
             width,
+            bytes,
+            numbers,
+            texts,
+            res,
+        ),
+        27 | 28 => view_call(
+            call,
+            content,
+            entries,
+            text,
+            second,
             bytes,
             numbers,
             texts,
@@ -1089,10 +1122,11 @@ fn layout_agrees(
 fn second_in(line: &[u8], call: usize, out: &mut [u8]) -> usize
     ensures { λ r. ⌜ r ≤ length (now (out .exit)) ⌝ }
 {
-    if call == 14 {
-        return bytes_in(line, NEW, out);
+    match call {
+        14 => bytes_in(line, NEW, out),
+        27 | 28 => bytes_in(line, LABEL, out),
+        _ => bytes_in(line, SECOND, out),
     }
-    bytes_in(line, SECOND, out)
 }
 
 fn second_entries_in(line: &[u8], call: usize, out: &mut [u32]) -> usize
@@ -1104,7 +1138,7 @@ fn second_entries_in(line: &[u8], call: usize, out: &mut [u32]) -> usize
     numbers_in(line, SECOND_ENTRIES, out)
 }
 
-// Reads what a layout call takes besides the content: a second recording, or the replacements and their text.
+// Reads what a call takes besides the content: a second recording, the replacements and their text, or a label.
 fn content_agrees(line: &[u8], call: usize, content: &[u8], entries: &[u32], text: &[u8]) -> bool {
     let mut second = data_buffer();
     let mut second_entries: [u32; 40008] = [0; 40008];
@@ -1509,7 +1543,7 @@ fn main() {
     run(
         b"text_width well_formed truncate_end_pos truncate_start_pos zero_width_len replay write_truncated_start write_truncated_end write_padded_start write_padded_end \
         write_padded_centered write_indented wrap_bytes write_wrapped write_replaced elide_start elide_end complete_newline write push_label pop_label raw \
-        char_width read_char trim_start_zero_width_chars write_tabs_expanded write_unindented wrong",
+        char_width read_char trim_start_zero_width_chars write_tabs_expanded write_unindented write_for_office write_for_floor wrong",
         &list[..n],
     );
 }

@@ -7,7 +7,7 @@ use bench::recordings::{Expected, Left, view};
 use oracle::{Entry, Kind, Lists, Recording};
 use ruszvedok::lent::{self, Buffers, Replacement, View};
 
-use crate::{complete_newline_of, elide_of, lend, wrap_bytes_of, write_replaced_of, write_unindented_of, write_wrapped_of};
+use crate::{ForReader, OursForReader, complete_newline_of, elide_of, for_reader_of, lend, wrap_bytes_of, write_replaced_of, write_unindented_of, write_wrapped_of};
 
 /// Space, newline, a letter; a character of three bytes and width 2, one of two bytes and width 0, the lead of one of four; and so
 /// every broken form of these.
@@ -203,6 +203,30 @@ pub fn write_unindented(numbers: &mut Numbers) -> Checked {
         for prefix in rows(&THREE, 2) {
             write_unindented_of((&content.to_lists(), 0), (&Recording::plain(&prefix).to_lists(), 0), numbers)?;
             made += 1;
+        }
+    }
+    Ok(made)
+}
+
+/// Every string of up to four bytes with the label over every stretch of it, and of up to three with a raw sequence or a label more, in
+/// every order at every place; some are unbalanced.
+pub fn for_reader(numbers: &mut Numbers, rust: OursForReader, rattle: ForReader) -> Checked {
+    const SHAPES: [&str; 9] = ["xp", "xrp", "rxp", "xpr", "xxpp", "xypp", "yxpp", "px", "xxp"];
+    let mut made = 0;
+    for shape in SHAPES {
+        for data in rows(&BYTES, if shape.len() == 2 { 4 } else { 3 }) {
+            let places: Vec<usize> = (0..=data.len()).collect();
+            let placed = |places: &Vec<usize>| places.len() == shape.len() && places.is_sorted();
+            for places in rows(&places, shape.len() as u32).filter(placed) {
+                let entry = |(at, kind): (usize, u8)| match kind {
+                    b'p' => Entry { at, kind: Kind::Pop, text: vec![] },
+                    b'r' => Entry { at, kind: Kind::Raw, text: vec![0x1B, 0xFF] },
+                    label => Entry { at, kind: Kind::Push, text: vec![label] },
+                };
+                let content = Recording { data: data.clone(), entries: places.into_iter().zip(shape.bytes()).map(entry).collect() };
+                for_reader_of((&content.to_lists(), 0), b"x", rust, rattle, numbers)?;
+                made += 1;
+            }
         }
     }
     Ok(made)

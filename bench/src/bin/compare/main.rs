@@ -6,14 +6,15 @@ mod lists;
 mod typed;
 
 use std::fmt::Debug;
+use std::io::Result as Io;
 use std::process::ExitCode;
 
 use bench::inputs::{About, Numbers, damaged};
 use bench::ours;
 use bench::recordings::{Answer, Expected, Left, at_a_limit, content, fault, listed, maybe_damaged, recording, scattered, view, with_added};
 use bench::room::{LIMITS, Room};
-use oracle::original::FormatRecorder;
-use oracle::{Lists, Recording};
+use oracle::original::{FormatRecorder, Formatter};
+use oracle::{Entry, Kind, Lists, Recording};
 use ruszvedok::lent::{self, Buffers, Place, Replacement, Used, View};
 
 /// One call on one generated input.
@@ -40,6 +41,9 @@ const CALLS: &[(&str, Call)] = &[
     ("write_wrapped", write_wrapped),
     ("write_replaced", write_replaced),
     ("write_tabs_expanded", write_tabs_expanded),
+    ("write_for_office", |n| for_reader(n, ours::write_for_office, lent::write_for_office)),
+    ("write_for_floor", |n| for_reader(n, ours::write_for_floor, lent::write_for_floor)),
+    ("write_for_floor_by_pieces", |n| for_reader(n, ours::write_for_floor_by_pieces, lent::write_for_floor)),
     ("elide_start", |n| elide(n, oracle::elide_start, lent::elide_start)),
     ("elide_end", |n| elide(n, oracle::elide_end, lent::elide_end)),
     ("complete_newline", complete_newline),
@@ -70,6 +74,8 @@ const MANY: &[(&str, Many)] = &[
     ("exhaustive_write_padded_centered", |n, _| exhaustive::with_second(n, |c, f, w| (oracle::write_padded_centered(c, f, w), 0), lent::write_padded_centered)),
     ("exhaustive_write_indented", |n, _| exhaustive::write_indented(n)),
     ("exhaustive_write_unindented", |n, _| exhaustive::write_unindented(n)),
+    ("exhaustive_write_for_office", |n, _| exhaustive::for_reader(n, ours::write_for_office, lent::write_for_office)),
+    ("exhaustive_write_for_floor", |n, _| exhaustive::for_reader(n, ours::write_for_floor, lent::write_for_floor)),
     ("exhaustive_write_wrapped", |n, _| exhaustive::write_wrapped(n)),
     ("exhaustive_write_replaced", |n, _| exhaustive::write_replaced(n)),
 ];
@@ -390,6 +396,58 @@ fn write_tabs_expanded(numbers: &mut Numbers) -> Result<(), String> {
     }
     let expected = Expected { faults, result: Recording::from_recorder(&out).to_lists(), lines: vec![], number: 0 };
     lend(numbers, expected, |room, _| lent::write_tabs_expanded(view(&lists), stop, room.lent()), &(&lists, stop))
+}
+
+/// A reader's call as ours has it, and as the library has it.
+type OursForReader = fn(&mut dyn Formatter, &FormatRecorder, &[u8]) -> Io<u64>;
+type ForReader = fn(View, &[u8], Buffers) -> Left;
+
+/// Against a function of ours: the original has none. Half of the labels are the one that hides; most recordings are balanced.
+fn for_reader(numbers: &mut Numbers, rust: OursForReader, rattle: ForReader) -> Result<(), String> {
+    let label = match numbers.within(0, 19) {
+        0 => &b""[..],
+        1 => [&b"\xFF"[..], b"x\xE6\x9C", b"\x80"][numbers.within(0, 2) as usize],
+        _ => [&b"node"[..], b"a", b"working_copy", "ä木".as_bytes(), b"nodes"][numbers.within(0, 4) as usize],
+    };
+    let mut made = recording(numbers, 12);
+    if numbers.within(0, 9) != 0 {
+        let mut open = 0;
+        made.entries.retain(|entry| {
+            let stays = entry.kind != Kind::Pop || open > 0;
+            open += (entry.kind == Kind::Push) as u32;
+            open -= (stays && entry.kind == Kind::Pop) as u32;
+            stays
+        });
+        made.entries.extend((0..open).map(|_| Entry { at: made.data.len(), kind: Kind::Pop, text: vec![] }));
+    }
+    if std::str::from_utf8(label).is_ok() {
+        let pushes = made.entries.iter_mut().filter(|entry| entry.kind == Kind::Push);
+        pushes.filter(|_| numbers.within(0, 1) == 0).for_each(|entry| entry.text = label.to_vec());
+    }
+    let mut lists = scattered(&made, numbers);
+    match numbers.within(0, 2999) {
+        0 => lists = at_a_limit(numbers),
+        // Raw sequences over the limit of text together, as the parts overlap; one of them, or both, under the label.
+        1 => {
+            let (half, len) = (LIMITS.2 as u32 / 2 + numbers.within(0, 1) as u32, label.len() as u32);
+            let under = [0, 0, 0, len, 0, 2, 0, half, 0, 1, 0, 0];
+            let other = if numbers.within(0, 1) == 0 { under.to_vec() } else { vec![0, 2, 0, half] };
+            lists = Lists { data: made.data, entries: [&under[..], &other].concat(), text: [label, &vec![0x1B; half as usize]].concat() };
+        }
+        _ => maybe_damaged(&mut lists, numbers),
+    }
+    let content_fault = fault(&lists);
+    for_reader_of((&lists, content_fault), label, rust, rattle, numbers)
+}
+
+fn for_reader_of((lists, content_fault): (&Lists, u64), label: &[u8], rust: OursForReader, rattle: ForReader, numbers: &mut Numbers) -> Result<(), String> {
+    let (mut out, mut own) = (FormatRecorder::new(false), 0);
+    if content_fault == 0 {
+        let content = Recording::from_lists(&lists.data, &lists.entries, &lists.text).unwrap();
+        own = rust(&mut out, &content.to_recorder(), label).unwrap();
+    }
+    let expected = Expected { faults: vec![content_fault, own], result: Recording::from_recorder(&out).to_lists(), lines: vec![], number: 0 };
+    lend(numbers, expected, |room, _| rattle(view(lists), label, room.lent()), &(lists, label))
 }
 
 /// A text that is well-formed, mostly.
