@@ -66,7 +66,7 @@ runs-held (x ∷ xs) at finished former old new rest s h e =
     let far : at + length (x ++ flatten xs) ≡ (at + length x) + length (flatten xs) = omega (arith, length-append x (flatten xs)) in
     rw far (runs-held xs (at + length x) finished former (s .0) new rest (s .2) ((s .1) finished former h next) onward)
 
-flatten-append : (xs ys : List (List ℕ)) → flatten (xs ++ ys) ≡ flatten xs ++ flatten ys
+pub flatten-append : (xs ys : List (List ℕ)) → flatten (xs ++ ys) ≡ flatten xs ++ flatten ys
 unfolding flatten
 flatten-append [] ys = refl
 flatten-append (x ∷ xs) ys = ap (λ (y : List ℕ). x ++ y) (flatten-append xs ys) ∙ sym (append-assoc x (flatten xs) (flatten ys))

@@ -3,12 +3,13 @@
 -- The idea: what becomes of the bytes from a character's start on is what becomes of this character's, and behind it of those from the next one's start on (`fates-append`).
 use Prim.Native.Nat.{ℕ, zero, suc, _+_, _-_, _≤_, _<_}
 use native.Mathlib.Omega.{arith}
-use mathlib.Core.Bool.{Bool, true, false, cond, _&&_, _||_, not}
+use mathlib.Core.Bool.{Bool, true, false, cond, _||_, or-assoc}
 use mathlib.Core.Path.{_≡_, refl, sym, ap, _∙_}
-use mathlib.Core.List.{List, [], _∷_, _++_, append-assoc, append-nil, flatten, reverse, reverse-cons}
-use lib.ListN.{length, take, drop, replicate, length-append, length-replicate, length-take, length-drop}
+use mathlib.Core.List.{List, [], _∷_, _++_, append-assoc, append-nil, flatten, reverse}
+use lib.ListN.{length, take, drop, replicate, replicate-append-replicate, length-append, length-replicate, length-take, length-drop}
 use lib.Seq.{take-append-seam, drop-append-seam, length-take-le, take-add, drop-drop}
 use Rattle.buffer.specs.Place.{part}
+use Rattle.buffer.proofs.HeldLaws.{flatten-append}
 use Rattle.chars.specs.Chars.{Character, chars, charIn, bytesOf, wide, widthOf}
 use Rattle.chars.proofs.CharsLaws.{Valid, bytes-chars, valid-chars, char-next, char-some, char-inside}
 use Rattle.chars.specs.Chars.{Seam}
@@ -16,6 +17,7 @@ use Rattle.recording.specs.Lists.{AllOf, same}
 use Rattle.recording.specs.Recording.{Bytes, Recording, Item, byteItems}
 use Rattle.recording.specs.Coloured.{Coloured, colouredFrom, coloured}
 use Rattle.recording.proofs.Lists.{all-left, all-right, or-left, or-right}
+use Rattle.view.proofs.AbsentLaws.{among-reverse}
 use Rattle.view.specs.View.{among, anyUnder, hides, hiddenFrom, stars}
 use Rattle.floor_runs.specs.Fates.{singles, gone, fatesOf, fatesFrom, fates, Fated}
 use Rattle.floor_runs.proofs.PlacedLaws.{length-singles, flatten-singles, take-singles, drop-singles, singles-append, flatten-none, length-gone}
@@ -35,37 +37,10 @@ begins-with fs g r at n e m = (
   sym (drop-drop n at fs) ∙ ap (drop n) e ∙ ap (λ (k : ℕ). drop k (g ++ r)) (sym m) ∙ drop-append-seam g r,
 )
 
-replicate-add : {A : Type 0} (m n : ℕ) (a : A) → replicate (m + n) a ≡ replicate m a ++ replicate n a
-replicate-add zero n a = let e : zero + n ≡ n = omega arith in rw e
-replicate-add (suc m) n a = let e : suc m + n ≡ suc (m + n) = omega arith in rw e (ap (λ (r : List _). a ∷ r) (replicate-add m n a))
-
-pub flatten-append : (a b : List Bytes) → flatten (a ++ b) ≡ flatten a ++ flatten b
-unfolding flatten
-flatten-append [] b = refl
-flatten-append (x ∷ a) b = ap (λ (r : Bytes). x ++ r) (flatten-append a b) ∙ sym (append-assoc x (flatten a) (flatten b))
-
-or-assoc : (a b c : Bool) → (a || (b || c)) ≡ ((a || b) || c)
-or-assoc true b c = refl
-or-assoc false b c = refl
-
 -- ── what stands under a label
-pub among-append : (l : Bytes) (a b : List Bytes) → among l (a ++ b) ≡ (among l a || among l b)
-among-append l [] b = refl
-among-append l (k ∷ a) b = ap (λ (t : Bool). same l k || t) (among-append l a b) ∙ or-assoc (same l k) (among l a) (among l b)
-
-or-swap : (a b : Bool) → (a || (b || false)) ≡ (b || a)
-or-swap true true = refl
-or-swap true false = refl
-or-swap false true = refl
-or-swap false false = refl
-
-pub among-reverse : (l : Bytes) (s : List Bytes) → among l (reverse s) ≡ among l s
-among-reverse l [] = refl
-among-reverse l (k ∷ s) = ap (among l) (reverse-cons k s) ∙ among-append l (reverse s) (k ∷ []) ∙ rw (among-reverse l s) (or-swap (among l s) (same l k))
-
 any-append : (l : Bytes) (x y : List Coloured) → anyUnder l (x ++ y) ≡ (anyUnder l x || anyUnder l y)
 any-append l [] y = refl
-any-append l (c ∷ x) y = ap (λ (t : Bool). among l (c .labels) || t) (any-append l x y) ∙ or-assoc (among l (c .labels)) (anyUnder l x) (anyUnder l y)
+any-append l (c ∷ x) y = ap (λ (t : Bool). among l (c .labels) || t) (any-append l x y) ∙ sym (or-assoc (among l (c .labels)) (anyUnder l x) (anyUnder l y))
 
 -- the coloured bytes of some bytes where the labels s are open
 pub same-labels : (s : List Bytes) (p : Bytes) (is : List Item) (n : ℕ) → n ≤ length p → take n (colouredFrom s (byteItems p ++ is)) ≡ colouredFrom s (byteItems (take n p))
@@ -161,7 +136,7 @@ module _ (l : Bytes) where
   flatten-goneAll [] = refl
   flatten-goneAll (c ∷ cs) =
       flatten-append (gone c) (goneAll cs)
-      ∙ rw (flatten-none (length (c .text) - 1), append-nil (stars c), flatten-goneAll cs) (sym (replicate-add {A = ℕ} (wide c) (widthOf cs) 0x2A))
+      ∙ rw (flatten-none (length (c .text) - 1), append-nil (stars c), flatten-goneAll cs) (replicate-append-replicate {A = ℕ} (wide c) (widthOf cs) 0x2A)
 
 -- ── a place of the walk
 module _ (l d : Bytes) (xs : List Coloured) (fs : List Bytes) where
@@ -229,7 +204,7 @@ module _ (l d : Bytes) (xs : List Coloured) (fs : List Bytes) where
     in-two true =
         ap (λ (m : ℕ). singles (take m (drop at d))) sum ∙ ap singles (take-add a b (drop at d)) ∙ singles-append (take a (drop at d)) (take b (drop a (drop at d)))
         ∙ ap (λ (x : Bytes). singles (take a (drop at d)) ++ singles (take b x)) (drop-drop a at d ∙ ap (λ (m : ℕ). drop m d) here)
-    in-two false = ap (λ (m : ℕ). replicate {A = Bytes} m []) sum ∙ replicate-add {A = Bytes} a b []
+    in-two false = ap (λ (m : ℕ). replicate {A = Bytes} m []) sum ∙ sym (replicate-append-replicate {A = Bytes} a b [])
 
     first-long : (k : Bool) → length (cond k (singles (part at to d)) (replicate a [])) ≡ a
     first-long true = length-singles (part at to d) ∙ length-take-le a (drop at d) (omega (arith, length-drop at d, F .within, h, g))
@@ -308,7 +283,7 @@ module _ (l d : Bytes) (xs : List Coloured) (fs : List Bytes) where
       gone-two : gone c ++ [] ≡ (stars c ∷ replicate m []) ++ replicate rest []
       gone-two =
           let z : n - 1 ≡ m + rest = omega (arith, h, g, some) in
-          append-nil (gone c) ∙ ap (λ (j : ℕ). stars c ∷ replicate {A = Bytes} j []) z ∙ ap (λ (x : List Bytes). stars c ∷ x) (replicate-add {A = Bytes} m rest [])
+          append-nil (gone c) ∙ ap (λ (j : ℕ). stars c ∷ replicate {A = Bytes} j []) z ∙ ap (λ (x : List Bytes). stars c ∷ x) (sym (replicate-append-replicate {A = Bytes} m rest []))
 
       pub gone-char : Fated l d xs fs to (at + n) false × (flatten (take (to - at) (drop at fs)) ≡ stars c)
       unfolding flatten

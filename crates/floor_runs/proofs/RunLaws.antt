@@ -16,6 +16,7 @@ use Rattle.recording.specs.Recording.{Bytes, Item, byteItems, dataOf, entriesOf
 use Rattle.recording.specs.Coloured.{Coloured, colouredFrom, values}
 use Rattle.recording.proofs.Lists.{same-equal}
 use Rattle.recording.proofs.ItemsLaws.{values-coloured, data-itemsFrom}
+use Rattle.layout.proofs.StepLaws.{length-values}
 use Rattle.writer.specs.declared.Cursor.{Cursor}
 use Rattle.writer.specs.Write.{left}
 use Rattle.view.specs.View.{among, anyUnder, hides, stars}
@@ -33,10 +34,6 @@ use Rattle.open_label.specs.declared.Walk.{Walk}
 use Rattle.open_label.specs.Walk.{nextPlace}
 use Rattle.floor_runs.specs.Runs.{copiedTo, runBytes, RunOf}
 use Rattle.open_label.proofs.WalkLaws.{left-run}
-
-length-values : (cs : List Coloured) → length (values cs) ≡ length cs
-length-values [] = refl
-length-values (c ∷ cs) = ap suc (length-values cs)
 
 and-false : (a b : Bool) → b ≡ true → (a && not b) ≡ false
 and-false true b h = rw h

@@ -18,7 +18,7 @@ use Rattle.recording.proofs.Lists.{and-left, and-right}
 use Rattle.recording.proofs.SizeLaws.{IsEntry, cursor-bytes, cursor-end}
 use Rattle.writer.specs.declared.Cursor.{Cursor}
 use Rattle.writer.specs.Write.{Valid, left, placeOf, itemAt}
-use Rattle.writer.proofs.Carry.{whole-entry, placed, valid-parts, is-entry, left-turn}
+use Rattle.writer.proofs.Carry.{whole-entry, placed, valid-parts, is-entry, left-turn, bytes-first}
 use Rattle.view.specs.View.{among, anyUnder}
 use Rattle.view.proofs.AbsentLaws.{among-reverse}
 use Rattle.open_label.specs.declared.Open.{Open}
@@ -69,15 +69,10 @@ pub record Reading (l ds ns ts : List ℕ) (end at₀ k₀ : ℕ) (from : Open) 
   pub depth : o .depth ≤ k
   pub rest : (r : Bool) → Under l o (end - at) (leftAt ds ns ts at k) r → Under l from (end - at₀) (leftAt ds ns ts at₀ k₀) r
 
-further : (m at : ℕ) (t d : Bytes) (es : List Entry) → at + m ≤ placeOf es → itemsFrom at t d es ≡ byteItems (take m d) ++ itemsFrom (at + m) t (drop m d) es
-unfolding placeOf
-further m at t d [] h = cursor-end m at t d
-further m at t d (e ∷ es) h = cursor-bytes m at t d e es h
-
 module _ (l ds ns ts : List ℕ) (end at₀ k₀ : ℕ) (from : Open) (at k : ℕ) (o : Open) (p : ℕ) (s : Reading l ds ns ts end at₀ k₀ from at k o p) (long : end ≤ length ds) where
   -- bytes up to m places on come first, if no entry stands before that
-  bytes-first : (m : ℕ) → at + m ≤ p → leftAt ds ns ts at k ≡ byteItems (take m (drop at ds)) ++ itemsFrom (at + m) ts (drop m (drop at ds)) (entriesOf (drop k ns))
-  bytes-first m h = further m at ts (drop at ds) (entriesOf (drop k ns)) (omega (arith, s .next))
+  bytes-next : (m : ℕ) → at + m ≤ p → leftAt ds ns ts at k ≡ byteItems (take m (drop at ds)) ++ itemsFrom (at + m) ts (drop m (drop at ds)) (entriesOf (drop k ns))
+  bytes-next m h = bytes-first m at ts (drop at ds) (entriesOf (drop k ns)) (omega (arith, s .next))
 
   length-first : (m : ℕ) → at + m ≤ length ds → length (take m (drop at ds)) ≡ m
   length-first m h = simp (length-take, length-drop) (omega arith)
@@ -88,7 +83,7 @@ module _ (l ds ns ts : List ℕ) (end at₀ k₀ : ℕ) (from : Open) (at k : �
   hit g c =
       let b : at < p = ltb-true at p (and-left (ltb at p) (not (eqb (o .since) 0)) c) in
       let z : length (take (p - at) (drop at ds)) ≡ p - at = length-first (p - at) (omega arith) in
-      s .rest true (λ st h. sym (ap (λ (is : List Item). anyUnder l (take (end - at) (colouredFrom st is))) (bytes-first (p - at) (omega arith))
+      s .rest true (λ st h. sym (ap (λ (is : List Item). anyUnder l (take (end - at) (colouredFrom st is))) (bytes-next (p - at) (omega arith))
       ∙ under-first l (take (p - at) (drop at ds)) (end - at) st _ (omega (arith, z)) (omega (arith, s .here))
       (told-open l o st h ∙ and-right (ltb at p) (not (eqb (o .since) 0)) c)))
 
@@ -98,7 +93,7 @@ module _ (l ds ns ts : List ℕ) (end at₀ k₀ : ℕ) (from : Open) (at k : �
   ends g =
       let z : length (take (end - at) (drop at ds)) ≡ end - at = length-first (end - at) (omega (arith, s .here)) in
       s .rest (not (eqb (o .since) 0)) (λ st h. sym (told-open l o st h)
-      ∙ sym (ap (λ (is : List Item). anyUnder l (take (end - at) (colouredFrom st is))) (bytes-first (end - at) (omega (arith, s .here)))
+      ∙ sym (ap (λ (is : List Item). anyUnder l (take (end - at) (colouredFrom st is))) (bytes-next (end - at) (omega (arith, s .here)))
       ∙ (λ i. anyUnder l (take (sym z i) (colouredFrom st (byteItems (take (end - at) (drop at ds)) ++ itemsFrom (at + (end - at)) ts (drop (end - at) (drop at ds)) (entriesOf (drop k ns))))))
       ∙ under-all l (take (end - at) (drop at ds)) st _ (omega (arith, z, s .here))))
 

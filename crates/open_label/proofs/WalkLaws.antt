@@ -13,10 +13,10 @@ use Rattle.recording.specs.Coloured.{Coloured, colouredFrom, openAfter}
 use Rattle.recording.specs.Edit.{front, back}
 use Rattle.recording.specs.Refusals.{badShape}
 use Rattle.recording.proofs.EditLaws.{coloured-back}
-use Rattle.recording.proofs.SizeLaws.{front-entry, back-entry, cursor-bytes, cursor-end}
+use Rattle.recording.proofs.SizeLaws.{front-entry, back-entry}
 use Rattle.writer.specs.declared.Cursor.{Cursor}
 use Rattle.writer.specs.Write.{Valid, Ready, left, placeOf, itemAt}
-use Rattle.writer.proofs.Carry.{valid-in, whole-entry, EntryItem, is-entry, left-turn, restAfter, front-stop, back-stop, valid-there, placed}
+use Rattle.writer.proofs.Carry.{valid-in, whole-entry, bytes-first, EntryItem, is-entry, left-turn, restAfter, front-stop, back-stop, valid-there, placed}
 use Rattle.open_label.specs.Walk.{nextPlace}
 
 -- ── a run without an entry inside
@@ -30,15 +30,12 @@ module _ (ds ns ts : List ℕ) (c c′ : Cursor) (h : c .at ≤ c′ .at) (g : c
   behind : drop n (drop (c .at) ds) ≡ drop (c′ .at) ds
   behind = drop-drop n (c .at) ds ∙ ap (λ (m : ℕ). drop m ds) there
 
-  run-items : (es : List Entry) → c′ .at ≤ placeOf es → itemsFrom (c .at) ts (drop (c .at) ds) es ≡ byteItems (part (c .at) (c′ .at) ds) ++ itemsFrom (c′ .at) ts (drop (c′ .at) ds) es
-  unfolding placeOf
-  run-items [] p = cursor-end n (c .at) ts (drop (c .at) ds) ∙ ap (λ (x : List ℕ). byteItems (part (c .at) (c′ .at) ds) ++ byteItems x) behind
-  run-items (e ∷ es) p =
-      cursor-bytes n (c .at) ts (drop (c .at) ds) e es (omega (arith, there, p)) ∙ (λ i. byteItems (part (c .at) (c′ .at) ds) ++ itemsFrom (there i) ts (behind i) (e ∷ es))
-
   pub left-run : left ds ns ts c ≡ byteItems (part (c .at) (c′ .at) ds) ++ left ds ns ts c′
   unfolding left
-  left-run = run-items (entriesOf (drop (c .k) ns)) g ∙ ap (λ (j : ℕ). byteItems (part (c .at) (c′ .at) ds) ++ itemsFrom (c′ .at) ts (drop (c′ .at) ds) (entriesOf (drop j ns))) (sym k)
+  left-run =
+      let es : List Entry = entriesOf (drop (c .k) ns) in
+      bytes-first n (c .at) ts (drop (c .at) ds) es (omega (arith, there, g)) ∙ (λ i. byteItems (part (c .at) (c′ .at) ds) ++ itemsFrom (there i) ts (behind i) es)
+      ∙ ap (λ (j : ℕ). byteItems (part (c .at) (c′ .at) ds) ++ itemsFrom (c′ .at) ts (drop (c′ .at) ds) (entriesOf (drop j ns))) (sym k)
 
   valid-run : (es : List Entry) → c′ .at ≤ placeOf es → c′ .at ≤ length ds → Valid (c .at) (length ds) (length ts) es → Valid (c′ .at) (length ds) (length ts) es
   unfolding placeOf Valid

@@ -9,6 +9,7 @@ use lib.ListN.{length, take, drop, replicate, length-replicate, length-drop, len
 use lib.Seq.{length-take-le, drop-drop}
 use Rattle.buffer.specs.Place.{part}
 use Rattle.buffer.proofs.Laws.{length-part}
+use Rattle.buffer.proofs.HeldLaws.{flatten-append}
 use Rattle.recording.specs.declared.Entry.{Entry}
 use Rattle.recording.specs.Recording.{Bytes, Recording, recording, entriesOf, Item, byteItems, itemsFrom, items, dataOf, encode}
 use Rattle.recording.specs.Coloured.{Coloured, colouredFrom, coloured, openAfter}
@@ -28,7 +29,7 @@ use Rattle.floor_runs.specs.declared.Run.{Run}
 use Rattle.floor_runs.specs.Fates.{fates, toCome, Fated}
 use Rattle.floor_runs.specs.Runs.{copiedTo, runBytes, RunOf}
 use Rattle.floor_runs.proofs.PlacedLaws.{floor-placed, come-run, come-entries, length-fates, data-floor}
-use Rattle.floor_runs.proofs.FateLaws.{colours-behind, fated-at, flatten-append}
+use Rattle.floor_runs.proofs.FateLaws.{colours-behind, fated-at}
 use Rattle.readers.specs.Entries.{Passed}
 
 -- ── what a run writes

@@ -7,6 +7,5 @@ pub mod NewlineLaws
 pub mod OutcomeLaws
 pub mod ReflLaws
 pub mod Twins
-pub mod PassLaws
 pub mod AbsentLaws
 pub mod Shown

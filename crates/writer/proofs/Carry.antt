@@ -204,6 +204,12 @@ module _ (n p : ℕ) (ds : List ℕ) (h : n < p) (l : p ≤ length ds) (r : List
   back-later : back 0 (byteItems (take (p - n) (drop n ds)) ++ r) ≡ byteItems (take (p - n) (drop n ds)) ++ r
   back-later = rw first-byte
 
+-- the bytes up to m places on come first, if no entry stands before that
+pub bytes-first : (m at : ℕ) (t d : List ℕ) (es : List Entry) → at + m ≤ placeOf es → itemsFrom at t d es ≡ byteItems (take m d) ++ itemsFrom (at + m) t (drop m d) es
+unfolding placeOf
+bytes-first m at t d [] h = cursor-end m at t d
+bytes-first m at t d (e ∷ es) h = cursor-bytes m at t d e es h
+
 module _ (at n t : ℕ) (ds ts : List ℕ) (a : at ≤ n) (l : n ≤ length ds) where
   there : at + (n - at) ≡ n
   there = omega arith
@@ -215,10 +221,7 @@ module _ (at n t : ℕ) (ds ts : List ℕ) (a : at ≤ n) (l : n ≤ length ds) 
   size-there = simp (length-take, length-drop) (omega arith)
 
   further : (es : List Entry) → n < placeOf es → itemsFrom at ts (drop at ds) es ≡ byteItems (part at n ds) ++ itemsFrom n ts (drop n ds) es
-  unfolding placeOf
-  further [] h = cursor-end (n - at) at ts (drop at ds) ∙ ap (λ (x : List ℕ). byteItems (part at n ds) ++ byteItems x) drop-there
-  further (e ∷ es) h =
-      cursor-bytes (n - at) at ts (drop at ds) e es (omega (arith, there)) ∙ (λ i. byteItems (part at n ds) ++ itemsFrom (there i) ts (drop-there i) (e ∷ es))
+  further es h = bytes-first (n - at) at ts (drop at ds) es (omega (arith, there, h)) ∙ (λ i. byteItems (part at n ds) ++ itemsFrom (there i) ts (drop-there i) es)
 
   front-zero : (es : List Entry) → n < placeOf es → Valid at (length ds) t es → front 0 (itemsFrom n ts (drop n ds) es) ≡ []
   unfolding placeOf Valid
