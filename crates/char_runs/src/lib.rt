@@ -3,10 +3,11 @@
 use chars::seen_at;
 ghost use mathlib.Core.Path.{_≡_};
 ghost use mathlib.Core.Bool.{true};
-ghost use Prim.Native.Nat.{_+_, _*_, _≤_, _<_};
-ghost use lib.ListN.{length};
+ghost use Prim.Native.Nat.{_+_, _-_, _*_, _≤_, _<_};
+ghost use lib.ListN.{length, drop};
 ghost use Rattle.chars.specs.Leads.{leadTable};
 ghost use Rattle.chars.specs.Utf8.{within};
+ghost use Rattle.chars.specs.Chars.{Seam};
 ghost use Rattle.char_runs.specs.Runs.{WholeUpTo, VisibleFrom, Covered};
 
 // A stretch of characters: where it ends, and its width.
@@ -25,7 +26,22 @@ fn continues(b: u8) -> bool
     b <= 0xBF
 }
 
-// Where the last whole character ends from `at` up to `end`. Only if the byte at `end` continues a sequence are the characters read.
+// A place before `end` at which a character starts: the last byte there that continues no sequence, or `at`.
+fn near_start(s: &[u8], at: usize, end: usize) -> usize
+    requires { ⌜ (at < end) × (end ≤ length (now s)) ⌝ }
+    ensures { λ r. ⌜ (at ≤ r) × (r < end) × Seam (drop at (now (s .entry))) (r - at) ⌝ }
+{
+    let mut i = end - 1;
+    while at < i {
+        if !continues(s[i]) {
+            return i;
+        }
+        i -= 1;
+    }
+    at
+}
+
+// Where the last whole character ends from `at` up to `end`. Only if the byte at `end` continues a sequence are characters read, the few before it.
 pub fn whole_end(t: &[u16; 256], s: &[u8], at: usize, end: usize) -> usize
     requires { ⌜ now t ≡ leadTable ⌝ }
     requires { ⌜ (at < end) × (end ≤ length (now s)) ⌝ }
@@ -37,7 +53,7 @@ pub fn whole_end(t: &[u16; 256], s: &[u8], at: usize, end: usize) -> usize
     if !continues(s[end]) {
         return end;
     }
-    let mut i = at;
+    let mut i = near_start(s, at, end);
     while i < end {
         let c = seen_at(t, s, i);
         if end < i + c.len {

@@ -1,6 +1,6 @@
 -- From the checks to the two readers' promises. `admit` finds the content's fault first, then 34 and 35 (`content-refused`, `label-refused`, `content-unbalanced`, `all-fine`).
 -- Where it refuses, both readers' outcomes are that refusal (`refused-office`, `refused-floor`); where it does not, only the sizes of what they are left are judged (`office-kept`, `floor-kept`),
--- and where the label is not pushed, the floor is left what the office is (`absent-kept`). The idea: nothing is left in `viewFaults` that refuses, so an outcome is `leftIn`.
+-- and where the label is not pushed, the floor is left what the office is (`absent-kept`). The idea: nothing is left in `viewFaults` that refuses, so an outcome is `judgedBySize`.
 use Prim.Native.Nat.{ℕ, zero, suc}
 use native.Mathlib.Omega.{arith}
 use mathlib.Core.Bool.{Bool, true, false, not, _||_}
@@ -29,7 +29,8 @@ use Rattle.open_label.specs.Open.{scanFault, ScanTold}
 use Rattle.readers.specs.declared.Sizes.{Sizes}
 use Rattle.readers.specs.declared.Admitted.{Admitted}
 use Rattle.readers.specs.declared.Admitted.the-variants.{Refused, Fine}
-use Rattle.readers.specs.Admit.{noFaults, admittedFault, AdmittedTold, leftIn}
+use Rattle.recorder.specs.Recorder.{noFaults, judgedBySize}
+use Rattle.readers.specs.Admit.{admittedFault, AdmittedTold}
 
 nil-length : (l : Bytes) → length l ≡ 0 → isNil l ≡ true
 nil-length [] h = refl
@@ -91,18 +92,18 @@ module _ (l : Bytes) (q : Recording) where
     unfolding viewFaults
     no-faults = rw (a, c)
 
-    pub office-left : (o : Room) → officeOutcome l o q ≡ leftIn o (items q)
-    unfolding officeOutcome leftIn
+    pub office-left : (o : Room) → officeOutcome l o q ≡ judgedBySize o (items q)
+    unfolding officeOutcome judgedBySize
     office-left o = ap (λ (f : Faults). settle f o (leaves (encode (items q)))) no-faults
 
-    pub floor-left : (o : Room) → floorOutcome l o q ≡ leftIn o (floorItems l q)
-    unfolding floorOutcome leftIn
+    pub floor-left : (o : Room) → floorOutcome l o q ≡ judgedBySize o (floorItems l q)
+    unfolding floorOutcome judgedBySize
     floor-left o = ap (λ (f : Faults). settle f o (leaves (encode (floorItems l q)))) no-faults
 
     -- the label is not pushed
-    pub absent-left : (k : Kept) → ScanTold l q (S.Fine k) → k .found ≡ false → (o : Room) → floorOutcome l o q ≡ leftIn o (items q)
+    pub absent-left : (k : Kept) → ScanTold l q (S.Fine k) → k .found ≡ false → (o : Room) → floorOutcome l o q ≡ judgedBySize o (items q)
     unfolding ScanTold
-    absent-left k t h o = floor-left o ∙ ap (leftIn o) (absent-label l q (sym (t .0) ∙ h))
+    absent-left k t h o = floor-left o ∙ ap (judgedBySize o) (absent-label l q (sym (t .0) ∙ h))
 
   -- ── what `admit` found
   module _ (r : Admitted) (e : admittedFault r ≡ fault) where
@@ -144,10 +145,10 @@ module _ (l : Bytes) (q : Recording) where
       pub passed : recordingFault q ≡ 0
       passed = none .0
 
-      pub office-kept : (b b′ : Lent) (x : Answer) → Promised (leftIn (roomIn b) (items q)) b b′ x → Promised (officeOutcome l (roomIn b) q) b b′ x
+      pub office-kept : (b b′ : Lent) (x : Answer) → Promised (judgedBySize (roomIn b) (items q)) b b′ x → Promised (officeOutcome l (roomIn b) q) b b′ x
       office-kept b b′ x h = rw (office-left (none .0) (none .1) (roomIn b)) h
 
-      pub floor-kept : (b b′ : Lent) (x : Answer) → Promised (leftIn (roomIn b) (floorItems l q)) b b′ x → Promised (floorOutcome l (roomIn b) q) b b′ x
+      pub floor-kept : (b b′ : Lent) (x : Answer) → Promised (judgedBySize (roomIn b) (floorItems l q)) b b′ x → Promised (floorOutcome l (roomIn b) q) b b′ x
       floor-kept b b′ x h = rw (floor-left (none .0) (none .1) (roomIn b)) h
 
       module _ (t : AdmittedTold l q r) where
@@ -162,5 +163,5 @@ module _ (l : Bytes) (q : Recording) where
         scan-told = told .1
 
         -- the label is not pushed
-        pub absent-kept : z .floor .found ≡ false → (b b′ : Lent) (x : Answer) → Promised (leftIn (roomIn b) (items q)) b b′ x → Promised (floorOutcome l (roomIn b) q) b b′ x
+        pub absent-kept : z .floor .found ≡ false → (b b′ : Lent) (x : Answer) → Promised (judgedBySize (roomIn b) (items q)) b b′ x → Promised (floorOutcome l (roomIn b) q) b b′ x
         absent-kept f b b′ x h = rw (absent-left (none .0) (none .1) (z .floor) scan-told f (roomIn b)) h

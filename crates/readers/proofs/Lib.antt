@@ -1,5 +1,5 @@
 pub mod EntryLaws
 pub mod FloorLaws
 pub mod PutLaws
-pub mod LeftLaws
+pub mod SizedLaws
 pub mod AdmitLaws

@@ -15,6 +15,7 @@ use open_label::Walk;
 use open_label::drops;
 use open_label::opened;
 use open_label::scan;
+use recorder::put_whole;
 use recording::Answer;
 use recording::Checked;
 use recording::Entry;
@@ -27,7 +28,6 @@ use writer::Settled;
 use writer::place_at;
 use writer::put_bytes;
 use writer::put_entry;
-use writer::put_recording;
 use writer::settle;
 ghost use mathlib.Core.Path.{_≡_};
 ghost use mathlib.Core.Bool.{true, false};
@@ -41,13 +41,13 @@ ghost use Rattle.recording.specs.Refusals.{badShape, firstOf, recordingFault, d
 ghost use Rattle.recording.specs.Outcome.{Promised, roomIn};
 ghost use Rattle.writer.specs.Write.{out, add, blank, Fits, Sound, left, itemAt};
 ghost use Rattle.writer.specs.Sizes.{sizesFault, roomOf, settledFault};
-ghost use Rattle.recorder.specs.Recorder.{lentOf};
+ghost use Rattle.recorder.specs.Recorder.{lentOf, judgedBySize};
 ghost use Rattle.view.specs.View.{floorItems, viewFault, officeOutcome, floorOutcome};
 ghost use Rattle.open_label.specs.Open.{ScanTold};
 ghost use Rattle.open_label.specs.Walk.{Arrived, firstWalk};
 ghost use Rattle.floor_runs.specs.Runs.{runBytes};
 ghost use Rattle.readers.specs.Entries.{Passed, shown, EntriesPut, EntriesFit, EntriesWritten};
-ghost use Rattle.readers.specs.Admit.{admittedFault, AdmittedTold, leftIn};
+ghost use Rattle.readers.specs.Admit.{admittedFault, AdmittedTold};
 
 // What a recording and a label have that pass all checks: the length of the entries' texts, and what the floor is left of the entries.
 pub struct Sizes {
@@ -319,51 +319,6 @@ fn admit(content: &[u8], entries: &[u32], text: &[u8], label: &[u8]) -> Admitted
     }
 }
 
-// Writes all of the recording, whose entries' texts are `size` bytes, or refuses it for want of room.
-fn put_whole(
-    content: &[u8],
-    entries: &[u32],
-    text: &[u8],
-    size: usize,
-    bytes: &mut [u8],
-    numbers: &mut [u32],
-    texts: &mut [u8],
-) -> Answer
-    requires { ⌜ (recordingFault (recording (now content) (now entries) (now text)) ≡ 0) × (size ≡ length (textOf (items (recording (now content) (now entries) (now text))))) ⌝ }
-    ensures { λ r. ⌜ Promised (leftIn (roomIn (lentOf (now (bytes .entry)) (now (numbers .entry)) (now (texts .entry)))) (items (recording (now (content .entry)) (now (entries .entry)) (now (text .entry))))) (lentOf (now (bytes .entry)) (now (numbers .entry)) (now (texts .entry))) (lentOf (now (bytes .exit)) (now (numbers .exit)) (now (texts .exit))) r ⌝ }
-{
-    let verdict = settle(
-        content.len(),
-        entries.len(),
-        size,
-        0,
-        bytes.len(),
-        numbers.len(),
-        texts.len(),
-        0,
-    );
-    match verdict {
-        Settled::Refused(f) => {
-            return Answer::Refused(f);
-        }
-        Settled::Room => {}
-    }
-    let start = Cursor {
-        at: 0,
-        k: 0,
-        d: 0,
-        e: 0,
-        t: 0,
-    };
-    let c = put_recording(bytes, numbers, texts, content, entries, text, start);
-    Answer::Done {
-        data: c.d,
-        entries: c.e,
-        text: c.t,
-        number: 0,
-    }
-}
-
 // Writes what the floor is left of a recording in which the label is pushed, or refuses it for want of room.
 fn put_starred(
     content: &[u8],
@@ -377,7 +332,7 @@ fn put_starred(
 ) -> Answer
     requires { ⌜ recordingFault (recording (now content) (now entries) (now text)) ≡ 0 ⌝ }
     requires { ⌜ ScanTold (now label) (recording (now content) (now entries) (now text)) (Scanned.Fine floor) ⌝ }
-    ensures { λ r. ⌜ Promised (leftIn (roomIn (lentOf (now (bytes .entry)) (now (numbers .entry)) (now (texts .entry)))) (floorItems (now (label .entry)) (recording (now (content .entry)) (now (entries .entry)) (now (text .entry))))) (lentOf (now (bytes .entry)) (now (numbers .entry)) (now (texts .entry))) (lentOf (now (bytes .exit)) (now (numbers .exit)) (now (texts .exit))) r ⌝ }
+    ensures { λ r. ⌜ Promised (judgedBySize (roomIn (lentOf (now (bytes .entry)) (now (numbers .entry)) (now (texts .entry)))) (floorItems (now (label .entry)) (recording (now (content .entry)) (now (entries .entry)) (now (text .entry))))) (lentOf (now (bytes .entry)) (now (numbers .entry)) (now (texts .entry))) (lentOf (now (bytes .exit)) (now (numbers .exit)) (now (texts .exit))) r ⌝ }
 {
     let t = LEADS;
     let verdict = settle_floor(

@@ -1,3 +1,4 @@
 pub mod ReplayLaws
 pub mod AddLaws
 pub mod AddClean
+pub mod LeftLaws

@@ -5,9 +5,9 @@ use mathlib.Core.List.{List, [], _∷_, _++_}
 use lib.Dec.{ltb, eqb}
 use lib.ListN.{length, take}
 use Rattle.chars.specs.Chars.{wellFormed}
-use Rattle.recording.specs.Recording.{Bytes, Recording, recording, entry, numbersOf, items, encode}
+use Rattle.recording.specs.Recording.{Bytes, Recording, recording, entry, numbersOf, Item, items, encode}
 use Rattle.recording.specs.Refusals.{refuseIf, recordingFault}
-use Rattle.recording.specs.Outcome.{Result, Faults, Outcome, settle, Lent, roomIn}
+use Rattle.recording.specs.Outcome.{Room, Result, Faults, Outcome, settle, Lent, roomIn}
 
 -- the three buffers that a call is lent, without a line list
 abbrev pub lentOf : Bytes → List ℕ → Bytes → Lent
@@ -16,6 +16,13 @@ lentOf d e t = record { dataBytes = d; entryNumbers = e; text = t; lines = [] }
 -- a call of this module leaves a recording, no lines, and returns no number of its own
 abbrev pub leaves : Recording → Result
 leaves q = record { recording = q; lines = []; number = 0 }
+
+-- ── a call that leaves these items, and that nothing but their sizes can refuse
+abbrev pub noFaults : Faults
+noFaults = record { lengths = 0; content = 0; second = 0; added = 0; plain = 0; own = 0 }
+
+unfoldable pub judgedBySize : Room → List Item → Outcome
+judgedBySize o is = settle noFaults o (leaves (encode is))
 
 -- ── replay: the recording written anew, its entries' texts side by side from 0
 unfoldable pub replayFaults : Recording → Faults

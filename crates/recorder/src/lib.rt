@@ -17,32 +17,25 @@ ghost use Prim.Native.Nat.{_+_, _≤_};
 ghost use mathlib.Core.List.{[], _∷_};
 ghost use lib.ListN.{length};
 ghost use Rattle.buffer.specs.Place.{overAt};
-ghost use Rattle.recording.specs.Recording.{recording, entry, numbersOf};
+ghost use Rattle.recording.specs.Recording.{recording, entry, numbersOf, items, textOf};
 ghost use Rattle.recording.specs.Refusals.{firstOf, recordingFault};
-ghost use Rattle.recording.specs.Outcome.{Promised};
+ghost use Rattle.recording.specs.Outcome.{Promised, roomIn};
 ghost use Rattle.recording.specs.Check.{faultOf};
-ghost use Rattle.recorder.specs.Recorder.{lentOf, usedOf, lengthsFault, replayed, written, pushed, popped, rawAdded};
+ghost use Rattle.recorder.specs.Recorder.{lentOf, judgedBySize, usedOf, lengthsFault, replayed, written, pushed, popped, rawAdded};
 
-// Copies a recording into three lent buffers, each entry's text one after another from 0; text that no entry uses is left out.
-pub fn replay(
+// Writes all of a recording without faults, whose entries' texts are `size` bytes one after another, or refuses it for its sizes alone.
+pub fn put_whole(
     content: &[u8],
     entries: &[u32],
     text: &[u8],
+    size: usize,
     out_data: &mut [u8],
     out_entries: &mut [u32],
     out_text: &mut [u8],
 ) -> Answer
-    ensures { λ r. ⌜ Promised
-        (replayed (recording (now (content .entry)) (now (entries .entry)) (now (text .entry))) (lentOf (now («out_data» .entry)) (now («out_entries» .entry)) (now («out_text» .entry))))
-        (lentOf (now («out_data» .entry)) (now («out_entries» .entry)) (now («out_text» .entry))) (lentOf (now («out_data» .exit)) (now («out_entries» .exit)) (now («out_text» .exit))) r ⌝ }
+    requires { ⌜ (recordingFault (recording (now content) (now entries) (now text)) ≡ 0) × (size ≡ length (textOf (items (recording (now content) (now entries) (now text))))) ⌝ }
+    ensures { λ r. ⌜ Promised (judgedBySize (roomIn (lentOf (now («out_data» .entry)) (now («out_entries» .entry)) (now («out_text» .entry)))) (items (recording (now (content .entry)) (now (entries .entry)) (now (text .entry))))) (lentOf (now («out_data» .entry)) (now («out_entries» .entry)) (now («out_text» .entry))) (lentOf (now («out_data» .exit)) (now («out_entries» .exit)) (now («out_text» .exit))) r ⌝ }
 {
-    let checked = check(content, entries, text);
-    let size = match checked {
-        Checked::Refused(f) => {
-            return Answer::Refused(f);
-        }
-        Checked::Fine(n) => n,
-    };
     let verdict = settle(
         content.len(),
         entries.len(),
@@ -81,6 +74,37 @@ pub fn replay(
         text: c.t,
         number: 0,
     }
+}
+
+// Copies a recording into three lent buffers, each entry's text one after another from 0; text that no entry uses is left out.
+pub fn replay(
+    content: &[u8],
+    entries: &[u32],
+    text: &[u8],
+    out_data: &mut [u8],
+    out_entries: &mut [u32],
+    out_text: &mut [u8],
+) -> Answer
+    ensures { λ r. ⌜ Promised
+        (replayed (recording (now (content .entry)) (now (entries .entry)) (now (text .entry))) (lentOf (now («out_data» .entry)) (now («out_entries» .entry)) (now («out_text» .entry))))
+        (lentOf (now («out_data» .entry)) (now («out_entries» .entry)) (now («out_text» .entry))) (lentOf (now («out_data» .exit)) (now («out_entries» .exit)) (now («out_text» .exit))) r ⌝ }
+{
+    let checked = check(content, entries, text);
+    let size = match checked {
+        Checked::Refused(f) => {
+            return Answer::Refused(f);
+        }
+        Checked::Fine(n) => n,
+    };
+    put_whole(
+        content,
+        entries,
+        text,
+        size,
+        out_data,
+        out_entries,
+        out_text,
+    )
 }
 
 // Refusal 10, then the content's 1 to 6, in buffers of which d, e and n numbers are used.

@@ -7,7 +7,8 @@ use Rattle.chars.specs.Leads.{leadTable}
 use Rattle.recording.specs.Recording.{Recording, recording, Item, dataOf}
 use Rattle.writer.proofs.Steps.{sound}
 use Rattle.view.specs.View.{floorItems}
-use Rattle.readers.proofs.LeftLaws.{Sized, floor-sized, left-refused, left-room, left-written}
+use Rattle.recorder.proofs.LeftLaws.{Sized, left-refused, left-room, left-written}
+use Rattle.readers.proofs.SizedLaws.{floor-sized}
 use Rattle.readers.proofs.put_starred.Statement.{statement}
 use Rattle.readers.proofs.put_starred.Tie as tie
 use Rattle.readers.proofs.put_starred.Reads as reads

@@ -4,7 +4,7 @@ use mathlib.Core.Path.{_≡_, ap, _∙_}
 use Prim.Native.Nat.{ℕ}
 use Rattle.recording.specs.Recording.{recording}
 use Rattle.writer.specs.Sizes.{sizesFault, roomOf}
-use Rattle.readers.proofs.LeftLaws.{floor-roomy}
+use Rattle.readers.proofs.SizedLaws.{floor-roomy}
 use Rattle.readers.proofs.settle_floor.Statement.{statement}
 use Rattle.readers.proofs.settle_floor.Tie as tie
 use Rattle.readers.proofs.settle_floor.Reads as reads

@@ -1,16 +1,15 @@
--- A call of which only the sizes of what it leaves are judged (`leftIn`): where it returns it has the whole promise at once (`left-refused`, `left-written`), and it has room to write (`left-room`).
--- Over any items: the sizes that the code took are theirs (`Sized`). What the office is left has the content's (`office-sized`); what the floor is left has those that `scan` told (`floor-sized`).
-use Prim.Native.Nat.{ℕ, _*_, _≤_}
-use native.Mathlib.Omega.{arith}
+-- A call that only the sizes of what it leaves can refuse (`judgedBySize`): where it returns it has the whole promise at once (`left-refused`, `left-written`), and it has room to write (`left-room`).
+-- Over any items: the sizes that the code took are theirs (`Sized`); all of a recording has its own (`whole-sized`).
+use Prim.Native.Nat.{ℕ, _*_}
 use mathlib.Core.Path.{_≡_, refl, sym, ap, _∙_}
 use mathlib.Core.List.{List, [], _∷_}
 use lib.ListN.{length}
 use Rattle.buffer.specs.Place.{over}
 use Rattle.recording.specs.declared.Refusal.{Refusal}
 use Rattle.recording.specs.declared.Answer.the-variants.{Refused, Done}
-use Rattle.recording.specs.Recording.{Bytes, Recording, recording, Item, items, dataOf, textOf, encode}
+use Rattle.recording.specs.Recording.{recording, Item, items, dataOf, textOf, encode}
 use Rattle.recording.specs.Refusals.{numberOf, firstOf, recordingFault}
-use Rattle.recording.specs.Outcome.{Room, Result, overLimit, noRoom, refusalOf, Lent, lentAfter, roomIn, Promised}
+use Rattle.recording.specs.Outcome.{Result, overLimit, noRoom, refusalOf, Lent, lentAfter, roomIn, Promised}
 use Rattle.recording.proofs.OutcomeLaws.{stops-sizes, is-done, refused-answer, refused-lent, done-answer}
 use Rattle.recording.proofs.SizeLaws.{entryCount, count-numbers}
 use Rattle.writer.specs.declared.Cursor.{Cursor}
@@ -19,14 +18,8 @@ use Rattle.writer.specs.declared.Settled.the-variants as S
 use Rattle.writer.specs.Write.{out, add, blank, Fits}
 use Rattle.writer.specs.Sizes.{sizesFault, settledFault, roomOf}
 use Rattle.writer.proofs.Steps.{data-size, from-start}
-use Rattle.writer.proofs.Sizes.{size-refused, size-granted, fits-blank, numbers-items, quads-of, smaller-fits}
-use Rattle.recorder.specs.Recorder.{lentOf, leaves}
-use Rattle.view.specs.View.{floorItems}
-use Rattle.view.proofs.SizeLaws.{floor-entries, floor-text, data-bound}
-use Rattle.open_label.specs.declared.Kept.{Kept}
-use Rattle.open_label.specs.declared.Scanned.the-variants as scanned
-use Rattle.open_label.specs.Open.{ScanTold}
-use Rattle.readers.specs.Admit.{noFaults, leftIn}
+use Rattle.writer.proofs.Sizes.{size-refused, size-granted, fits-blank, numbers-items, quads-of}
+use Rattle.recorder.specs.Recorder.{lentOf, leaves, noFaults, judgedBySize}
 
 -- the items have d data bytes, e entry numbers and t text bytes
 pub record Sized (is : List Item) (d e t : ℕ) : Type 0 where
@@ -58,8 +51,8 @@ module _ (is : List Item) (od oe ot : List ℕ) where
     unfolding encode
     text-is = z .text-size
 
-    pub left-refused : (f : Refusal) → v ≡ S.Refused f → Promised (leftIn (roomIn b) is) b b (Refused f)
-    unfolding leftIn
+    pub left-refused : (f : Refusal) → v ≡ S.Refused f → Promised (judgedBySize (roomIn b) is) b b (Refused f)
+    unfolding judgedBySize
     left-refused f q =
         let n : refusalOf noFaults (roomIn b) result ≡ numberOf f = judged ∙ size-refused result (roomIn b) v f d e t 0 g q data-is entries-are text-is refl in
         (refused-answer noFaults (roomIn b) result f n, refused-lent noFaults (roomIn b) result f b n)
@@ -73,38 +66,20 @@ module _ (is : List Item) (od oe ot : List ℕ) where
       left-room = fits-blank is [] 0 od oe ot (roomIn b) refl refl refl fit
 
       pub left-written : (od′ oe′ ot′ : List ℕ) (c : Cursor) → out od′ oe′ ot′ c ≡ add is (blank od oe ot)
-          → Promised (leftIn (roomIn b) is) b (lentOf od′ oe′ ot′) (Done (c .d) (c .e) (c .t) 0)
-      unfolding leftIn lentAfter encode over
+          → Promised (judgedBySize (roomIn b) is) b (lentOf od′ oe′ ot′) (Done (c .d) (c .e) (c .t) 0)
+      unfolding judgedBySize lentAfter encode over
       left-written od′ oe′ ot′ c w =
           let s = from-start is od oe ot od′ oe′ ot′ c w in (
             done-answer noFaults (roomIn b) result (c .d) (c .e) (c .t) 0 (judged ∙ fit) (s .3) (s .4) (s .5) refl,
             rw (is-done noFaults (roomIn b) result (judged ∙ fit)) (λ i. record { dataBytes = s .0 i; entryNumbers = s .1 i; text = s .2 i; lines = [] }),
           )
 
--- ── the sizes of what the office is left: the content's, and that of its entries' texts
-pub office-sized : (ds ns ts : List ℕ) (n : ℕ) → recordingFault (recording ds ns ts) ≡ 0 → n ≡ length (textOf (items (recording ds ns ts)))
+-- ── the sizes of all of a recording: its own, and that of its entries' texts
+pub whole-sized : (ds ns ts : List ℕ) (n : ℕ) → recordingFault (recording ds ns ts) ≡ 0 → n ≡ length (textOf (items (recording ds ns ts)))
     → Sized (items (recording ds ns ts)) (length ds) (length ns) n
-office-sized ds ns ts n h e =
+whole-sized ds ns ts n h e =
     record {
       data-size = sym (data-size ds ns ts);
       entry-size = sym (numbers-items ds ns ts (quads-of ds ns ts h)) ∙ count-numbers (items (recording ds ns ts)) 0 0;
       text-size = e;
     }
-
--- ── of what the floor is left: entries and text as `scan` told them, and data not longer than the content's
-module _ (l : Bytes) (q : Recording) where
-  pub floor-sized : (k : Kept) → ScanTold l q (scanned.Fine k) → Sized (floorItems l q) (length (dataOf (floorItems l q))) (k .entries) (k .text)
-  unfolding ScanTold encode
-  floor-sized k h =
-      record { data-size = refl; entry-size = h .1 ∙ sym (floor-entries l q) ∙ count-numbers (floorItems l q) 0 0; text-size = h .2 ∙ sym (floor-text l q) }
-
-  pub floor-shorter : length (dataOf (floorItems l q)) ≤ length (q .dataBytes)
-  unfolding encode
-  floor-shorter = data-bound l q
-
-  -- where there is room for the content's data, there is for the floor's
-  pub floor-roomy : (v : Settled) (e t : ℕ) (o : Room) → settledFault v ≡ sizesFault (length (q .dataBytes)) e t 0 o → v ≡ S.Room
-      → settledFault S.Room ≡ sizesFault (length (dataOf (floorItems l q))) e t 0 o
-  unfolding settledFault
-  floor-roomy v e t o g p =
-      sym (smaller-fits (length (dataOf (floorItems l q))) (length (q .dataBytes)) e t 0 0 o (sym g ∙ ap settledFault p) floor-shorter (omega arith))

@@ -1,15 +1,15 @@
--- `put_whole` stops at the refusal of the sizes, or leaves the encoded items (LeftLaws); the sizes are the content's (`office-sized`).
+-- `put_whole` stops at the refusal of the sizes, or leaves the encoded items (LeftLaws); the sizes are the content's (`whole-sized`).
 use borrow.Author.Needs.{needs}
 use mathlib.Core.List.{List}
 use lib.ListN.{length}
 use Rattle.recording.specs.Recording.{Item, recording, items}
 use Rattle.writer.specs.Write.{out}
 use Rattle.writer.proofs.Steps.{sound}
-use Rattle.readers.proofs.LeftLaws.{Sized, office-sized, left-refused, left-room, left-written}
-use Rattle.readers.proofs.put_whole.Statement.{statement}
-use Rattle.readers.proofs.put_whole.Tie as tie
-use Rattle.readers.proofs.put_whole.Reads as reads
-use Rattle.readers.proofs.put_whole.Lts as lts
+use Rattle.recorder.proofs.LeftLaws.{Sized, whole-sized, left-refused, left-room, left-written}
+use Rattle.recorder.proofs.put_whole.Statement.{statement}
+use Rattle.recorder.proofs.put_whole.Tie as tie
+use Rattle.recorder.proofs.put_whole.Reads as reads
+use Rattle.recorder.proofs.put_whole.Lts as lts
 use Rattle.writer.proofs.put_recording.Reads as put-recording-reads
 use Rattle.writer.proofs.settle.Reads as settle-reads
 
@@ -21,7 +21,7 @@ abbrev whole : tie.After-settle → List Item
 whole c = let a = start c .args in items (recording (a .content .now) (a .entries .now) (a .text .now))
 
 sized : (c : tie.After-settle) → Sized (whole c) (length (start c .args .content .now)) (length (start c .args .entries .now)) (start c .args .size)
-sized c = let a = start c .args in office-sized (a .content .now) (a .entries .now) (a .text .now) (a .size) (start c .pre .0) (start c .pre .1)
+sized c = let a = start c .args in whole-sized (a .content .now) (a .entries .now) (a .text .now) (a .size) (start c .pre .0) (start c .pre .1)
 
 settle-requires : tie.Need-settle-requires
 settle-requires c κs = search needs
@@ -34,7 +34,7 @@ returns c =
     let s = c .before .before .before in
     let a = start s .args in
     let g = c .before .verdict .given in
-    left-refused (whole s) (a .bytes .now) (a .numbers .now) (a .texts .now) _ _ _ (sized s) (s .settle .result) (s .settle .ensures) (g .0 .0) (g .1)
+    left-refused (whole s) (a .out-data .now) (a .out-entries .now) (a .out-text .now) _ _ _ (sized s) (s .settle .result) (s .settle .ensures) (g .0 .0) (g .1)
 
 enum-told : tie.Need-enum-told
 enum-told c = search needs
@@ -45,7 +45,7 @@ put-recording-requires c κs =
     let s = c .before .before .before .before .before in
     let a = start s .args in (
       sound (a .content .now) (a .entries .now) (a .text .now) (start s .pre .0),
-      left-room (whole s) (a .bytes .now) (a .numbers .now) (a .texts .now) _ _ _ (sized s) (s .settle .result) (s .settle .ensures) (c .before .before .before .enum-told .given .1),
+      left-room (whole s) (a .out-data .now) (a .out-entries .now) (a .out-text .now) _ _ _ (sized s) (s .settle .result) (s .settle .ensures) (c .before .before .before .enum-told .given .1),
     )
 
 same-length : tie.Need-same-length
@@ -63,7 +63,7 @@ returns-2 c =
     let p = c .before .before .before .before .before .before in
     let s = p .before .before .before .before .before .before in
     let a = start s .args in
-    left-written (whole s) (a .bytes .now) (a .numbers .now) (a .texts .now) _ _ _ (sized s) (s .settle .result) (s .settle .ensures) (p .before .before .before .before .enum-told .given .1) _ _ _
+    left-written (whole s) (a .out-data .now) (a .out-entries .now) (a .out-text .now) _ _ _ (sized s) (s .settle .result) (s .settle .ensures) (p .before .before .before .before .enum-told .given .1) _ _ _
     (p .put-recording .result) (p .put-recording .ensures .0)
 
 pub put-whole-spec : {M : Type 1} → statement M
