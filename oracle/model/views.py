@@ -11,6 +11,8 @@ OF_WIDTH = [
 ]
 # What data is made of: these, newlines, words, and parts of sequences that may meet and make a whole one.
 PIECES = [c for same in OF_WIDTH for c in same] + [b"\n"] * 6 + [b"a", b"b c", b"12.50", b"\xE6", b"\x9C\xA8", b"\xA8", b"\xC3", b"\xA9", b"\xCC", b"\x81", b"\xF0\x9F", b"\x98\x80"]
+# Bytes that lead, continue or are no part of a sequence: where a character begins among them is seen from its first byte only.
+HARD = b"a1\n\x80\x81\x98\x9C\x9F\xA8\xBF\xC3\xCC\xE0\xE6\xED\xF0\xF4\xFF" + b"\x80\x9C\xA8" * 4
 LABELS = [b"x", b"x", b"x", b"x", b"y", b"y", b"xy", b"", "木".encode(), b"x\0"]
 RAWS = [b"R", b"\xFF", b"\x1B[1m", b"x", b"*\n", b"\x9C" * 9]
 ILL_LABELS = [b"", b"\xFF", b"x\xE6\x9C", b"\xE6", b"x\x80", b"\xED\xA0\x80", b"\xF4\x90\x80\x80"]
@@ -19,6 +21,8 @@ ILL_LABELS = [b"", b"\xFF", b"x\xE6\x9C", b"\xE6", b"x\x80", b"\xED\xA0\x80", b"
 def data(pick, most=10):
     if pick.random() < 0.04:
         most *= 12
+    if pick.random() < 0.15:
+        return bytes(pick.choices(HARD, k=int(pick.random() * (3 * most + 1))))
     return b"".join(pick.choices(PIECES, k=int(pick.random() * (most + 1))))
 
 
