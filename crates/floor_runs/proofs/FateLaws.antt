@@ -1,5 +1,6 @@
 -- One run of the walk further: what is written of the data up to its end, and how far it is then decided what becomes of the bytes.
--- Runs of whole characters that stay (`kept-run`) or are replaced (`starred-run`); up to a place inside a character that stays (`kept-char`) or is replaced (`gone-char`); and on inside such a character (`inside-run`).
+-- Runs of whole characters that stay (`kept-run`) or are replaced (`starred-run`); up to a place inside a character that stays (`kept-char`) or is replaced (`gone-char`); and on inside such a
+-- character (`inside-run`).
 -- The idea: what becomes of the bytes from a character's start on is what becomes of this character's, and behind it of those from the next one's start on (`fates-append`).
 use Prim.Native.Nat.{ℕ, zero, suc, _+_, _-_, _≤_, _<_}
 use native.Mathlib.Omega.{arith}

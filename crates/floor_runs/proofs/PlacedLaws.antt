@@ -1,4 +1,5 @@
--- The floor's items are the content's, without the raw sequences under the label, with what becomes of each byte in its stead (`floor-placed`). What is to come splits at an entry and behind a run of bytes (`placed-run`).
+-- The floor's items are the content's, without the raw sequences under the label, with what becomes of each byte in its stead (`floor-placed`).
+-- What is to come splits behind the entries at a place (`come-entries`) and behind a run of bytes (`come-run`).
 -- The idea: each step of the floor's edit, for one character, is the same as what becomes of that character's bytes.
 use Prim.Native.Nat.{ℕ, zero, suc, _+_, _-_, _≤_}
 use native.Mathlib.Omega.{arith}

@@ -192,5 +192,6 @@ module _ (l ds : List ℕ) (is : List Item) (o : Open) (at until : ℕ) (copy : 
         within = R .within;
         writes = λ s xs fs T C F.
             let q : until ≡ at = omega (arith, u, F .order) in
-            R .writes s xs fs T C (fated-at l ds xs fs at true (omega (arith, F .order, F .within)) (ap (λ (j : ℕ). drop j fs) (sym q) ∙ F .ahead ∙ (λ i. fatesFrom l (chars (drop (q i) ds)) (drop (q i) xs))));
+            R .writes s xs fs T C (fated-at l ds xs fs at true (omega (arith, F .order, F .within))
+            (ap (λ (j : ℕ). drop j fs) (sym q) ∙ F .ahead ∙ (λ i. fatesFrom l (chars (drop (q i) ds)) (drop (q i) xs))));
       }

@@ -20,8 +20,8 @@ copiedTo n = record { to = n; until = n; copy = true; stars = 0 }
 abbrev pub runBytes : Bytes → ℕ → Run → Bytes
 runBytes d at r = cond (r .copy) (part at (r .to) d) (replicate (r .stars) 0x2A)
 
--- the next run where the items `is` are left, o tells what is open, and it is decided up to `until` what becomes of the bytes: it goes at least one byte further and not past `end`, and it writes what becomes of its bytes,
--- whatever labels are open (s), coloured bytes these are (xs) and becomes of each byte (fs)
+-- the next run where the items `is` are left, o tells what is open, and it is decided up to `until` what becomes of the bytes: it goes at least one byte further and not past `end`,
+-- and it writes what becomes of its bytes, whatever labels are open (s), coloured bytes these are (xs) and becomes of each byte (fs)
 pub record RunOf (l d : Bytes) (is : List Item) (o : Open) (at until : ℕ) (copy : Bool) (end : ℕ) (r : Run) : Type 0 where
   pub further : at < r .to
   pub before : r .to ≤ end

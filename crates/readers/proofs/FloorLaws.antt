@@ -1,4 +1,5 @@
--- The floor's reading at the head of a turn (`Going`): which labels are open, the coloured bytes from here on, and what becomes of the bytes. A turn is a run of the data and the entries behind it (`going-next`).
+-- The floor's reading at the head of a turn (`Going`): which labels are open, the coloured bytes from here on, and what becomes of the bytes. A turn is a run of the data and the entries behind it
+-- (`going-next`).
 -- What is to come is the run's bytes, those entries without the raw sequences that go, and what is to come behind them (`come-next`); at the data's end nothing is (`come-end`).
 use Prim.Native.Nat.{ℕ, _+_, _-_, _≤_, _<_}
 use native.Mathlib.Omega.{arith}
@@ -80,7 +81,8 @@ module _ (l ds ns ts : List ℕ) where
         stack = openAfter [] (front 0 (left ds ns ts (firstWalk .c)));
         tells = p .tells [] (refl, refl);
         standing = p .standing;
-        colours = ap (λ (n : ℕ). drop n xs) (p .here) ∙ ap (colouredFrom []) (sym first-left) ∙ sym (coloured-back [] 0 (left ds ns ts (firstWalk .c))) ∙ ap (colouredFrom (openAfter [] (front 0 (left ds ns ts (firstWalk .c))))) (sym (p .rest));
+        colours = ap (λ (n : ℕ). drop n xs) (p .here) ∙ ap (colouredFrom []) (sym first-left) ∙ sym (coloured-back [] 0 (left ds ns ts (firstWalk .c)))
+            ∙ ap (colouredFrom (openAfter [] (front 0 (left ds ns ts (firstWalk .c))))) (sym (p .rest));
         fated = rw (p .here) (fated-at l ds xs fs 0 true (omega arith) refl);
       }
 

@@ -1,4 +1,5 @@
--- Writing what the floor is left, a turn at a time: what is written and what is to come are together the whole (`Written`, by `Progress` of the writer). A turn writes a run, and then the entries behind it.
+-- Writing what the floor is left, a turn at a time: what is written and what is to come are together the whole (`Written`, by `Progress` of the writer). A turn writes a run, and then the entries
+-- behind it.
 use Prim.Native.Nat.{ℕ, _+_, _≤_}
 use native.Mathlib.Omega.{arith}
 use mathlib.Core.Path.{_≡_, refl, sym, ap, subst, _∙_}

@@ -1,4 +1,5 @@
--- The sizes of what the floor is left: entries and text as `scan` told them (`floor-sized`), and data not longer than the content's, so that there is room where there is room for the content's (`floor-roomy`).
+-- The sizes of what the floor is left: entries and text as `scan` told them (`floor-sized`), and data not longer than the content's, so that there is room where there is room for the content's
+-- (`floor-roomy`).
 use Prim.Native.Nat.{ℕ, _≤_}
 use native.Mathlib.Omega.{arith}
 use mathlib.Core.Path.{_≡_, refl, sym, ap, _∙_}

@@ -1,6 +1,7 @@
 // Two readers of one recording (document 02, Q-6): the office reads what `replay` leaves, the floor reads stars for what stands under a label.
 // `write_for_office` and `write_for_floor` keep the promises of `officeOutcome` and `floorOutcome` (view/specs/View.antt). None of them requires anything.
-// The floor's data is written run by run. A run has no entry inside: its bytes are copied, or stars come in their stead. Between two runs the entries at that place are written, but for raw sequences under the label.
+// The floor's data is written run by run. A run has no entry inside: its bytes are copied, or stars come in their stead.
+// Between two runs the entries at that place are written, but for raw sequences under the label.
 // Only characters under the label are read one by one: what stands outside it is copied whole, up to the character that the next entry may divide.
 // `bytes`, `numbers` and `texts` are the lent buffers; `content`, `entries` and `text` the recording that is read.
 use buffer::put_byte_times;
@@ -293,7 +294,8 @@ fn settle_floor(
 
 // Refusals 1 to 6 of the recording, then 34 and 35.
 fn admit(content: &[u8], entries: &[u32], text: &[u8], label: &[u8]) -> Admitted
-    ensures { λ r. ⌜ admittedFault r ≡ firstOf (recordingFault (recording (now (content .entry)) (now (entries .entry)) (now (text .entry))) ∷ viewFault (now (label .entry)) (recording (now (content .entry)) (now (entries .entry)) (now (text .entry))) ∷ []) ⌝ }
+    ensures { λ r. ⌜ admittedFault r ≡ firstOf (recordingFault (recording (now (content .entry)) (now (entries .entry)) (now (text .entry)))
+        ∷ viewFault (now (label .entry)) (recording (now (content .entry)) (now (entries .entry)) (now (text .entry))) ∷ []) ⌝ }
     ensures { λ r. ⌜ AdmittedTold (now (label .entry)) (recording (now (content .entry)) (now (entries .entry)) (now (text .entry))) r ⌝ }
 {
     let checked = check(content, entries, text);
@@ -332,7 +334,10 @@ fn put_starred(
 ) -> Answer
     requires { ⌜ recordingFault (recording (now content) (now entries) (now text)) ≡ 0 ⌝ }
     requires { ⌜ ScanTold (now label) (recording (now content) (now entries) (now text)) (Scanned.Fine floor) ⌝ }
-    ensures { λ r. ⌜ Promised (judgedBySize (roomIn (lentOf (now (bytes .entry)) (now (numbers .entry)) (now (texts .entry)))) (floorItems (now (label .entry)) (recording (now (content .entry)) (now (entries .entry)) (now (text .entry))))) (lentOf (now (bytes .entry)) (now (numbers .entry)) (now (texts .entry))) (lentOf (now (bytes .exit)) (now (numbers .exit)) (now (texts .exit))) r ⌝ }
+    ensures { λ r. ⌜ Promised
+        (judgedBySize (roomIn (lentOf (now (bytes .entry)) (now (numbers .entry)) (now (texts .entry))))
+        (floorItems (now (label .entry)) (recording (now (content .entry)) (now (entries .entry)) (now (text .entry)))))
+        (lentOf (now (bytes .entry)) (now (numbers .entry)) (now (texts .entry))) (lentOf (now (bytes .exit)) (now (numbers .exit)) (now (texts .exit))) r ⌝ }
 {
     let t = LEADS;
     let verdict = settle_floor(
@@ -371,7 +376,10 @@ pub fn write_for_office(
     numbers: &mut [u32],
     texts: &mut [u8],
 ) -> Answer
-    ensures { λ r. ⌜ Promised (officeOutcome (now (label .entry)) (roomIn (lentOf (now (bytes .entry)) (now (numbers .entry)) (now (texts .entry)))) (recording (now (content .entry)) (now (entries .entry)) (now (text .entry)))) (lentOf (now (bytes .entry)) (now (numbers .entry)) (now (texts .entry))) (lentOf (now (bytes .exit)) (now (numbers .exit)) (now (texts .exit))) r ⌝ }
+    ensures { λ r. ⌜ Promised
+        (officeOutcome (now (label .entry)) (roomIn (lentOf (now (bytes .entry)) (now (numbers .entry)) (now (texts .entry))))
+        (recording (now (content .entry)) (now (entries .entry)) (now (text .entry))))
+        (lentOf (now (bytes .entry)) (now (numbers .entry)) (now (texts .entry))) (lentOf (now (bytes .exit)) (now (numbers .exit)) (now (texts .exit))) r ⌝ }
 {
     let admitted = admit(content, entries, text, label);
     let sizes = match admitted {
@@ -394,7 +402,10 @@ pub fn write_for_floor(
     numbers: &mut [u32],
     texts: &mut [u8],
 ) -> Answer
-    ensures { λ r. ⌜ Promised (floorOutcome (now (label .entry)) (roomIn (lentOf (now (bytes .entry)) (now (numbers .entry)) (now (texts .entry)))) (recording (now (content .entry)) (now (entries .entry)) (now (text .entry)))) (lentOf (now (bytes .entry)) (now (numbers .entry)) (now (texts .entry))) (lentOf (now (bytes .exit)) (now (numbers .exit)) (now (texts .exit))) r ⌝ }
+    ensures { λ r. ⌜ Promised
+        (floorOutcome (now (label .entry)) (roomIn (lentOf (now (bytes .entry)) (now (numbers .entry)) (now (texts .entry))))
+        (recording (now (content .entry)) (now (entries .entry)) (now (text .entry))))
+        (lentOf (now (bytes .entry)) (now (numbers .entry)) (now (texts .entry))) (lentOf (now (bytes .exit)) (now (numbers .exit)) (now (texts .exit))) r ⌝ }
 {
     let admitted = admit(content, entries, text, label);
     let sizes = match admitted {

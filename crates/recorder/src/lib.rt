@@ -34,7 +34,10 @@ pub fn put_whole(
     out_text: &mut [u8],
 ) -> Answer
     requires { ⌜ (recordingFault (recording (now content) (now entries) (now text)) ≡ 0) × (size ≡ length (textOf (items (recording (now content) (now entries) (now text))))) ⌝ }
-    ensures { λ r. ⌜ Promised (judgedBySize (roomIn (lentOf (now («out_data» .entry)) (now («out_entries» .entry)) (now («out_text» .entry)))) (items (recording (now (content .entry)) (now (entries .entry)) (now (text .entry))))) (lentOf (now («out_data» .entry)) (now («out_entries» .entry)) (now («out_text» .entry))) (lentOf (now («out_data» .exit)) (now («out_entries» .exit)) (now («out_text» .exit))) r ⌝ }
+    ensures { λ r. ⌜ Promised
+        (judgedBySize (roomIn (lentOf (now («out_data» .entry)) (now («out_entries» .entry)) (now («out_text» .entry))))
+        (items (recording (now (content .entry)) (now (entries .entry)) (now (text .entry)))))
+        (lentOf (now («out_data» .entry)) (now («out_entries» .entry)) (now («out_text» .entry))) (lentOf (now («out_data» .exit)) (now («out_entries» .exit)) (now («out_text» .exit))) r ⌝ }
 {
     let verdict = settle(
         content.len(),

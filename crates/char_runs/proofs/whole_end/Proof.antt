@@ -1,4 +1,5 @@
--- At the text's end and before a byte that continues no sequence, `end` itself is where a character ends. Else the loop: `i` is such a place, at first one near `end`, and one character further in each turn.
+-- At the text's end and before a byte that continues no sequence, `end` itself is where a character ends.
+-- Else the loop: `i` is such a place, at first one near `end`, and one character further in each turn.
 use native.Mathlib.Omega.{arith}
 use borrow.Author.Needs.{needs}
 use Prim.Native.Nat.{ℕ, _-_, _≤_, _<_}
@@ -91,7 +92,17 @@ loop-again c =
 returns-4 : tie.Need-returns-4 Inv-loop μ-loop
 returns-4 c =
     let l = c .before .loop in
-    record { from = l .inv .0; to = l .inv .1; seam = l .inv .2; none = λ e. absurd (omega (arith, e, c .loop-test .left, c .before .before .before .before .before .before .before .before .pre .1 .0)) }
+    record {
+      from = l .inv .0;
+      to = l .inv .1;
+      seam = l .inv .2;
+      none = λ e. absurd (omega (
+        arith,
+        e,
+        c .loop-test .left,
+        c .before .before .before .before .before .before .before .before .pre .1 .0,
+      ));
+    }
 
 pub whole-end-spec : {M : Type 1} → statement M
 whole-end-spec =

@@ -44,7 +44,8 @@ returns c =
     let a = s .args in
     let p = s .pre .1 in
     let n = seen k .seen-at .ensures in
-    divided-gone (a .label .now) (a .content .now) (a .entries .now) (a .text .now) (a .w) (a .end) (p .0) (p .1) (p .2) (p .3) _ (n .0 .0) (n .1 .1) _ (u .any-under .ensures) (c .before .if1 .taken) _ (n .0 .1)
+    divided-gone (a .label .now) (a .content .now) (a .entries .now) (a .text .now) (a .w) (a .end) (p .0) (p .1) (p .2) (p .3) _ (n .0 .0) (n .1 .1) _ (u .any-under .ensures)
+    (c .before .if1 .taken) _ (n .0 .1)
 
 returns-2 : tie.Need-returns-2
 returns-2 c =

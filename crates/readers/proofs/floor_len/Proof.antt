@@ -48,7 +48,8 @@ pass-entries-requires : tie.Need-pass-entries-requires Inv-loop μ-loop
 pass-entries-requires c κs =
     let s = c .before .before .before .before .before .before in
     let a = s .args in
-    subst (λ (w : Walk). Arrived (a .content .now) (a .entries .now) (a .text .now) w) (sym (c .first-walk .ensures)) (first-arrived (a .label .now) (a .content .now) (a .entries .now) (a .text .now) (s .pre .1))
+    subst (λ (w : Walk). Arrived (a .content .now) (a .entries .now) (a .text .now) w) (sym (c .first-walk .ensures))
+    (first-arrived (a .label .now) (a .content .now) (a .entries .now) (a .text .now) (s .pre .1))
 
 loop-holds : tie.Need-loop-holds Inv-loop μ-loop
 loop-holds c =
@@ -78,7 +79,8 @@ add-size c =
     let l = c .before .before .before .before in
     let a = start l .args in
     let r = c .before .next-run .ensures in
-    let n = length-run (a .label .now) (a .content .now) (a .entries .now) (a .text .now) (l .loop .w) (l .loop .run) (l .loop .inv .0) (c .before .next-run .result) (r .0) (r .1) (behind c) refl refl in
+    let n = length-run (a .label .now) (a .content .now) (a .entries .now) (a .text .now) (l .loop .w) (l .loop .run) (l .loop .inv .0) (c .before .next-run .result) (r .0) (r .1) (behind c) refl
+    refl in
     let z = floor-short (a .label .now) (a .content .now) (a .entries .now) (a .text .now) in
     omega (arith, n, l .loop .inv .1, c .run-len .ensures, z, start l .pre .1 .short)
 
@@ -87,7 +89,8 @@ pass-entries-requires-2 c κs =
     let l = c .before .before .before .before .before in
     let a = start l .args in
     let r = c .before .before .next-run .ensures in
-    arrived-next (a .label .now) (a .content .now) (a .entries .now) (a .text .now) (l .loop .w) (l .loop .run) (l .loop .inv .0) (c .before .before .next-run .result) (r .0) (r .1) (behind (c .before)) refl refl
+    arrived-next (a .label .now) (a .content .now) (a .entries .now) (a .text .now) (l .loop .w) (l .loop .run) (l .loop .inv .0) (c .before .before .next-run .result) (r .0) (r .1)
+    (behind (c .before)) refl refl
 
 loop-less : tie.Need-loop-less Inv-loop μ-loop
 loop-less c =
@@ -100,9 +103,11 @@ loop-again c =
     let r = c .before .before .before .next-run .ensures in
     let k = behind (c .before .before) in
     let p = c .pass-entries2 .ensures in
-    let n = length-run (a .label .now) (a .content .now) (a .entries .now) (a .text .now) (l .loop .w) (l .loop .run) (l .loop .inv .0) (c .before .before .before .next-run .result) (r .0) (r .1) k refl refl in
+    let n = length-run (a .label .now) (a .content .now) (a .entries .now) (a .text .now) (l .loop .w) (l .loop .run) (l .loop .inv .0) (c .before .before .before .next-run .result) (r .0) (r .1) k
+    refl refl in
     let h = ap (λ (m : ℕ). length (flatten (drop m (fs (a .label .now) (a .content .now) (a .entries .now) (a .text .now))))) (p .here) in (
-      going-next (a .label .now) (a .content .now) (a .entries .now) (a .text .now) (l .loop .w) (l .loop .run) (l .loop .inv .0) (c .before .before .before .next-run .result) (r .0) (r .1) k refl refl
+      going-next (a .label .now) (a .content .now) (a .entries .now) (a .text .now) (l .loop .w) (l .loop .run) (l .loop .inv .0) (c .before .before .before .next-run .result) (r .0) (r .1) k refl
+          refl
           (c .pass-entries2 .result) p,
       omega (arith, n, h, l .loop .inv .1, c .before .before .run-len .ensures),
     )

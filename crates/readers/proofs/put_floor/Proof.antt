@@ -50,7 +50,8 @@ opening l = l .before .before .before .before .before
 
 -- at the head of a turn; before the first one the entries before the first byte are written
 now : (l : tie.At-loop Inv-loop μ-loop) → let a = start l .args in
-    Written (a .label .now) (a .content .now) (a .entries .now) (a .text .now) (l .loop .w) (l .loop .run) (blank (a .bytes .now) (a .numbers .now) (a .texts .now)) (out (l .loop .bytes) (l .loop .numbers) (l .loop .texts) (l .loop .w .c))
+    Written (a .label .now) (a .content .now) (a .entries .now) (a .text .now) (l .loop .w) (l .loop .run) (blank (a .bytes .now) (a .numbers .now) (a .texts .now))
+    (out (l .loop .bytes) (l .loop .numbers) (l .loop .texts) (l .loop .w .c))
 now l =
     l .loop .inv (start l .args .numbers .now) (start l .args .texts .now) (start l .pre .1)
     (begun (start l .args .label .now) (start l .args .content .now) (start l .args .entries .now) (start l .args .text .now)
@@ -69,7 +70,8 @@ put-entries-requires c κs =
     let a = s .args in
     let f = c .first-walk .ensures in (
       subst (λ (w : Walk). Arrived (a .content .now) (a .entries .now) (a .text .now) w) (sym f) (first-arrived (a .label .now) (a .content .now) (a .entries .now) (a .text .now) (s .pre .0 .1)),
-      subst (λ (w : Walk). EntriesFit (a .label .now) (a .content .now) (a .entries .now) (a .text .now) w (a .numbers .now) (a .texts .now)) (sym f) (first-fit (a .label .now) (a .content .now) (a .entries .now) (a .text .now) (a .bytes .now) (a .numbers .now) (a .texts .now) (s .pre .1)),
+      subst (λ (w : Walk). EntriesFit (a .label .now) (a .content .now) (a .entries .now) (a .text .now) w (a .numbers .now) (a .texts .now)) (sym f)
+          (first-fit (a .label .now) (a .content .now) (a .entries .now) (a .text .now) (a .bytes .now) (a .numbers .now) (a .texts .now) (s .pre .1)),
     )
 
 loop-holds : tie.Need-loop-holds Inv-loop μ-loop
@@ -91,7 +93,8 @@ put-run-requires c κs =
     let r = n .next-run .ensures in (
       omega (arith, r .0 .further),
       r .0 .before,
-      run-room (a .label .now) (a .content .now) (a .entries .now) (a .text .now) (a .bytes .now) (a .numbers .now) (a .texts .now) (s .pre .1) (l .loop .w) (l .loop .run) _ _ _ (now l) (n .next-run .result) (r .0) (r .1),
+      run-room (a .label .now) (a .content .now) (a .entries .now) (a .text .now) (a .bytes .now) (a .numbers .now) (a .texts .now) (s .pre .1) (l .loop .w) (l .loop .run) _ _ _ (now l)
+          (n .next-run .result) (r .0) (r .1),
     )
 
 put-entries-requires-2 : tie.Need-put-entries-requires-2 Inv-loop μ-loop
@@ -102,8 +105,10 @@ put-entries-requires-2 c κs =
     let a = s .args in
     let r = found u .next-run .ensures in
     let x = u .put-run .ensures in (
-      arrived-next (a .label .now) (a .content .now) (a .entries .now) (a .text .now) (l .loop .w) (l .loop .run) (now l .going) (found u .next-run .result) (r .0) (r .1) (u .put-run .result) (x .0 .0) (x .0 .1),
-      entries-fit (a .label .now) (a .content .now) (a .entries .now) (a .text .now) (a .bytes .now) (a .numbers .now) (a .texts .now) (s .pre .1) (l .loop .w) (l .loop .run) _ _ _ (now l) (found u .next-run .result) (r .0) (r .1)
+      arrived-next (a .label .now) (a .content .now) (a .entries .now) (a .text .now) (l .loop .w) (l .loop .run) (now l .going) (found u .next-run .result) (r .0) (r .1) (u .put-run .result)
+          (x .0 .0) (x .0 .1),
+      entries-fit (a .label .now) (a .content .now) (a .entries .now) (a .text .now) (a .bytes .now) (a .numbers .now) (a .texts .now) (s .pre .1) (l .loop .w) (l .loop .run) _ _ _ (now l)
+          (found u .next-run .result) (r .0) (r .1)
           (u .put-run .result) (x .0 .0) (x .0 .1) (x .0 .2) (x .0 .3) (x .0 .4) _ (x .1),
     )
 
@@ -122,7 +127,8 @@ loop-again c =
     let a = s .args in
     let r = found u .next-run .ensures in
     let x = u .put-run .ensures in
-    λ oe ot f v. written-next (a .label .now) (a .content .now) (a .entries .now) (a .text .now) (a .bytes .now) oe ot f (l .loop .w) (l .loop .run) _ _ _ (l .loop .inv oe ot f v) (found u .next-run .result) (r .0) (r .1)
+    λ oe ot f v. written-next (a .label .now) (a .content .now) (a .entries .now) (a .text .now) (a .bytes .now) oe ot f (l .loop .w) (l .loop .run) _ _ _ (l .loop .inv oe ot f v)
+    (found u .next-run .result) (r .0) (r .1)
     (u .put-run .result) (x .0 .0) (x .0 .1) (x .0 .2) (x .0 .3) (x .0 .4) _ (x .1) (e .put-entries2 .result) _ _ (e .put-entries2 .ensures .0) (e .put-entries2 .ensures .1)
 
 same-length : tie.Need-same-length Inv-loop μ-loop
@@ -154,7 +160,8 @@ returns c =
     let l = c .before .before .before in
     let s = start l in
     let a = s .args in
-    written-end (a .label .now) (a .content .now) (a .entries .now) (a .text .now) (a .bytes .now) (a .numbers .now) (a .texts .now) (s .pre .1) (l .loop .w) (l .loop .run) _ _ _ (now l) (omega (arith, c .before .if1 .left))
+    written-end (a .label .now) (a .content .now) (a .entries .now) (a .text .now) (a .bytes .now) (a .numbers .now) (a .texts .now) (s .pre .1) (l .loop .w) (l .loop .run) _ _ _ (now l)
+    (omega (arith, c .before .if1 .left))
 
 pub put-floor-spec : {M : Type 1} → statement M
 put-floor-spec =

@@ -63,7 +63,8 @@ returns-2 c =
     let p = c .before .before .before .before .before .before in
     let s = p .before .before .before .before .before .before in
     let a = start s .args in
-    left-written (whole s) (a .out-data .now) (a .out-entries .now) (a .out-text .now) _ _ _ (sized s) (s .settle .result) (s .settle .ensures) (p .before .before .before .before .enum-told .given .1) _ _ _
+    left-written (whole s) (a .out-data .now) (a .out-entries .now) (a .out-text .now) _ _ _ (sized s) (s .settle .result) (s .settle .ensures)
+    (p .before .before .before .before .enum-told .given .1) _ _ _
     (p .put-recording .result) (p .put-recording .ensures .0)
 
 pub put-whole-spec : {M : Type 1} → statement M

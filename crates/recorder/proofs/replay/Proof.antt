@@ -61,7 +61,8 @@ returns-2 c =
     let a = start s .args in
     let g = p .before .before .before .before .before .checked2 .given in
     let k = s .check in
-    sizes-left (content s) (lentOf (a .out-data .now) (a .out-entries .now) (a .out-text .now)) (k .result) (k .ensures .0) (g .0 .0) (g .1) (lentOf _ _ _) (p .put-whole .result) (p .put-whole .ensures)
+    sizes-left (content s) (lentOf (a .out-data .now) (a .out-entries .now) (a .out-text .now)) (k .result) (k .ensures .0) (g .0 .0) (g .1) (lentOf _ _ _) (p .put-whole .result)
+    (p .put-whole .ensures)
 
 pub replay-spec : {M : Type 1} → statement M
 replay-spec =
