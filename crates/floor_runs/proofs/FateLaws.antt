@@ -14,14 +14,16 @@ use Rattle.buffer.proofs.HeldLaws.{flatten-append}
 use Rattle.chars.specs.Chars.{Character, chars, charIn, bytesOf, wide, widthOf}
 use Rattle.chars.proofs.CharsLaws.{Valid, bytes-chars, valid-chars, char-next, char-some, char-inside}
 use Rattle.chars.specs.Chars.{Seam}
-use Rattle.recording.specs.Lists.{AllOf, same}
+use Rattle.recording.specs.Lists.{AllOf}
 use Rattle.recording.specs.Recording.{Bytes, Recording, Item, byteItems}
 use Rattle.recording.specs.Coloured.{Coloured, colouredFrom, coloured}
 use Rattle.recording.proofs.Lists.{all-left, all-right, or-left, or-right}
+use Rattle.char_runs.specs.Runs.{Plain}
 use Rattle.view.proofs.AbsentLaws.{among-reverse}
+use Rattle.view.specs.Theorem.{opens}
 use Rattle.view.specs.View.{among, anyUnder, hides, hiddenFrom, stars}
 use Rattle.floor_runs.specs.Fates.{singles, gone, fatesOf, fatesFrom, fates, Fated}
-use Rattle.floor_runs.proofs.PlacedLaws.{length-singles, flatten-singles, take-singles, drop-singles, singles-append, flatten-none, length-gone}
+use Rattle.floor_runs.proofs.PlacedLaws.{length-singles, flatten-singles, singles-append, flatten-none, length-gone}
 
 -- ── lists
 -- two lists in two parts each, the first parts of one length
@@ -56,9 +58,10 @@ colours-behind s [] is (suc n) h = absurd (omega (arith, h))
 colours-behind s (b ∷ p) is zero h = absurd (omega (arith, h))
 colours-behind s (b ∷ p) is (suc n) h = colours-behind s p is n (omega (arith, h))
 
-pub none-under : (l : Bytes) (s : List Bytes) (p : Bytes) → among l s ≡ false → anyUnder l (colouredFrom s (byteItems p)) ≡ false
-none-under l s [] h = refl
-none-under l s (b ∷ p) h = rw (among-reverse l s, h) (none-under l s p h)
+-- outside the label, and under it
+pub opens-none : (l : Bytes) (p : Bytes) → opens l (byteItems p) ≡ false
+opens-none l [] = refl
+opens-none l (b ∷ p) = opens-none l p
 
 abbrev pub IsUnder : Bytes → Coloured → Type 0
 IsUnder l c = among l (c .labels) ≡ true
@@ -104,9 +107,6 @@ module _ (l : Bytes) where
   abbrev goneAll : List Character → List Bytes
   goneAll [] = []
   goneAll (c ∷ cs) = gone c ++ goneAll cs
-
-  abbrev Plain : Character → Type 0
-  Plain c = same (c .text) (0x0A ∷ []) ≡ false
 
   some-under : (n : ℕ) (ys : List Coloured) → 1 ≤ n → n ≤ length ys → AllOf (IsUnder l) (take n ys) → anyUnder l (take n ys) ≡ true
   some-under zero ys h g a = absurd (omega (arith, h))
@@ -176,7 +176,7 @@ module _ (l d : Bytes) (xs : List Coloured) (fs : List Bytes) where
         (fated-at (at + n) true h (b .1), ap flatten (b .0 ∙ g) ∙ flatten-singles (take n (drop at d)))
 
     -- all of their bytes are, and none of them is a 0A
-    pub starred-run : n ≤ length (drop at xs) → AllOf (IsUnder l) (take n (drop at xs)) → AllOf (Plain l) cs
+    pub starred-run : n ≤ length (drop at xs) → AllOf (IsUnder l) (take n (drop at xs)) → AllOf Plain cs
         → Fated l d xs fs (at + n) (at + n) false × (flatten (take n (drop at fs)) ≡ replicate (widthOf cs) 0x2A)
     starred-run m u p =
         let v = valid-chars (take n (drop at d)) in

@@ -30,16 +30,6 @@ unfolding flatten
 flatten-singles [] = refl
 flatten-singles (b ∷ d) = ap (λ (l : Bytes). b ∷ l) (flatten-singles d)
 
-pub take-singles : (n : ℕ) (d : Bytes) → take n (singles d) ≡ singles (take n d)
-take-singles zero d = refl
-take-singles (suc n) [] = refl
-take-singles (suc n) (b ∷ d) = ap (λ (l : List Bytes). (b ∷ []) ∷ l) (take-singles n d)
-
-pub drop-singles : (n : ℕ) (d : Bytes) → drop n (singles d) ≡ singles (drop n d)
-drop-singles zero d = refl
-drop-singles (suc n) [] = refl
-drop-singles (suc n) (b ∷ d) = drop-singles n d
-
 pub singles-append : (a b : Bytes) → singles (a ++ b) ≡ singles a ++ singles b
 singles-append [] b = refl
 singles-append (x ∷ a) b = ap (λ (l : List Bytes). (x ∷ []) ∷ l) (singles-append a b)

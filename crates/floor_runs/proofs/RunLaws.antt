@@ -19,9 +19,10 @@ use Rattle.recording.proofs.ItemsLaws.{values-coloured, data-itemsFrom}
 use Rattle.layout.proofs.StepLaws.{length-values}
 use Rattle.writer.specs.declared.Cursor.{Cursor}
 use Rattle.writer.specs.Write.{left}
+use Rattle.view.proofs.AbsentLaws.{none-under}
 use Rattle.view.specs.View.{among, anyUnder, hides, stars}
 use Rattle.floor_runs.specs.Fates.{fatesFrom, Fated}
-use Rattle.floor_runs.proofs.FateLaws.{same-labels, none-under, IsUnder, all-under, fated-at, kept-run, starred-run, inside-run, kept-char, gone-char}
+use Rattle.floor_runs.proofs.FateLaws.{same-labels, opens-none, IsUnder, all-under, fated-at, kept-run, starred-run, inside-run, kept-char, gone-char}
 use Rattle.char_runs.specs.declared.Stretch.{Stretch}
 use Rattle.char_runs.specs.Runs.{Plain, Passes, WholeUpTo, Covered}
 use Rattle.char_runs.proofs.RunLaws.{newline-alone}
@@ -67,7 +68,7 @@ module _ (l ds ns ts : List ℕ) (w : Walk) (end : ℕ) (h : w .c .at < end) (e 
         ∙ same-labels s (part at end ds) (left ds ns ts there) n (omega (arith, b, length-part at end ds e))
 
     closed : (n : ℕ) → n ≤ end - at → among l s ≡ false → anyUnder l (take n (drop at xs)) ≡ false
-    closed n b g = ap (anyUnder l) (run-colours n b) ∙ none-under l s (take n (part at end ds)) g
+    closed n b g = ap (anyUnder l) (run-colours n b) ∙ none-under l s (byteItems (take n (part at end ds))) g (opens-none l (take n (part at end ds)))
 
     covered-all : (n : ℕ) → n ≤ end - at → among l s ≡ true → AllOf (IsUnder l) (take n (drop at xs))
     covered-all n b g = rw (run-colours n b) (all-under l s (take n (part at end ds)) g)

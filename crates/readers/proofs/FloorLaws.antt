@@ -71,9 +71,6 @@ module _ (l ds ns ts : List ℕ) where
   unfolding left items
   first-left = refl
 
-  first-fates : drop 0 fs ≡ fs
-  first-fates = refl
-
   unfoldable pub going-first : (w : Walk) → Passed l ds ns ts firstWalk w → Going w (copiedTo 0)
   unfolding coloured fates
   going-first w p =
@@ -167,9 +164,6 @@ module _ (l ds ns ts : List ℕ) where
 
   -- ── at the data's end
   module _ (w : Walk) (r : Run) (G : Going w r) (e : length ds ≤ w .c .at) where
-    at-end : w .c .at ≡ length ds
-    at-end = omega (arith, e, valid-in (w .c .at) (length ds) (length ts) (entriesOf (drop (w .c .k) ns)) (G .standing .arrived .ready .valid))
-
     none-left : (es : List Entry) → w .c .at < placeOf es → Valid (w .c .at) (length ds) (length ts) es → es ≡ []
     unfolding placeOf Valid
     none-left [] p v = refl
@@ -188,12 +182,6 @@ module _ (l ds ns ts : List ℕ) where
     length-end = ap (λ (x : List Bytes). length (flatten x)) (drop-of-length-le fs {i = w .c .at} (omega (arith, e, length-fates l q)))
 
   -- ── all of it
-  pub come-first : (w : Walk) → Passed l ds ns ts firstWalk w → (G : Going w (copiedTo 0)) → G .stack ≡ openAfter [] (front 0 (items q))
-      → floorItems l q ≡ dropRaws l [] (front 0 (items q)) ++ toCome l (drop (w .c .at) fs) (G .stack) (left ds ns ts (w .c))
-  come-first w p G e =
-      floor-placed l q ∙ come-entries l fs [] (items q)
-      ∙ (λ i. dropRaws l [] (front 0 (items q)) ++ toCome l (drop (sym (p .here) i) fs) (sym e i) ((ap (back 0) (sym first-left) ∙ sym (p .rest)) i))
-
   -- never longer than the content
   pub floor-short : length (flatten fs) ≤ length ds
   unfolding encode

@@ -23,7 +23,7 @@ use Rattle.floor_runs.specs.Fates.{toCome}
 use Rattle.floor_runs.specs.Runs.{copiedTo, runBytes, RunOf}
 use Rattle.floor_runs.proofs.PlacedLaws.{floor-placed, come-entries}
 use Rattle.readers.specs.Entries.{Passed, EntriesPut, EntriesFit, EntriesWritten}
-use Rattle.readers.proofs.FloorLaws.{q, fs, Going, first-left, going-first, behind, going-next, come-run-next, come-entries-next, come-end, come-first}
+use Rattle.readers.proofs.FloorLaws.{q, fs, Going, first-left, going-first, behind, going-next, come-run-next, come-entries-next, come-end}
 
 module _ (l ds ns ts : List ℕ) where
   abbrev pub whole : List Item

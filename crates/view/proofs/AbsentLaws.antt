@@ -37,7 +37,7 @@ module _ (l : Bytes) where
   among-push k s is h g = neither (same l k) (among l s) (or-left (same l k) (opens l is) g) h
 
   -- ── no byte is under it, no raw sequence goes
-  none-under : (s : List Bytes) (is : List Item) → among l s ≡ false → opens l is ≡ false → anyUnder l (colouredFrom s is) ≡ false
+  pub none-under : (s : List Bytes) (is : List Item) → among l s ≡ false → opens l is ≡ false → anyUnder l (colouredFrom s is) ≡ false
   none-under s [] h g = refl
   none-under s (byte b ∷ is) h g = neither (among l (reverse s)) (anyUnder l (colouredFrom s is)) (among-reverse s ∙ h) (none-under s is h g)
   none-under s (push k ∷ is) h g = none-under (k ∷ s) is (among-push k s is h g) (or-right (same l k) (opens l is) g)

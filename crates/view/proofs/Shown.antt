@@ -21,6 +21,7 @@ use Rattle.view.proofs.AbsentLaws.{absent-label}
 use Rattle.view.proofs.AlikeLaws.{floors-agree, running-agrees}
 use Rattle.view.proofs.ColourLaws.{floor-colours, floor-starred}
 use Rattle.view.proofs.OutcomeLaws.{office-replay, content-first, turned-away, floor-clean, balance-stays}
+use Rattle.view.proofs.SizeLaws.{data-bound, entries-bound, text-bound}
 use Rattle.view.proofs.NewlineLaws.{floor-newlines, floor-newlines-labels}
 
 pub theorem : Theorem
@@ -40,6 +41,7 @@ readers l r =
       absent = absent-label l r;
       clean = λ o x e. floor-clean l o r x e;
       balance = balance-stays l r;
+      shorter = (data-bound l r, entries-bound l r, text-bound l r);
       office = office-replay l r;
       checks = content-first l r;
       turned = turned-away l r;

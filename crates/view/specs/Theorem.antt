@@ -1,6 +1,6 @@
 -- What Q-6 asks to be shown: of two recordings that differ only under the label the floor reads the same (`Theorem`); what each reader reads of one recording, in the request's words (`Readers`);
 -- and a view after a list of layout calls (`Follows`). `proofs/Shown.antt` has all three.
-use Prim.Native.Nat.{ℕ, _+_, _<_}
+use Prim.Native.Nat.{ℕ, _+_, _≤_, _<_}
 use mathlib.Core.Bool.{Bool, true, false, cond, _||_}
 use mathlib.Core.Path.{_≡_}
 use mathlib.Core.Logic.{_⊎_}
@@ -10,7 +10,7 @@ use lib.ListN.{length, take, drop, replicate}
 use Rattle.chars.specs.Chars.{Character, chars, wide}
 use Rattle.recording.specs.declared.Answer.{Answer}
 use Rattle.recording.specs.Lists.{AllOf, same}
-use Rattle.recording.specs.Recording.{Bytes, Recording, Item, byte, push, pop, raw, items}
+use Rattle.recording.specs.Recording.{Bytes, Recording, Item, byte, push, pop, raw, items, encode}
 use Rattle.recording.specs.Coloured.{Coloured, coloured, balanced, values}
 use Rattle.recording.specs.Edit.{entriesOnly, labelsAt}
 use Rattle.recording.specs.Refusals.{recordingFault}
@@ -90,6 +90,9 @@ pub record Readers (l : Bytes) (r : Recording) : Type 0 where
   -- what the floor is left is a recording again, as balanced as the content
   pub clean : (o : Room) (x : Result) → floorOutcome l o r ≡ done x → recordingFault (x .recording) ≡ 0
   pub balance : balanced (floorOf l r) ≡ balanced r
+  -- it is never longer than what the office is left
+  pub shorter : (length (floorOf l r .dataBytes) ≤ length (r .dataBytes)) × (length (floorOf l r .entryNumbers) ≤ length (encode (items r) .entryNumbers))
+      × (length (floorOf l r .text) ≤ length (encode (items r) .text))
   -- the office reads what replay leaves
   pub office : (b : Lent) → viewFault l r ≡ 0 → officeOutcome l (roomIn b) r ≡ replayed r b
   -- 34 and 35 "follow the content's checks", for both readers, and come before all others
