@@ -1,5 +1,5 @@
 -- The plan of an indenting, which goes byte by byte, as the code goes through it: from one line that gets a prefix to the next (`plan-next`, `plan-last`); how much it writes (`sized`);
--- and the passes over the data that find the lines: how far it is to the next 0A (`toBreak`) and to the next line that is not empty (`toNext`).
+-- and the passes over the data that find the lines: how far it is to the next line that is not empty (`toNext`), past the next 0A (`toBreak`).
 use mathlib.Core.Path.{_≡_, refl, sym, ap, _∙_}
 use mathlib.Core.Bool.{Bool, true, false, cond, _&&_, _||_, not}
 use mathlib.Core.List.{List, [], _∷_, _++_, append-assoc}
@@ -15,7 +15,8 @@ use Rattle.recording.specs.Recording.{Item}
 use Rattle.recording.specs.Edit.{keep, put, front, back, edit}
 use Rattle.recording.proofs.EditLaws.{front-with-back, front-add, back-add}
 use Rattle.layout.specs.Layout.{indentOps}
-use Rattle.indent.specs.Lines.{filledLines, toNext, toBreak}
+use Rattle.newlines.specs.Newlines.{toBreak}
+use Rattle.indent.specs.Lines.{filledLines, toNext}
 
 -- ── from line to line
 pub plan-next : (p : List Item) (start : Bool) (d : List ℕ) (is : List Item) → toNext start d < length d
@@ -98,51 +99,6 @@ filled-none start (b ∷ bs) h = go (start && not (eqb b 0x0A)) (λ g. filled-no
     go : (t : Bool) → (length bs ≤ toNext (eqb b 0x0A) bs → filledLines (eqb b 0x0A) bs ≡ 0) → suc (length bs) ≤ cond t 0 (suc (toNext (eqb b 0x0A) bs)) → cond t 1 0 + filledLines (eqb b 0x0A) bs ≡ 0
     go true f g = absurd (omega arith)
     go false f g = omega (arith, f (omega arith))
-
--- ── the next 0A: n bytes before it are passed at once
-break-drop : (n : ℕ) (d : List ℕ) → n ≤ toBreak d → toBreak d ≡ n + toBreak (drop n d)
-unfolding toBreak
-break-drop zero d h = omega arith
-break-drop (suc n) [] h = absurd (omega arith)
-break-drop (suc n) (b ∷ bs) h = go (eqb b 0x0A) (λ g. break-drop n bs g) h
-  where
-    go : (t : Bool) → (n ≤ toBreak bs → toBreak bs ≡ n + toBreak (drop n bs)) → suc n ≤ cond t 0 (suc (toBreak bs)) → cond t 0 (suc (toBreak bs)) ≡ suc n + toBreak (drop n bs)
-    go true f g = absurd (omega arith)
-    go false f g = omega (arith, f (omega arith))
-
-pub break-past : (n at : ℕ) (d : List ℕ) → n ≤ toBreak (drop at d) → toBreak (drop at d) ≡ n + toBreak (drop (at + n) d)
-break-past n at d h = break-drop n (drop at d) h ∙ ap (λ (l : List ℕ). n + toBreak l) (drop-drop n at d)
-
-module _ (at : ℕ) (d : List ℕ) (more : at < length d) where
-  break-is : toBreak (drop at d) ≡ cond (eqb (getD d at 0) 0x0A) 0 (suc (toBreak (drop (at + 1) d)))
-  unfolding toBreak
-  break-is = rw (add-one, drop-cons d at 0 more)
-
-  pub break-here : getD d at 0 ≡ 0x0A → toBreak (drop at d) ≡ 0
-  break-here h = simp (eq-eqb _ _ h) at break-is
-
-  pub break-later : (getD d at 0 ≡ 0x0A → ⊥) → toBreak (drop at d) ≡ suc (toBreak (drop (at + 1) d))
-  break-later h = simp (ne-eqb _ _ h) at break-is
-
-pub break-end : (at : ℕ) (d : List ℕ) → length d ≤ at → toBreak (drop at d) ≡ 0
-unfolding toBreak
-break-end at d past = rw (drop-of-length-le d {i = at} past)
-
--- one byte more of a block
-pub found-next : (at j : ℕ) (d : List ℕ) → at + j < length d → (ltb (toBreak (drop at d)) j || eqb (getD d (at + j) 0) 0x0A) ≡ ltb (toBreak (drop at d)) (j + 1)
-found-next at j d more =
-    elim (ltb n j) as (λ t. ltb n j ≡ t → (t || eqb (getD d (at + j) 0) 0x0A) ≡ ltb n (j + 1))
-    [ true ↦ λ e. sym (lt-ltb n (j + 1) (omega (arith, ltb-true n j e))) | false ↦ λ e. here (ltb-false n j e) ] refl
-  where
-    n : ℕ
-    n = toBreak (drop at d)
-
-    here : j ≤ n → eqb (getD d (at + j) 0) 0x0A ≡ ltb n (j + 1)
-    here h =
-        elim (eqb (getD d (at + j) 0) 0x0A) as (λ t. eqb (getD d (at + j) 0) 0x0A ≡ t → t ≡ ltb n (j + 1)) [
-          | true ↦ λ e. sym (lt-ltb n (j + 1) (omega (arith, break-past j at d h, break-here (at + j) d more (eqb-true _ _ e))))
-          | false ↦ λ e. sym (le-ltb n (j + 1) (omega (arith, break-past j at d h, break-later (at + j) d more (eqb-false _ _ e))))
-        ] refl
 
 -- ── the next line: past its 0A and the empty lines after it
 next-drop : (d : List ℕ) → toNext false d ≡ toBreak d + toNext true (drop (toBreak d) d)

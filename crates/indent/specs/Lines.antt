@@ -18,8 +18,3 @@ filledLines start (b ∷ bs) = firstByte start b + filledLines (eqb b 0x0A) bs
 unfoldable pub toNext : Bool → List ℕ → ℕ
 toNext start [] = 0
 toNext start (b ∷ bs) = cond (start && not (eqb b 0x0A)) 0 (suc (toNext (eqb b 0x0A) bs))
-
--- how many bytes come before the next 0A, all if there is none
-unfoldable pub toBreak : List ℕ → ℕ
-toBreak [] = 0
-toBreak (b ∷ bs) = cond (eqb b 0x0A) 0 (suc (toBreak bs))

@@ -18,7 +18,7 @@ use Rattle.recording.specs.Recording.{isNil, Bytes}
 use Rattle.recording.proofs.ItemsLaws.{values-append, values-take, values-drop}
 use Rattle.recording.proofs.Lists.{all-left, all-right, all-append}
 use Rattle.layout.specs.Plain.{stretch, labelsOf, wrapped}
-use Rattle.layout.specs.Wrap.{ontoFirst, groups, splitLines, Word, ByteWord, byteWord, byteWords, wordsOf, splitWords, splitWordsAtWidth, fitsLine, fullWidth, firstFit, Line}
+use Rattle.layout.specs.Wrap.{ontoFirst, groups, splitLines, joinLines, Word, ByteWord, byteWord, byteWords, wordsOf, splitWords, splitWordsAtWidth, fitsLine, fullWidth, firstFit, Line}
 use Rattle.layout.specs.Wrap.{lineOf, shownLen, wholeLen, groupLines, wrappedLine, linesFrom, wrapLines}
 use Rattle.layout.proofs.BreakLaws.{WordOk, Spaced, breaking-chain, breaking-pieces, fit-spaced}
 use Rattle.layout.proofs.ByteWordLaws.{ChainFrom, Chain, NoNewline, RunOk, Next, lines-none, runs-ok, runs-chain, runs-unrun}
@@ -192,11 +192,6 @@ none-all w b [] h = tt
 none-all w b (l ∷ ls) h = all-append (AllOf NoNewline) (texts (wrappedLine w b l)) (textsOf w b ls) (texts-none (wrappedLine w b l) (rw (full-fitted w b l) (h .0))) (none-all w b ls (h .1))
 
 -- ── lines joined by 0A
-abbrev pub joinLines : List Bytes → Bytes
-joinLines [] = []
-joinLines (l ∷ []) = l
-joinLines (l ∷ m ∷ ls) = l ++ 0x0A ∷ joinLines (m ∷ ls)
-
 pub line-more : (t r : Bytes) → AllOf NoNewline t → splitLines (t ++ 0x0A ∷ r) ≡ t ∷ splitLines r
 line-more [] r h = refl
 line-more (b ∷ t) r h = rw (h .0, line-more t r (h .1))

@@ -33,6 +33,12 @@ abbrev pub splitLines : List ℕ → List (List ℕ)
 splitLines [] = [] ∷ []
 splitLines (b ∷ bs) = cond (eqb b 0x0A) ([] ∷ splitLines bs) (ontoFirst b (splitLines bs))
 
+-- lines joined by 0A
+abbrev pub joinLines : List (List ℕ) → List ℕ
+joinLines [] = []
+joinLines (l ∷ []) = l
+joinLines (l ∷ m ∷ ls) = l ++ 0x0A ∷ joinLines (m ∷ ls)
+
 -- ── words: a word runs to the next 20, and the run of 20s after it is its whitespace
 pub record ByteWord : Type 0 where
   pub text : List ℕ

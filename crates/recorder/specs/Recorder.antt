@@ -7,7 +7,7 @@ use lib.ListN.{length, take}
 use Rattle.chars.specs.Chars.{wellFormed}
 use Rattle.recording.specs.Recording.{Bytes, Recording, recording, entry, numbersOf, Item, items, encode}
 use Rattle.recording.specs.Refusals.{refuseIf, recordingFault}
-use Rattle.recording.specs.Outcome.{Room, Result, Faults, Outcome, settle, Lent, roomIn}
+use Rattle.recording.specs.Outcome.{Room, Result, Faults, contentFaults, Outcome, settle, Lent, roomIn}
 
 -- the three buffers that a call is lent, without a line list
 abbrev pub lentOf : Bytes → List ℕ → Bytes → Lent
@@ -26,7 +26,7 @@ judgedBySize o is = settle noFaults o (leaves (encode is))
 
 -- ── replay: the recording written anew, its entries' texts side by side from 0
 unfoldable pub replayFaults : Recording → Faults
-replayFaults r = record { lengths = 0; content = recordingFault r; second = 0; added = 0; plain = 0; own = 0 }
+replayFaults r = contentFaults r 0
 
 unfoldable pub replayed : Recording → Lent → Outcome
 replayed r b = settle (replayFaults r) (roomIn b) (leaves (encode (items r)))

@@ -10,7 +10,7 @@ use borrow.Author.Tests.{eq-eqb, ne-eqb, eqb-true}
 use Rattle.recording.specs.declared.Refusal.{Refusal}
 use Rattle.recording.specs.declared.Refusal.the-variants.{DataTooLong, EntryNumbers, EntryShape, EntryPosition, TextPart, LabelIllFormed, TextIllFormed, ReplacementRange}
 use Rattle.recording.specs.declared.Refusal.the-variants.{ResultOverLimit, LengthOverBuffer, DataBufferTooShort, EntryBufferTooShort, TextBufferTooShort, LineListTooShort}
-use Rattle.recording.specs.declared.Refusal.the-variants.{TabStop, PrefixNewline, PrefixMissing, ViewLabel, ContentUnbalanced, SetsDiffer, CallNumbers, AnswerListTooShort}
+use Rattle.recording.specs.declared.Refusal.the-variants.{TabStop, PrefixNewline, PrefixMissing, ViewLabel, ContentUnbalanced, LineIndex, NoSuchPlace, SetsDiffer, CallNumbers, AnswerListTooShort}
 use Rattle.recording.specs.declared.Answer.the-variants.{Refused, Done}
 use Rattle.recording.specs.Refusals.{numberOf, firstOf}
 use Rattle.recording.specs.Outcome.{Room, Result, Faults, Outcome, refused, done, overLimit, noRoom, refusalOf, settle, Lent, lentAfter, returned, answerOf}
@@ -37,6 +37,8 @@ number-pos PrefixNewline = omega arith
 number-pos PrefixMissing = omega arith
 number-pos ViewLabel = omega arith
 number-pos ContentUnbalanced = omega arith
+number-pos LineIndex = omega arith
+number-pos NoSuchPlace = omega arith
 number-pos SetsDiffer = omega arith
 number-pos CallNumbers = omega arith
 number-pos AnswerListTooShort = omega arith

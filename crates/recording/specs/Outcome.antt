@@ -8,8 +8,10 @@ use lib.ListN.{length, take}
 use Rattle.buffer.specs.Place.{over}
 use Rattle.recording.specs.declared.Answer.{Answer}
 use Rattle.recording.specs.declared.Answer.the-variants.{Refused, Done}
+use Rattle.recording.specs.declared.Reply.{Reply}
+use Rattle.recording.specs.declared.Reply.the-variants as R
 use Rattle.recording.specs.Recording.{Bytes, Recording}
-use Rattle.recording.specs.Refusals.{numberOf, dataLimit, entryLimit, textLimit, firstOf, refuseIf}
+use Rattle.recording.specs.Refusals.{numberOf, dataLimit, entryLimit, textLimit, firstOf, refuseIf, recordingFault}
 
 -- the lengths of the lent buffers, in numbers: data bytes, entry numbers, text bytes, line numbers
 pub record Room : Type 0 where
@@ -37,6 +39,10 @@ pub record Faults : Type 0 where
   pub plain : ℕ
   -- the refusals of one call alone, in that call's order: 8 of the replacement records, and document 02's from 31 on
   pub own : ℕ
+
+-- the faults of a call that reads one recording: of that recording, then its own
+abbrev pub contentFaults : Recording → ℕ → Faults
+contentFaults r own = record { lengths = 0; content = recordingFault r; second = 0; added = 0; plain = 0; own = own }
 
 -- 9: a result over a limit of the recording
 unfoldable pub overLimit : Recording → ℕ
@@ -112,3 +118,34 @@ answerOf (Done d e t n) = record { refusal = 0; dataBytes = d; entryNumbers = e;
 -- ── THE PROMISE of every call, by its outcome: the answer has the outcome's numbers, and `after` is what the lent buffers held `before` with the outcome's result over it
 abbrev pub Promised : Outcome → Lent → Lent → Answer → Type 0
 Promised x before after a = (answerOf a ≡ returned x) × (after ≡ lentAfter x before)
+
+-- ── a call that is lent a list of numbers alone
+abbrev pub noRecording : Recording
+noRecording = record { dataBytes = []; entryNumbers = []; text = [] }
+
+abbrev pub lineRoom : ℕ → Room
+lineRoom n = record { dataBytes = 0; entryNumbers = 0; text = 0; lines = n }
+
+abbrev pub lentLines : List ℕ → Lent
+lentLines ls = record { dataBytes = []; entryNumbers = []; text = []; lines = ls }
+
+-- ── a question: nothing is lent to be written, nothing is left, and two numbers come back
+abbrev pub nothingLeft : Result
+nothingLeft = record { recording = noRecording; lines = []; number = 0 }
+
+-- a refusal's number with both numbers 0; or 0 and the two
+pub record Replied : Type 0 where
+  pub refusal : ℕ
+  pub first : ℕ
+  pub second : ℕ
+
+-- what an outcome makes of the two numbers a and b
+unfoldable pub replied : Outcome → ℕ → ℕ → Replied
+replied (refused n) a b = record { refusal = n; first = 0; second = 0 }
+replied (done x) a b = record { refusal = 0; first = a; second = b }
+
+-- the documents' number and values for each case of the reply
+unfoldable pub replyOf : Reply → Replied
+unfolding numberOf
+replyOf (R.Refused f) = record { refusal = numberOf f; first = 0; second = 0 }
+replyOf (R.Found a b) = record { refusal = 0; first = a; second = b }

@@ -43,6 +43,10 @@ pub enum Refusal {
     ViewLabel,
     // A content whose labels are not balanced.
     ContentUnbalanced,
+    // A line index that is too short for its numbers, or not that of the data.
+    LineIndex,
+    // A line or an offset that is not there.
+    NoSuchPlace,
     // Of a list of calls: two sets of buffers that differ in a length, numbers that are no calls, a list of answers that is too short.
     SetsDiffer,
     CallNumbers,
@@ -73,6 +77,8 @@ pub fn number_of(f: Refusal) -> u64
         Refusal::PrefixMissing => 33,
         Refusal::ViewLabel => 34,
         Refusal::ContentUnbalanced => 35,
+        Refusal::LineIndex => 36,
+        Refusal::NoSuchPlace => 37,
         Refusal::SetsDiffer => 61,
         Refusal::CallNumbers => 62,
         Refusal::AnswerListTooShort => 63,
@@ -115,6 +121,12 @@ pub enum Answer {
         text: usize,
         number: u64,
     },
+}
+
+// What a question answers, which leaves nothing: its refusal, or two numbers.
+pub enum Reply {
+    Refused(Refusal),
+    Found { first: usize, second: usize },
 }
 
 // The entry whose numbers start at k: the entries from k on are this one and those from k + 4 on.

@@ -14,10 +14,10 @@ use Rattle.buffer.specs.Place.{over, overAt, part}
 use Rattle.buffer.proofs.Laws.{put-over, take-over}
 use Rattle.recording.specs.Recording.{Bytes}
 use Rattle.recording.specs.Refusals.{dataLimit}
-use Rattle.recording.specs.Outcome.{Outcome, done, lentAfter, Returned, returned, answerOf}
+use Rattle.recording.specs.Outcome.{Outcome, done, lentAfter, Returned, returned, answerOf, lentLines}
 use Rattle.recording.specs.declared.Answer.{Answer}
 use Rattle.layout.specs.Wrap.{Line, lineWidth, lineNumbers, wrapLines}
-use Rattle.wrap_lines.specs.WrapBytes.{lentLines, wrapResult, wrapBytesOutcome}
+use Rattle.wrap_lines.specs.WrapBytes.{wrapResult, wrapBytesOutcome}
 use Rattle.wrap_lines.proofs.WrapLaws.{numbers-length, outcome-done}
 use Rattle.sheet.specs.Sheet.{after, upTo, sheetLine, sheetLines, allDigits, valueFrom, noLeadingZero, smallDigits, isDecimal, decimalOr, isBreak, breakOf, isData, allHex, dataOf}
 use Rattle.sheet.specs.Sheet.{widthField, breakField, dataField, goodLine}

@@ -18,7 +18,8 @@ use Rattle.layout.specs.Wrap.{ontoFirst, splitLines}
 use Rattle.layout.specs.Unindent.{hasNewline, beginsWith, allBegin}
 use Rattle.layout.proofs.LineLaws.{some-lines, linesAt, later-lines}
 use Rattle.layout.proofs.UnindentLaws.{byteOps, begins-long}
-use Rattle.indent.specs.Lines.{toNext, toBreak}
+use Rattle.newlines.specs.Newlines.{toBreak}
+use Rattle.indent.specs.Lines.{toNext}
 use Rattle.indent.proofs.Laws.{next-past}
 
 -- how many bytes of the next byte's line are still to go; `start`: it is the first of its line

@@ -19,7 +19,8 @@ use Rattle.layout.specs.Plain.{withLabels}
 use Rattle.layout.proofs.TabLaws.{Plain, Sort, tab, newline, other, sort}
 use Rattle.view.specs.View.{anyUnder, hides, hiddenFrom, hidden, stars, floorOf}
 use Rattle.view.specs.Alike.{Corresponding, end, entries, kept, replaced, Alike}
-use Rattle.view.specs.Theorem.{floorColoured, newlines, colouredNewlines}
+use Rattle.newlines.specs.Newlines.{newlines}
+use Rattle.view.specs.Theorem.{floorColoured, colouredNewlines}
 use Rattle.view.proofs.ColourLaws.{own-values, rest-values, data-is, floor-colours}
 use Rattle.view.proofs.SizeLaws.{floorBytes, floor-data}
 

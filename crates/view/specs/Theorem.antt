@@ -8,6 +8,7 @@ use mathlib.Core.List.{List, [], _∷_, _++_}
 use lib.Dec.{eqb}
 use lib.ListN.{length, take, drop, replicate}
 use Rattle.chars.specs.Chars.{Character, chars, wide}
+use Rattle.newlines.specs.Newlines.{newlines}
 use Rattle.recording.specs.declared.Answer.{Answer}
 use Rattle.recording.specs.Lists.{AllOf, same}
 use Rattle.recording.specs.Recording.{Bytes, Recording, Item, byte, push, pop, raw, items, encode}
@@ -60,11 +61,7 @@ floorColoured l (c ∷ chs) cs =
 abbrev pub Starred : Bytes → Coloured → Type 0
 Starred l c = among l (c .labels) ≡ true → (c .val ≡ 0x2A) ⊎ (c .val ≡ 0x0A)
 
--- how many 0A there are; and each of them with its labels
-abbrev pub newlines : Bytes → ℕ
-newlines [] = 0
-newlines (b ∷ d) = cond (eqb b 0x0A) 1 0 + newlines d
-
+-- each 0A with its labels
 abbrev pub colouredNewlines : List Coloured → List Coloured
 colouredNewlines [] = []
 colouredNewlines (c ∷ cs) = cond (eqb (c .val) 0x0A) (c ∷ []) [] ++ colouredNewlines cs

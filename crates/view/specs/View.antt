@@ -8,8 +8,8 @@ use Rattle.recording.specs.Lists.{same}
 use Rattle.recording.specs.Recording.{Bytes, Recording, isNil, Item, byte, push, pop, raw, byteItems, items, encode}
 use Rattle.recording.specs.Coloured.{Coloured, coloured, balanced}
 use Rattle.recording.specs.Edit.{Op, keep, skip, put, edit}
-use Rattle.recording.specs.Refusals.{firstOf, refuseIf, recordingFault}
-use Rattle.recording.specs.Outcome.{Room, Faults, Outcome, settle}
+use Rattle.recording.specs.Refusals.{firstOf, refuseIf}
+use Rattle.recording.specs.Outcome.{Room, Faults, contentFaults, Outcome, settle}
 use Rattle.recorder.specs.Recorder.{leaves}
 
 -- ── which characters are replaced
@@ -68,7 +68,7 @@ viewFault l r = firstOf (refuseIf (isNil l || not (wellFormed l)) 34 ∷ refuseI
 
 -- they follow the content's checks, for both readers
 unfoldable pub viewFaults : Bytes → Recording → Faults
-viewFaults l r = record { lengths = 0; content = recordingFault r; second = 0; added = 0; plain = 0; own = viewFault l r }
+viewFaults l r = contentFaults r (viewFault l r)
 
 -- ── the two readers
 unfoldable pub officeOutcome : Bytes → Room → Recording → Outcome

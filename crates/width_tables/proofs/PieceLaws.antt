@@ -15,13 +15,13 @@ use Rattle.chars.proofs.CutLaws.{longest, beforeLongest, split-longest, kept-fr
 use Rattle.recording.specs.Lists.{AllOf}
 use Rattle.recording.specs.Recording.{Bytes}
 use Rattle.recording.proofs.Lists.{all-left, all-right, all-append}
-use Rattle.layout.specs.Wrap.{ByteWord, Word, splitLines, byteWords, groupLines}
+use Rattle.layout.specs.Wrap.{ByteWord, Word, splitLines, joinLines, byteWords, groupLines}
 use Rattle.layout.proofs.GroupLaws.{concat}
 use Rattle.layout.proofs.WordLaws.{joinWords, unrun-runs, full, blanks, flat, bytes-flat, flat-append, flat-fitted}
 use Rattle.layout.proofs.ByteWordLaws.{Chain, Next, runs-chain}
 use Rattle.layout.specs.Tabs.{spaces}
 use Rattle.layout.proofs.TabLaws.{chars-spaces, low-spaces}
-use Rattle.layout.proofs.TwiceLaws.{closed, text, texts, flat-closed, joinLines, join-lines, line-behind, cuts, cuts-append, cuts-spans}
+use Rattle.layout.proofs.TwiceLaws.{closed, text, texts, flat-closed, join-lines, line-behind, cuts, cuts-append, cuts-spans}
 use Rattle.width_tables.specs.ByTable as By
 use Rattle.width_tables.specs.ByTable.{charsBy}
 use Rattle.width_tables.proofs.CharacterLaws.{at-append, at-bytes, bytes-by, back, back-chars}

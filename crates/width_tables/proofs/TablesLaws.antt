@@ -8,10 +8,9 @@ use Rattle.chars.specs.Chars.{Character, chars}
 use Rattle.buffer.specs.Place.{over}
 use Rattle.recording.specs.Lists.{AllOf}
 use Rattle.recording.specs.Recording.{Bytes}
-use Rattle.recording.specs.Outcome.{Outcome, roomIn, Promised}
+use Rattle.recording.specs.Outcome.{Outcome, roomIn, Promised, lentLines}
 use Rattle.layout.specs.Layout.{contentAfter}
 use Rattle.layout.specs.Lent.{callIn}
-use Rattle.wrap_lines.specs.WrapBytes.{lentLines}
 use Rattle.elide.specs.Elide.{lent}
 use Rattle.sheet.specs.Sheet.{sheetLines}
 use Rattle.width_tables.specs.ByTable as By

@@ -12,7 +12,7 @@ use Rattle.recording.specs.Lists.{same}
 use Rattle.recording.specs.Recording.{Bytes, Recording, Item, items, encode}
 use Rattle.recording.specs.Coloured.{coloured}
 use Rattle.recording.specs.Edit.{Op, edit}
-use Rattle.recording.specs.Outcome.{Room, Result, Outcome, settle}
+use Rattle.recording.specs.Outcome.{Room, Result, Outcome, settle, noRecording, lineRoom}
 use Rattle.recorder.specs.Recorder.{leaves}
 use Rattle.layout.specs.Tabs.{tabOps}
 use Rattle.layout.specs.Unindent.{unindentOps}
@@ -20,7 +20,7 @@ use Rattle.layout.specs.Wrap.{ByteWord, Word, splitLines, byteWords, splitWords
 use Rattle.layout.specs.Layout.{cutEnd, cutStart, padding, indentOps, wrapOps, replaceOps, Job, withSecond, alone, Single, writeWrapped, writeReplaced, writeTabsExpanded, Call, faultsOf}
 use Rattle.layout.specs.Layout.{writeTruncatedStart, writeTruncatedEnd, writePaddedStart, writePaddedEnd, writePaddedCentered, writeIndented, writeUnindented}
 use Rattle.view.specs.View.{hiddenFrom, floorOps, dropRaws, viewFaults}
-use Rattle.wrap_lines.specs.WrapBytes.{noRecording, lineRoom, wrapFaults}
+use Rattle.wrap_lines.specs.WrapBytes.{wrapFaults}
 use Rattle.elide.specs.Elide.{cutAtEnd, cutAtStart, fitAtEnd, fitAtStart, Elided, elided, plainResult, plainRoom, plainFaults}
 use Rattle.sheet.specs.Sheet.{SheetLine, sheetLines, valueFrom, breakOf, dataOf, widthField, breakField, dataField, goodLine}
 use Rattle.rows.specs.Rows.{rowText, badRow, sheetHeading, rowsHeading, sheetLimit}

@@ -11,11 +11,11 @@ use Rattle.chars.specs.Cut.{truncateEndPos, truncateEndWidth, truncateStartPos,
 use Rattle.buffer.specs.Place.{over}
 use Rattle.recording.specs.declared.Answer.{Answer}
 use Rattle.recording.specs.Recording.{Bytes, Recording}
-use Rattle.recording.specs.Outcome.{Room, Outcome, Lent, roomIn, Promised}
+use Rattle.recording.specs.Outcome.{Room, Outcome, Lent, roomIn, Promised, lentLines}
 use Rattle.layout.specs.Layout.{Job, withSecond, alone, writeWrapped, writeReplaced, writeTabsExpanded, Call, outcome, contentAfter}
 use Rattle.layout.specs.Lent.{callIn, Leaves}
 use Rattle.view.specs.View.{floorOutcome}
-use Rattle.wrap_lines.specs.WrapBytes.{lentLines, wrapBytesOutcome}
+use Rattle.wrap_lines.specs.WrapBytes.{wrapBytesOutcome}
 use Rattle.elide.specs.Elide.{trimmed, lent, elideEndOutcome, elideStartOutcome}
 use Rattle.sheet.specs.Sheet.{SheetLine, sheetLines, dataOf, dataField, goodLine}
 use Rattle.rows.specs.Rows.{output}

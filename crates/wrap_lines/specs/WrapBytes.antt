@@ -4,10 +4,8 @@ use mathlib.Core.Bool.{Bool}
 use mathlib.Core.List.{List, [], _∷_}
 use lib.Dec.{ltb}
 use lib.ListN.{length}
-use Rattle.recording.specs.Recording.{Recording}
 use Rattle.recording.specs.Refusals.{dataLimit, refuseIf}
-use Rattle.recording.specs.Outcome.{Room, Result, Faults, Outcome, settle, Lent}
-use Rattle.layout.specs.Lent.{lentLined}
+use Rattle.recording.specs.Outcome.{Result, Faults, Outcome, settle, noRecording, lineRoom}
 use Rattle.layout.specs.Wrap.{Line, lineOf, lineNumbers, wrapLines}
 use Rattle.wrap_lines.specs.declared.Lines.{Lines}
 
@@ -22,16 +20,6 @@ shownBytes (l ∷ ls) = (l .end - l .first) + shownBytes ls
 
 unfoldable pub linesOf : List Line → Lines
 linesOf ls = record { count = length ls; bytes = shownBytes ls }
-
-abbrev pub noRecording : Recording
-noRecording = record { dataBytes = []; entryNumbers = []; text = [] }
-
--- the call is lent a line list only
-abbrev pub lineRoom : ℕ → Room
-lineRoom n = record { dataBytes = 0; entryNumbers = 0; text = 0; lines = n }
-
-abbrev pub lentLines : List ℕ → Lent
-lentLines ls = lentLined [] [] [] ls
 
 abbrev pub wrapFaults : List ℕ → Faults
 wrapFaults d = record { lengths = 0; content = refuseIf (ltb dataLimit (length d)) 1; second = 0; added = 0; plain = 0; own = 0 }

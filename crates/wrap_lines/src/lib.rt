@@ -13,9 +13,9 @@ ghost use lib.ListN.{length};
 ghost use Rattle.chars.specs.Leads.{leadTable};
 ghost use Rattle.buffer.specs.Place.{over, overAt};
 ghost use Rattle.recording.specs.Refusals.{dataLimit};
-ghost use Rattle.recording.specs.Outcome.{Promised};
+ghost use Rattle.recording.specs.Outcome.{Promised, lentLines};
 ghost use Rattle.layout.specs.Wrap.{lineNumbers, wrapLines};
-ghost use Rattle.wrap_lines.specs.WrapBytes.{lineSize, linesOf, lentLines, wrapBytesOutcome};
+ghost use Rattle.wrap_lines.specs.WrapBytes.{lineSize, linesOf, wrapBytesOutcome};
 
 const DATA_LIMIT: usize = 1048576;
 

@@ -70,6 +70,12 @@ enum-told-21 c = search needs
 enum-told-22 : tie.Need-enum-told-22
 enum-told-22 c = search needs
 
+enum-told-23 : tie.Need-enum-told-23
+enum-told-23 c = search needs
+
+enum-told-24 : tie.Need-enum-told-24
+enum-told-24 c = search needs
+
 returns : tie.Need-returns
 unfolding numberOf
 returns c = rw (c .enum-told .given .1)
@@ -158,6 +164,14 @@ returns-22 : tie.Need-returns-22
 unfolding numberOf
 returns-22 c = rw (c .enum-told22 .given .1)
 
+returns-23 : tie.Need-returns-23
+unfolding numberOf
+returns-23 c = rw (c .enum-told23 .given .1)
+
+returns-24 : tie.Need-returns-24
+unfolding numberOf
+returns-24 c = rw (c .enum-told24 .given .1)
+
 pub number-of-spec : {M : Type 1} → statement M
 number-of-spec =
     tie.close
@@ -184,6 +198,8 @@ number-of-spec =
     enum-told-20
     enum-told-21
     enum-told-22
+    enum-told-23
+    enum-told-24
     returns
     returns-2
     returns-3
@@ -205,4 +221,6 @@ number-of-spec =
     returns-19
     returns-20
     returns-21
-    returns-22)
+    returns-22
+    returns-23
+    returns-24)

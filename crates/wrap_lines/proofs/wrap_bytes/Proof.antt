@@ -4,9 +4,8 @@ use borrow.Author.Needs.{needs}
 use borrow.Author.Tests.{leb-true, leb-false, not-true, not-false}
 use Rattle.wrap_lines.proofs.WrapLaws as laws
 use Rattle.wrap_lines.proofs.BoundLaws.{lines-few}
-use Rattle.recording.specs.Outcome.{answerOf, returned, lentAfter}
+use Rattle.recording.specs.Outcome.{answerOf, returned, lentAfter, lentLines}
 use Rattle.buffer.specs.Place.{over}
-use Rattle.wrap_lines.specs.WrapBytes.{lentLines}
 use Rattle.chars.specs.Leads.{leadTable}
 use lib.ListN.{length}
 use mathlib.Core.Path.{refl, sym, _∙_}

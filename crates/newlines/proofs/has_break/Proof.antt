@@ -7,12 +7,12 @@ use mathlib.Core.Path.{_≡_, sym, ap, _∙_}
 use mathlib.Core.Bool.{Bool, _||_}
 use lib.Dec.{eqb, ltb}
 use lib.ListN.{drop, getD}
-use Rattle.indent.specs.Lines.{toBreak}
-use Rattle.indent.proofs.Laws.{found-next}
-use Rattle.indent.proofs.has_break.Statement.{statement}
-use Rattle.indent.proofs.has_break.Tie as tie
-use Rattle.indent.proofs.has_break.Reads as reads
-use Rattle.indent.proofs.has_break.Lts as lts
+use Rattle.newlines.specs.Newlines.{toBreak}
+use Rattle.newlines.proofs.BreakLaws.{found-next}
+use Rattle.newlines.proofs.has_break.Statement.{statement}
+use Rattle.newlines.proofs.has_break.Tie as tie
+use Rattle.newlines.proofs.has_break.Reads as reads
+use Rattle.newlines.proofs.has_break.Lts as lts
 
 abbrev Inv-loop : tie.InvT-loop
 Inv-loop s at found₀ j₀ found j =
