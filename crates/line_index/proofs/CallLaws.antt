@@ -53,6 +53,13 @@ unfolding extendFault
 fault-is d earlier ix used u v s =
     rw (le-ltb (length ix) used u, le-ltb (length d) earlier v, index-0 (take earlier d) (take used ix) s) (outcomes.first-one (shortFault d (length ix)))
 
+-- the fronts that are lent to be compared
+pub fronts-same : (d ix : List ℕ) (earlier used : ℕ) (t : Bool) → t ≡ same (take (used - 0) (drop 0 ix)) (lineStarts (take (earlier - 0) (drop 0 d))) → same (take used ix) (lineStarts (take earlier d)) ≡ t
+fronts-same d ix earlier used t e =
+    let p : used - 0 ≡ used = omega arith in
+    let q : earlier - 0 ≡ earlier = omega arith in
+    sym (e ∙ (λ i. same (take (p i) ix) (lineStarts (take (q i) d))))
+
 -- ── questions: the recording's refusal, 36, 37, or the two numbers
 module _ (r : Recording) (ix : List ℕ) (n : ℕ) where
   abbrev d : List ℕ
