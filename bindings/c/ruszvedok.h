@@ -250,7 +250,7 @@ enum ruszvedok_call_kind {
 };
 
 /* Refusals. The first cause in this order is given: 10; the content, then the second recording, each 1, 2, 5 for its lengths and
- * then entry by entry 3, 4, 5, 6; a pushed label (6), an appended raw sequence (3); 7; 8; 31; 32; 33; 34; 35; 9; 21 to 24.
+ * then entry by entry 3, 4, 5, 6; a pushed label (6), an appended raw sequence (3); 7; 8; 31 to 37; 9; 21 to 24.
  * Of a list of calls: 10; 61; 62; 63. */
 enum ruszvedok_refusal {
     RUSZVEDOK_DATA_TOO_LONG = 1,           /* Data over its limit. */
@@ -272,6 +272,8 @@ enum ruszvedok_refusal {
     RUSZVEDOK_PREFIX_MISSING = 33,         /* A line that is not empty and does not begin with the prefix to be taken off. */
     RUSZVEDOK_VIEW_LABEL = 34,             /* A reader's label that is empty or not well-formed UTF-8. */
     RUSZVEDOK_CONTENT_UNBALANCED = 35,     /* A content whose labels are not balanced. */
+    RUSZVEDOK_LINE_INDEX = 36,             /* A line index that is too short for its numbers, or not that of the data. */
+    RUSZVEDOK_NO_SUCH_PLACE = 37,          /* A line or an offset that is not there. */
     RUSZVEDOK_SETS_DIFFER = 61,            /* Two sets of buffers that differ in a length. */
     RUSZVEDOK_CALL_NUMBERS = 62,           /* Calls that are not eight numbers each, an unknown kind, a range not within its pool. */
     RUSZVEDOK_ANSWER_LIST_TOO_SHORT = 63   /* The list of answers is too short, at two numbers a call. */
@@ -301,6 +303,8 @@ static inline const char *ruszvedok_refusal_name(uint64_t refusal)
     case RUSZVEDOK_PREFIX_MISSING: return "PREFIX_MISSING";
     case RUSZVEDOK_VIEW_LABEL: return "VIEW_LABEL";
     case RUSZVEDOK_CONTENT_UNBALANCED: return "CONTENT_UNBALANCED";
+    case RUSZVEDOK_LINE_INDEX: return "LINE_INDEX";
+    case RUSZVEDOK_NO_SUCH_PLACE: return "NO_SUCH_PLACE";
     case RUSZVEDOK_SETS_DIFFER: return "SETS_DIFFER";
     case RUSZVEDOK_CALL_NUMBERS: return "CALL_NUMBERS";
     case RUSZVEDOK_ANSWER_LIST_TOO_SHORT: return "ANSWER_LIST_TOO_SHORT";
@@ -332,6 +336,8 @@ static inline const char *ruszvedok_refusal_reason(uint64_t refusal)
     case RUSZVEDOK_PREFIX_MISSING: return "a line that is not empty and does not begin with the prefix to be taken off";
     case RUSZVEDOK_VIEW_LABEL: return "a reader's label that is empty or not well-formed UTF-8";
     case RUSZVEDOK_CONTENT_UNBALANCED: return "a content whose labels are not balanced";
+    case RUSZVEDOK_LINE_INDEX: return "a line index that is too short for its numbers, or not that of the data";
+    case RUSZVEDOK_NO_SUCH_PLACE: return "a line or an offset that is not there";
     case RUSZVEDOK_SETS_DIFFER: return "two sets of buffers that differ in a length";
     case RUSZVEDOK_CALL_NUMBERS: return "calls that are not eight numbers each, an unknown kind, a range not within its pool";
     case RUSZVEDOK_ANSWER_LIST_TOO_SHORT: return "the list of answers is too short, at two numbers a call";
@@ -491,6 +497,45 @@ void ruszvedok_write_for_floor(
     const uint8_t *label, size_t label_len,
     uint8_t *out_data, size_t out_data_len, uint32_t *out_entries, size_t out_entries_len, uint8_t *out_text, size_t out_text_len,
     uint64_t res[5]);
+
+/* ---- a line index beside the data, which no list of calls holds: `index` is a list of line starts ---- */
+
+/* Puts the line index of a recording's data into `index`: 0, and the place after each 0A. The number is how many lines there
+ * are. Data of n bytes has at most n + 1 lines; a 0A belongs to the line that it ends. The lengths in `res` are 0. A list
+ * that is too short is refused by 36. */
+void ruszvedok_build_line_index(
+    const uint8_t *content, size_t content_len, const uint32_t *entries, size_t entries_len, const uint8_t *text, size_t text_len,
+    uint32_t *index, size_t index_len,
+    uint64_t res[5]);
+
+/* Makes a line index that of the data after an append: the first `used` numbers of `index` are that of the first `earlier`
+ * bytes. The number is how many lines there are. It leaves what ruszvedok_build_line_index leaves for all the data. Refused
+ * by 36: `used` above the list's length, `earlier` above the data's, numbers that are not that index (so `used` = 0 always),
+ * a list too short for the result. */
+void ruszvedok_extend_line_index(
+    const uint8_t *content, size_t content_len, const uint32_t *entries, size_t entries_len, const uint8_t *text, size_t text_len,
+    size_t earlier,
+    uint32_t *index, size_t index_len,
+    size_t used,
+    uint64_t res[5]);
+
+/* Where line n is, counted from 0: its first byte, and its end, which is the place of its 0A or the data's end. `index` is the
+ * line index of the data. `res` gets three numbers: the refusal or 0, the first byte and the end. An `index` that is not
+ * exactly the numbers of that index is refused by 36, then a line that is not there by 37. */
+void ruszvedok_line_at(
+    const uint8_t *content, size_t content_len, const uint32_t *entries, size_t entries_len, const uint8_t *text, size_t text_len,
+    const uint32_t *index, size_t index_len,
+    size_t n,
+    uint64_t res[3]);
+
+/* The line of an offset and its byte column there, both counted from 0. `index` is the line index of the data. `res` gets three
+ * numbers: the refusal or 0, the line and the column. The offset may be the data length. Refused as ruszvedok_line_at is: by
+ * 36, then an offset beyond the data by 37. */
+void ruszvedok_place_of(
+    const uint8_t *content, size_t content_len, const uint32_t *entries, size_t entries_len, const uint8_t *text, size_t text_len,
+    const uint32_t *index, size_t index_len,
+    size_t offset,
+    uint64_t res[3]);
 
 /* ---- a list of calls on recordings ---- */
 
