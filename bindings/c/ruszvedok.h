@@ -15,12 +15,14 @@
  *   the refusal (0: none), data length, number of entry numbers, text length, and the call's number (a width or a count, or 0).
  * After a refusal the other four are 0 and every buffer holds what it held. Otherwise each buffer holds the result from its first
  * place on, and all beyond it is untouched. The texts of a result's entries lie one after another from 0, in entry order.
+ * A question writes no buffer: its `res` gets three numbers, the refusal (0: none) and the two asked for, 0 after a refusal.
  *
  * No call allocates, keeps a pointer, or has a state of its own; calls over different buffers may run at the same time.
  *
  * The calls on recordings stand here twice: as the library exports them, and at the end, with _to behind the name, over the structs
  * ruszvedok_view (a recording that is read) and ruszvedok_recording (buffers that hold one), which are shorter to use. A whole list of
- * layout calls is made in one call by ruszvedok_run_calls_to: ruszvedok_add_call makes the list. */
+ * layout calls is made in one call by ruszvedok_run_calls_to: ruszvedok_add_call makes the list. A ruszvedok_line_index is built and
+ * extended by functions with _to behind the name too, and asked by those with _in. */
 #ifndef RUSZVEDOK_H
 #define RUSZVEDOK_H
 
@@ -213,6 +215,29 @@ typedef struct ruszvedok_calls {
     uint8_t name##_pool[byte_count]; \
     uint32_t name##_pool_numbers[number_count]; \
     ruszvedok_calls name = {name##_calls, call_count, 0, name##_pool, byte_count, 0, name##_pool_numbers, number_count, 0}
+
+/* A line index: the list of line starts, its number of elements, how many of them are used, and how long the data is that it is of. */
+typedef struct ruszvedok_line_index {
+    uint32_t *starts;
+    size_t starts_room, starts_len, data_len;
+} ruszvedok_line_index;
+
+/* Declares a ruszvedok_line_index `name` with room of its own for so many lines, 1 at least: the index of no data, which is 0 alone. */
+#define RUSZVEDOK_LINE_STARTS(name, line_count) \
+    uint32_t name##_starts[line_count] = {0}; \
+    ruszvedok_line_index name = {name##_starts, line_count, 1, 0}
+
+/* Where a line is, or a refusal: its first byte, and its end. */
+typedef struct ruszvedok_line {
+    uint64_t refusal;
+    size_t first, end;
+} ruszvedok_line;
+
+/* The line of an offset and its byte column there, or a refusal. */
+typedef struct ruszvedok_line_column {
+    uint64_t refusal;
+    size_t line, column;
+} ruszvedok_line_column;
 
 /* ======== written by tools/declarations from the library's sources ======== */
 
@@ -780,6 +805,57 @@ static inline ruszvedok_answer ruszvedok_run_calls_to(
     if (res[RUSZVEDOK_RES_REFUSAL] == 0)
         other->data_len = other->entries_len = other->text_len = 0;
     return ruszvedok_take_over(to, res);
+}
+
+/* Takes over what a call left in a line index; after a refusal it is what it was. */
+static inline ruszvedok_answer ruszvedok_take_over_index(ruszvedok_line_index *index, ruszvedok_view content, const uint64_t res[5])
+{
+    ruszvedok_answer answer = ruszvedok_answer_of(res);
+    if (answer.refusal == 0) {
+        index->starts_len = (size_t)answer.number;
+        index->data_len = content.data_len;
+    }
+    return answer;
+}
+
+/* Makes `index` that of the data, whatever it held. */
+static inline ruszvedok_answer ruszvedok_build_line_index_to(ruszvedok_line_index *index, ruszvedok_view content)
+{
+    uint64_t res[5];
+    ruszvedok_build_line_index(RUSZVEDOK_READ(content), index->starts, index->starts_room, res);
+    return ruszvedok_take_over_index(index, content, res);
+}
+
+/* Makes `index`, which is that of the data before an append, that of all the data. */
+static inline ruszvedok_answer ruszvedok_extend_line_index_to(ruszvedok_line_index *index, ruszvedok_view content)
+{
+    uint64_t res[5];
+    ruszvedok_extend_line_index(RUSZVEDOK_READ(content), index->data_len, index->starts, index->starts_room, index->starts_len, res);
+    return ruszvedok_take_over_index(index, content, res);
+}
+
+/* Line n of the data, counted from 0, by its index. */
+static inline ruszvedok_line ruszvedok_line_at_in(const ruszvedok_line_index *index, ruszvedok_view content, size_t n)
+{
+    uint64_t res[3];
+    ruszvedok_line line;
+    ruszvedok_line_at(RUSZVEDOK_READ(content), index->starts, index->starts_len, n, res);
+    line.refusal = res[0];
+    line.first = (size_t)res[1];
+    line.end = (size_t)res[2];
+    return line;
+}
+
+/* Line and byte column of an offset, by the data's index. */
+static inline ruszvedok_line_column ruszvedok_place_of_in(const ruszvedok_line_index *index, ruszvedok_view content, size_t offset)
+{
+    uint64_t res[3];
+    ruszvedok_line_column at;
+    ruszvedok_place_of(RUSZVEDOK_READ(content), index->starts, index->starts_len, offset, res);
+    at.refusal = res[0];
+    at.line = (size_t)res[1];
+    at.column = (size_t)res[2];
+    return at;
 }
 
 /* Adds a string. */
