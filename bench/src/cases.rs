@@ -4,13 +4,14 @@ use std::hint::black_box;
 use std::io::{Result as Io, Write as _};
 use std::rc::Rc;
 
-use bench::inputs::{Input, Numbers, ROWS, SHORT_ROWS, SIZES, Size, TABBED};
-use bench::ours;
+use bench::inputs::{Input, LONG_ROWS, Numbers, ROWS, SHORT_ROWS, SIZES, Size, TABBED};
+use bench::ours::{self, ByByte, ByMemchr, Newlines};
 use bench::recordings::{self, Answer, Left, view};
 use bench::room::Room;
 use bench::timing::Pair;
 use oracle::original::{FormatRecorder, Formatter};
 use oracle::{Entry, Kind, Lists, Recording, original};
+use ruszvedok::Refusal;
 use ruszvedok::lent::{self, LINE_NUMBERS, Place, Replacement, Used, View};
 
 pub struct Case {
@@ -53,6 +54,56 @@ pub const CASES: &[Case] = &[
     Case { name: "write_for_floor_many_entries", sizes: &SHORT_ROWS, sides: |input| write_for_floor(ours::write_for_floor, rows_of(input, priced_often)) },
     Case { name: "write_for_floor_by_pieces", sizes: &ROWS, sides: |input| write_for_floor(ours::write_for_floor_by_pieces, rows_of(input, priced)) },
     Case { name: "write_for_floor_by_pieces_absent", sizes: &ROWS, sides: |input| write_for_floor(ours::write_for_floor_by_pieces, rows(input)) },
+    Case { name: "build_line_index", sizes: &ROWS, sides: |input| build_line_index::<ByByte>(input, BOARD, false) },
+    Case { name: "build_line_index_lines_1000", sizes: &LONG_ROWS, sides: |input| build_line_index::<ByByte>(input, 1000, false) },
+    Case { name: "build_line_index_lines_16000", sizes: &LONG_ROWS, sides: |input| build_line_index::<ByByte>(input, 16_000, false) },
+    Case { name: "build_line_index_no_newline", sizes: &LONG_ROWS, sides: |input| build_line_index::<ByByte>(input, NO_NEWLINE, false) },
+    Case { name: "build_line_index_all_newlines", sizes: &LONG_ROWS, sides: |input| build_line_index::<ByByte>(input, ALL_NEWLINES, false) },
+    Case { name: "build_line_index_exact", sizes: &ROWS, sides: |input| build_line_index::<ByByte>(input, BOARD, true) },
+    Case { name: "build_line_index_exact_lines_1000", sizes: &LONG_ROWS, sides: |input| build_line_index::<ByByte>(input, 1000, true) },
+    Case { name: "build_line_index_exact_lines_16000", sizes: &LONG_ROWS, sides: |input| build_line_index::<ByByte>(input, 16_000, true) },
+    Case { name: "build_line_index_exact_no_newline", sizes: &LONG_ROWS, sides: |input| build_line_index::<ByByte>(input, NO_NEWLINE, true) },
+    Case { name: "build_line_index_by_memchr", sizes: &ROWS, sides: |input| build_line_index::<ByMemchr>(input, BOARD, false) },
+    Case { name: "build_line_index_by_memchr_lines_1000", sizes: &LONG_ROWS, sides: |input| build_line_index::<ByMemchr>(input, 1000, false) },
+    Case { name: "build_line_index_by_memchr_lines_16000", sizes: &LONG_ROWS, sides: |input| build_line_index::<ByMemchr>(input, 16_000, false) },
+    Case { name: "build_line_index_by_memchr_no_newline", sizes: &LONG_ROWS, sides: |input| build_line_index::<ByMemchr>(input, NO_NEWLINE, false) },
+    Case { name: "build_line_index_by_memchr_all_newlines", sizes: &LONG_ROWS, sides: |input| build_line_index::<ByMemchr>(input, ALL_NEWLINES, false) },
+    Case { name: "build_line_index_by_memchr_exact", sizes: &ROWS, sides: |input| build_line_index::<ByMemchr>(input, BOARD, true) },
+    Case { name: "build_line_index_by_memchr_exact_lines_1000", sizes: &LONG_ROWS, sides: |input| build_line_index::<ByMemchr>(input, 1000, true) },
+    Case { name: "build_line_index_by_memchr_exact_lines_16000", sizes: &LONG_ROWS, sides: |input| build_line_index::<ByMemchr>(input, 16_000, true) },
+    Case { name: "build_line_index_by_memchr_exact_no_newline", sizes: &LONG_ROWS, sides: |input| build_line_index::<ByMemchr>(input, NO_NEWLINE, true) },
+    Case { name: "extend_line_index", sizes: &ROWS, sides: |input| extend_line_index::<ByByte>(input, BOARD, false) },
+    Case { name: "extend_line_index_lines_1000", sizes: &LONG_ROWS, sides: |input| extend_line_index::<ByByte>(input, 1000, false) },
+    Case { name: "extend_line_index_lines_16000", sizes: &LONG_ROWS, sides: |input| extend_line_index::<ByByte>(input, 16_000, false) },
+    Case { name: "extend_line_index_no_newline", sizes: &LONG_ROWS, sides: |input| extend_line_index::<ByByte>(input, NO_NEWLINE, false) },
+    Case { name: "extend_line_index_all_newlines", sizes: &LONG_ROWS, sides: |input| extend_line_index::<ByByte>(input, ALL_NEWLINES, false) },
+    Case { name: "extend_line_index_exact", sizes: &ROWS, sides: |input| extend_line_index::<ByByte>(input, BOARD, true) },
+    Case { name: "extend_line_index_by_memchr", sizes: &ROWS, sides: |input| extend_line_index::<ByMemchr>(input, BOARD, false) },
+    Case { name: "extend_line_index_by_memchr_lines_1000", sizes: &LONG_ROWS, sides: |input| extend_line_index::<ByMemchr>(input, 1000, false) },
+    Case { name: "extend_line_index_by_memchr_lines_16000", sizes: &LONG_ROWS, sides: |input| extend_line_index::<ByMemchr>(input, 16_000, false) },
+    Case { name: "extend_line_index_by_memchr_no_newline", sizes: &LONG_ROWS, sides: |input| extend_line_index::<ByMemchr>(input, NO_NEWLINE, false) },
+    Case { name: "extend_line_index_by_memchr_all_newlines", sizes: &LONG_ROWS, sides: |input| extend_line_index::<ByMemchr>(input, ALL_NEWLINES, false) },
+    Case { name: "extend_line_index_by_memchr_exact", sizes: &ROWS, sides: |input| extend_line_index::<ByMemchr>(input, BOARD, true) },
+    Case { name: "line_at", sizes: &ROWS, sides: |input| line_at::<ByByte>(input, BOARD) },
+    Case { name: "line_at_lines_1000", sizes: &LONG_ROWS, sides: |input| line_at::<ByByte>(input, 1000) },
+    Case { name: "line_at_lines_16000", sizes: &LONG_ROWS, sides: |input| line_at::<ByByte>(input, 16_000) },
+    Case { name: "line_at_no_newline", sizes: &LONG_ROWS, sides: |input| line_at::<ByByte>(input, NO_NEWLINE) },
+    Case { name: "line_at_all_newlines", sizes: &LONG_ROWS, sides: |input| line_at::<ByByte>(input, ALL_NEWLINES) },
+    Case { name: "line_at_by_memchr", sizes: &ROWS, sides: |input| line_at::<ByMemchr>(input, BOARD) },
+    Case { name: "line_at_by_memchr_lines_1000", sizes: &LONG_ROWS, sides: |input| line_at::<ByMemchr>(input, 1000) },
+    Case { name: "line_at_by_memchr_lines_16000", sizes: &LONG_ROWS, sides: |input| line_at::<ByMemchr>(input, 16_000) },
+    Case { name: "line_at_by_memchr_no_newline", sizes: &LONG_ROWS, sides: |input| line_at::<ByMemchr>(input, NO_NEWLINE) },
+    Case { name: "line_at_by_memchr_all_newlines", sizes: &LONG_ROWS, sides: |input| line_at::<ByMemchr>(input, ALL_NEWLINES) },
+    Case { name: "place_of", sizes: &ROWS, sides: |input| place_of::<ByByte>(input, BOARD) },
+    Case { name: "place_of_lines_1000", sizes: &LONG_ROWS, sides: |input| place_of::<ByByte>(input, 1000) },
+    Case { name: "place_of_lines_16000", sizes: &LONG_ROWS, sides: |input| place_of::<ByByte>(input, 16_000) },
+    Case { name: "place_of_no_newline", sizes: &LONG_ROWS, sides: |input| place_of::<ByByte>(input, NO_NEWLINE) },
+    Case { name: "place_of_all_newlines", sizes: &LONG_ROWS, sides: |input| place_of::<ByByte>(input, ALL_NEWLINES) },
+    Case { name: "place_of_by_memchr", sizes: &ROWS, sides: |input| place_of::<ByMemchr>(input, BOARD) },
+    Case { name: "place_of_by_memchr_lines_1000", sizes: &LONG_ROWS, sides: |input| place_of::<ByMemchr>(input, 1000) },
+    Case { name: "place_of_by_memchr_lines_16000", sizes: &LONG_ROWS, sides: |input| place_of::<ByMemchr>(input, 16_000) },
+    Case { name: "place_of_by_memchr_no_newline", sizes: &LONG_ROWS, sides: |input| place_of::<ByMemchr>(input, NO_NEWLINE) },
+    Case { name: "place_of_by_memchr_all_newlines", sizes: &LONG_ROWS, sides: |input| place_of::<ByMemchr>(input, ALL_NEWLINES) },
     Case { name: "elide_start", sizes: &ROWS, sides: elide_start },
     Case { name: "elide_end", sizes: &ROWS, sides: elide_end },
     Case { name: "complete_newline", sizes: &ROWS, sides: complete_newline },
@@ -446,6 +497,102 @@ fn write_for_floor(rust: Ours, rows: Vec<Row>) -> Result<Pair, String> {
         rows,
         move |row, out| rust(out, &row.recorder, PRICE),
         |row, room| lent::write_for_floor(view(&row.lists), PRICE, room.lent()),
+    )
+}
+
+/// Bytes of a board row, and two lengths of a line that are none: no 0A, and nothing else.
+const BOARD: usize = 80;
+const NO_NEWLINE: usize = 0;
+const ALL_NEWLINES: usize = 1;
+
+/// A recording with its index, and that of its first nine tenths.
+struct Indexed {
+    lists: Lists,
+    index: Vec<u32>,
+    earlier: usize,
+    before: Vec<u32>,
+}
+
+impl Indexed {
+    /// In lines of about that many bytes, entries as in other rows.
+    fn new(text: &[u8], line: usize, numbers: &mut Numbers) -> Self {
+        let data = match line {
+            NO_NEWLINE => text.iter().map(|byte| if *byte == b'\n' { b' ' } else { *byte }).collect(),
+            _ => indented(text, b"", line, numbers),
+        };
+        let starts = |data: &[u8]| [0].into_iter().chain(ByByte::behind(data).map(|at| at as u32)).collect();
+        let earlier = data.len() * 9 / 10;
+        let (index, before) = (starts(&data), starts(&data[..earlier]));
+        let count = (data.len() / FEW / 2 * 2).max(6);
+        Self { lists: recordings::labelled(data, count).to_lists(), index, earlier, before }
+    }
+}
+
+fn indexed(input: &Input, line: usize) -> Vec<Indexed> {
+    let mut numbers = Numbers::new((input.size + line) as u64);
+    input.texts.iter().map(|text| Indexed::new(text, line, &mut numbers)).collect()
+}
+
+/// Both sides leave the index in a list that is lent again and again: one that surely has room, or one that is exactly long enough. It holds
+/// at first what `before` says of the content.
+fn on_list(
+    rows: Vec<Indexed>,
+    exact: bool,
+    before: fn(&Indexed) -> &[u32],
+    rust: fn(&Indexed, &mut [u32]) -> Result<usize, u64>,
+    rattle: fn(&Indexed, &mut [u32]) -> Left,
+) -> Result<Pair, String> {
+    let list = move |row: &Indexed| {
+        let mut list = before(row).to_vec();
+        list.resize(if exact { row.index.len() } else { row.lists.data.len() + 1 }, 7);
+        list
+    };
+    let rows: Vec<_> = rows.into_iter().map(|row| (RefCell::new(list(&row)), RefCell::new(list(&row)), row)).collect();
+    let check = |(ours, theirs, row): &(RefCell<Vec<u32>>, RefCell<Vec<u32>>, Indexed)| {
+        let (count, got) = (rust(row, &mut ours.borrow_mut()), rattle(row, &mut theirs.borrow_mut()));
+        let same = count == Ok(row.index.len()) && got.map(|done| done.number as usize).ok() == count.ok() && ours == theirs;
+        if same && ours.borrow().starts_with(&row.index) { Ok(()) } else { Err(format!("other results: {count:?}, {got:?}")) }
+    };
+    Pair::new(rows, check, move |(ours, _, row)| rust(row, &mut ours.borrow_mut()), move |(_, theirs, row)| rattle(row, &mut theirs.borrow_mut()))
+}
+
+/// Against a function of ours, as in all cases of the line index: the original has none.
+fn build_line_index<N: Newlines>(input: &Input, line: usize, exact: bool) -> Result<Pair, String> {
+    on_list(
+        indexed(input, line),
+        exact,
+        |_| &[],
+        |row, list| ours::build_line_index::<N>(&row.lists, list),
+        |row, list| lent::build_line_index(view(&row.lists), list),
+    )
+}
+
+/// By the last tenth of the data.
+fn extend_line_index<N: Newlines>(input: &Input, line: usize, exact: bool) -> Result<Pair, String> {
+    on_list(
+        indexed(input, line),
+        exact,
+        |row| &row.before,
+        |row, list| ours::extend_line_index::<N>(&row.lists, row.earlier, list, row.before.len()),
+        |row, list| lent::extend_line_index(view(&row.lists), row.earlier, list, row.before.len()),
+    )
+}
+
+/// The line in the middle.
+fn line_at<N: Newlines>(input: &Input, line: usize) -> Result<Pair, String> {
+    Pair::of_values(
+        indexed(input, line),
+        |row| ours::line_at::<N>(&row.lists, &row.index, row.index.len() / 2),
+        |row| lent::line_at(view(&row.lists), &row.index, row.index.len() / 2).map(|line| (line.start, line.end)).map_err(Refusal::number),
+    )
+}
+
+/// The byte in the middle.
+fn place_of<N: Newlines>(input: &Input, line: usize) -> Result<Pair, String> {
+    Pair::of_values(
+        indexed(input, line),
+        |row| ours::place_of::<N>(&row.lists, &row.index, row.lists.data.len() / 2),
+        |row| lent::place_of(view(&row.lists), &row.index, row.lists.data.len() / 2).map(|at| (at.line, at.column)).map_err(Refusal::number),
     )
 }
 
