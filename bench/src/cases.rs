@@ -1,4 +1,5 @@
-//! The calls that are timed. A new one is one more line of `CASES`: its name and a function from an input to the two sides.
+//! The calls that are timed. A new one is one more line of `CASES`: its name and a function from an input to the two sides. Those of the line
+//! index are `LINE_INDEX_CASES`.
 use std::cell::RefCell;
 use std::hint::black_box;
 use std::io::{Result as Io, Write as _};
@@ -54,56 +55,6 @@ pub const CASES: &[Case] = &[
     Case { name: "write_for_floor_many_entries", sizes: &SHORT_ROWS, sides: |input| write_for_floor(ours::write_for_floor, rows_of(input, priced_often)) },
     Case { name: "write_for_floor_by_pieces", sizes: &ROWS, sides: |input| write_for_floor(ours::write_for_floor_by_pieces, rows_of(input, priced)) },
     Case { name: "write_for_floor_by_pieces_absent", sizes: &ROWS, sides: |input| write_for_floor(ours::write_for_floor_by_pieces, rows(input)) },
-    Case { name: "build_line_index", sizes: &ROWS, sides: |input| build_line_index::<ByByte>(input, BOARD, false) },
-    Case { name: "build_line_index_lines_1000", sizes: &LONG_ROWS, sides: |input| build_line_index::<ByByte>(input, 1000, false) },
-    Case { name: "build_line_index_lines_16000", sizes: &LONG_ROWS, sides: |input| build_line_index::<ByByte>(input, 16_000, false) },
-    Case { name: "build_line_index_no_newline", sizes: &LONG_ROWS, sides: |input| build_line_index::<ByByte>(input, NO_NEWLINE, false) },
-    Case { name: "build_line_index_all_newlines", sizes: &LONG_ROWS, sides: |input| build_line_index::<ByByte>(input, ALL_NEWLINES, false) },
-    Case { name: "build_line_index_exact", sizes: &ROWS, sides: |input| build_line_index::<ByByte>(input, BOARD, true) },
-    Case { name: "build_line_index_exact_lines_1000", sizes: &LONG_ROWS, sides: |input| build_line_index::<ByByte>(input, 1000, true) },
-    Case { name: "build_line_index_exact_lines_16000", sizes: &LONG_ROWS, sides: |input| build_line_index::<ByByte>(input, 16_000, true) },
-    Case { name: "build_line_index_exact_no_newline", sizes: &LONG_ROWS, sides: |input| build_line_index::<ByByte>(input, NO_NEWLINE, true) },
-    Case { name: "build_line_index_by_memchr", sizes: &ROWS, sides: |input| build_line_index::<ByMemchr>(input, BOARD, false) },
-    Case { name: "build_line_index_by_memchr_lines_1000", sizes: &LONG_ROWS, sides: |input| build_line_index::<ByMemchr>(input, 1000, false) },
-    Case { name: "build_line_index_by_memchr_lines_16000", sizes: &LONG_ROWS, sides: |input| build_line_index::<ByMemchr>(input, 16_000, false) },
-    Case { name: "build_line_index_by_memchr_no_newline", sizes: &LONG_ROWS, sides: |input| build_line_index::<ByMemchr>(input, NO_NEWLINE, false) },
-    Case { name: "build_line_index_by_memchr_all_newlines", sizes: &LONG_ROWS, sides: |input| build_line_index::<ByMemchr>(input, ALL_NEWLINES, false) },
-    Case { name: "build_line_index_by_memchr_exact", sizes: &ROWS, sides: |input| build_line_index::<ByMemchr>(input, BOARD, true) },
-    Case { name: "build_line_index_by_memchr_exact_lines_1000", sizes: &LONG_ROWS, sides: |input| build_line_index::<ByMemchr>(input, 1000, true) },
-    Case { name: "build_line_index_by_memchr_exact_lines_16000", sizes: &LONG_ROWS, sides: |input| build_line_index::<ByMemchr>(input, 16_000, true) },
-    Case { name: "build_line_index_by_memchr_exact_no_newline", sizes: &LONG_ROWS, sides: |input| build_line_index::<ByMemchr>(input, NO_NEWLINE, true) },
-    Case { name: "extend_line_index", sizes: &ROWS, sides: |input| extend_line_index::<ByByte>(input, BOARD, false) },
-    Case { name: "extend_line_index_lines_1000", sizes: &LONG_ROWS, sides: |input| extend_line_index::<ByByte>(input, 1000, false) },
-    Case { name: "extend_line_index_lines_16000", sizes: &LONG_ROWS, sides: |input| extend_line_index::<ByByte>(input, 16_000, false) },
-    Case { name: "extend_line_index_no_newline", sizes: &LONG_ROWS, sides: |input| extend_line_index::<ByByte>(input, NO_NEWLINE, false) },
-    Case { name: "extend_line_index_all_newlines", sizes: &LONG_ROWS, sides: |input| extend_line_index::<ByByte>(input, ALL_NEWLINES, false) },
-    Case { name: "extend_line_index_exact", sizes: &ROWS, sides: |input| extend_line_index::<ByByte>(input, BOARD, true) },
-    Case { name: "extend_line_index_by_memchr", sizes: &ROWS, sides: |input| extend_line_index::<ByMemchr>(input, BOARD, false) },
-    Case { name: "extend_line_index_by_memchr_lines_1000", sizes: &LONG_ROWS, sides: |input| extend_line_index::<ByMemchr>(input, 1000, false) },
-    Case { name: "extend_line_index_by_memchr_lines_16000", sizes: &LONG_ROWS, sides: |input| extend_line_index::<ByMemchr>(input, 16_000, false) },
-    Case { name: "extend_line_index_by_memchr_no_newline", sizes: &LONG_ROWS, sides: |input| extend_line_index::<ByMemchr>(input, NO_NEWLINE, false) },
-    Case { name: "extend_line_index_by_memchr_all_newlines", sizes: &LONG_ROWS, sides: |input| extend_line_index::<ByMemchr>(input, ALL_NEWLINES, false) },
-    Case { name: "extend_line_index_by_memchr_exact", sizes: &ROWS, sides: |input| extend_line_index::<ByMemchr>(input, BOARD, true) },
-    Case { name: "line_at", sizes: &ROWS, sides: |input| line_at::<ByByte>(input, BOARD) },
-    Case { name: "line_at_lines_1000", sizes: &LONG_ROWS, sides: |input| line_at::<ByByte>(input, 1000) },
-    Case { name: "line_at_lines_16000", sizes: &LONG_ROWS, sides: |input| line_at::<ByByte>(input, 16_000) },
-    Case { name: "line_at_no_newline", sizes: &LONG_ROWS, sides: |input| line_at::<ByByte>(input, NO_NEWLINE) },
-    Case { name: "line_at_all_newlines", sizes: &LONG_ROWS, sides: |input| line_at::<ByByte>(input, ALL_NEWLINES) },
-    Case { name: "line_at_by_memchr", sizes: &ROWS, sides: |input| line_at::<ByMemchr>(input, BOARD) },
-    Case { name: "line_at_by_memchr_lines_1000", sizes: &LONG_ROWS, sides: |input| line_at::<ByMemchr>(input, 1000) },
-    Case { name: "line_at_by_memchr_lines_16000", sizes: &LONG_ROWS, sides: |input| line_at::<ByMemchr>(input, 16_000) },
-    Case { name: "line_at_by_memchr_no_newline", sizes: &LONG_ROWS, sides: |input| line_at::<ByMemchr>(input, NO_NEWLINE) },
-    Case { name: "line_at_by_memchr_all_newlines", sizes: &LONG_ROWS, sides: |input| line_at::<ByMemchr>(input, ALL_NEWLINES) },
-    Case { name: "place_of", sizes: &ROWS, sides: |input| place_of::<ByByte>(input, BOARD) },
-    Case { name: "place_of_lines_1000", sizes: &LONG_ROWS, sides: |input| place_of::<ByByte>(input, 1000) },
-    Case { name: "place_of_lines_16000", sizes: &LONG_ROWS, sides: |input| place_of::<ByByte>(input, 16_000) },
-    Case { name: "place_of_no_newline", sizes: &LONG_ROWS, sides: |input| place_of::<ByByte>(input, NO_NEWLINE) },
-    Case { name: "place_of_all_newlines", sizes: &LONG_ROWS, sides: |input| place_of::<ByByte>(input, ALL_NEWLINES) },
-    Case { name: "place_of_by_memchr", sizes: &ROWS, sides: |input| place_of::<ByMemchr>(input, BOARD) },
-    Case { name: "place_of_by_memchr_lines_1000", sizes: &LONG_ROWS, sides: |input| place_of::<ByMemchr>(input, 1000) },
-    Case { name: "place_of_by_memchr_lines_16000", sizes: &LONG_ROWS, sides: |input| place_of::<ByMemchr>(input, 16_000) },
-    Case { name: "place_of_by_memchr_no_newline", sizes: &LONG_ROWS, sides: |input| place_of::<ByMemchr>(input, NO_NEWLINE) },
-    Case { name: "place_of_by_memchr_all_newlines", sizes: &LONG_ROWS, sides: |input| place_of::<ByMemchr>(input, ALL_NEWLINES) },
     Case { name: "elide_start", sizes: &ROWS, sides: elide_start },
     Case { name: "elide_end", sizes: &ROWS, sides: elide_end },
     Case { name: "complete_newline", sizes: &ROWS, sides: complete_newline },
@@ -113,6 +64,32 @@ pub const CASES: &[Case] = &[
     Case { name: "typed_write_truncated_end", sizes: &ROWS, sides: typed_write_truncated_end },
     Case { name: "made_by_adding", sizes: &SHORT_ROWS, sides: made_by_adding },
 ];
+
+/// Those of the line index, for lines of about so many bytes: each against both forms of ours, lists that surely have room or are exactly full.
+macro_rules! line_index_cases {
+    ($($of:literal, $sizes:expr, $line:expr;)*) => { &[$(
+        Case { name: concat!("build_line_index", $of), sizes: $sizes, sides: |input| build_line_index::<ByByte>(input, $line, false) },
+        Case { name: concat!("build_line_index_by_memchr", $of), sizes: $sizes, sides: |input| build_line_index::<ByMemchr>(input, $line, false) },
+        Case { name: concat!("build_line_index_exact", $of), sizes: $sizes, sides: |input| build_line_index::<ByByte>(input, $line, true) },
+        Case { name: concat!("build_line_index_by_memchr_exact", $of), sizes: $sizes, sides: |input| build_line_index::<ByMemchr>(input, $line, true) },
+        Case { name: concat!("extend_line_index", $of), sizes: $sizes, sides: |input| extend_line_index::<ByByte>(input, $line, false) },
+        Case { name: concat!("extend_line_index_by_memchr", $of), sizes: $sizes, sides: |input| extend_line_index::<ByMemchr>(input, $line, false) },
+        Case { name: concat!("extend_line_index_exact", $of), sizes: $sizes, sides: |input| extend_line_index::<ByByte>(input, $line, true) },
+        Case { name: concat!("extend_line_index_by_memchr_exact", $of), sizes: $sizes, sides: |input| extend_line_index::<ByMemchr>(input, $line, true) },
+        Case { name: concat!("line_at", $of), sizes: $sizes, sides: |input| line_at::<ByByte>(input, $line) },
+        Case { name: concat!("line_at_by_memchr", $of), sizes: $sizes, sides: |input| line_at::<ByMemchr>(input, $line) },
+        Case { name: concat!("place_of", $of), sizes: $sizes, sides: |input| place_of::<ByByte>(input, $line) },
+        Case { name: concat!("place_of_by_memchr", $of), sizes: $sizes, sides: |input| place_of::<ByMemchr>(input, $line) },
+    )*] };
+}
+
+pub const LINE_INDEX_CASES: &[Case] = line_index_cases! {
+    "", &ROWS, BOARD;
+    "_lines_1000", &LONG_ROWS, 1000;
+    "_lines_16000", &LONG_ROWS, 16_000;
+    "_no_newline", &LONG_ROWS, NO_NEWLINE;
+    "_all_newlines", &LONG_ROWS, ALL_NEWLINES;
+};
 
 fn text_width(input: &Input) -> Result<Pair, String> {
     Pair::of_values(input.texts.clone(), |s| original::text_width(s) as u64, |s| lent::text_width(s))
