@@ -56,6 +56,20 @@ module _ (w : List ℕ) (last n : ℕ) (ns : List ℕ) (h : standBehind w last (
   rest-behind : standBehind w n ns ≡ true
   rest-behind = and-right (behind w last n) (standBehind w n ns) h
 
+-- the numbers from k on, asked one by one
+module _ (w : List ℕ) (last : ℕ) (ix : List ℕ) (k : ℕ) (h : k < length ix) where
+  behind-next : standBehind w last (drop k ix) ≡ (behind w last (getD ix k 0) && standBehind w (getD ix k 0) (drop (k + 1) ix))
+  behind-next = rw (add-one, drop-cons ix k 0 h)
+
+  pub behind-stop : (t : Bool) → standBehind w last (drop k ix) ≡ t → behind w last (getD ix k 0) ≡ false → false ≡ t
+  behind-stop t e b = sym (rw b at behind-next) ∙ e
+
+  pub behind-on : (t : Bool) → standBehind w last (drop k ix) ≡ t → behind w last (getD ix k 0) ≡ true → standBehind w (getD ix k 0) (drop (k + 1) ix) ≡ t
+  behind-on t e b = sym (rw b at behind-next) ∙ e
+
+pub behind-end : (w : List ℕ) (last : ℕ) (ix : List ℕ) (k : ℕ) → length ix ≤ k → standBehind w last (drop k ix) ≡ true
+behind-end w last ix k h = rw (drop-of-length-le ix {i = k} h)
+
 -- they need not begin so low
 sooner : (w : List ℕ) (last at : ℕ) (ns : List ℕ) → last ≤ at → standBehind w at ns ≡ true → standBehind w last ns ≡ true
 sooner w last at [] l h = refl

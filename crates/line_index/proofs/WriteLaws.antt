@@ -85,9 +85,16 @@ module _ (all rest old now : List ℕ) (first k : ℕ) (S : Written all rest old
   pub write-room : k + length rest ≤ length now
   write-room = omega (arith, S .end, S .long, fits, ap length (S .whole), length-append (S .new) rest)
 
-  -- the same is still to come
-  pub write-same : (rest′ : List ℕ) → rest ≡ rest′ → Written all rest′ old now first k
-  write-same rest′ e = record { new = S .new; holds = S .holds; end = S .end; whole = ap (λ (x : List ℕ). S .new ++ x) (sym e) ∙ S .whole; long = S .long }
+  -- the list stays, and the same is still to come
+  pub write-kept : (rest′ : List ℕ) → rest ≡ rest′ → (now′ : List ℕ) (k′ : ℕ) → now′ ≡ now → k′ ≡ k → Written all rest′ old now′ first k′
+  write-kept rest′ e now′ k′ w n =
+      record {
+        new = S .new;
+        holds = w ∙ S .holds;
+        end = n ∙ S .end;
+        whole = ap (λ (x : List ℕ). S .new ++ x) (sym e) ∙ S .whole;
+        long = ap length w ∙ S .long;
+      }
 
   -- some of it is put at k
   pub write-more : (a rest′ now′ : List ℕ) (k′ : ℕ) → rest ≡ a ++ rest′ → now′ ≡ overAt k a now → length now′ ≡ length now → k′ ≡ k + length a → Written all rest′ old now′ first k′
@@ -101,9 +108,9 @@ module _ (all rest old now : List ℕ) (first k : ℕ) (S : Written all rest old
       }
 
   -- one number is stored
-  pub write-one : (n : ℕ) (rest′ : List ℕ) → rest ≡ n ∷ rest′ → Written all rest′ old (set now k n) first (k + 1)
-  write-one n rest′ e =
-      write-more (n ∷ []) rest′ (set now k n) (k + 1) e (one-store now k n (omega (arith, write-room, ap length e))) (length-set now k n) (omega arith)
+  pub write-stored : (m : ℕ) (rest′ : List ℕ) → rest ≡ m ∷ rest′ → (now′ : List ℕ) (k′ : ℕ) → now′ ≡ set now k m → k′ ≡ k + 1 → Written all rest′ old now′ first k′
+  write-stored m rest′ e now′ k′ w n =
+      write-more (m ∷ []) rest′ now′ k′ e (w ∙ one-store now k m (omega (arith, write-room, ap length e))) (ap length w ∙ length-set now k m) n
 
   -- nothing is left
   pub write-end : rest ≡ [] → (now ≡ overAt first all old) × (k ≡ first + length all)
