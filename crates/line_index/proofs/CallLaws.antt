@@ -1,4 +1,5 @@
--- Where a call returns, and what it has then answered and left, in the form in which the code finds it. Each fault is reckoned once; what follows from it are `recording`'s laws of calls that read one recording.
+-- Where a call returns, and what it has then answered and left, in the form in which the code finds it.
+-- Each fault is reckoned once; what follows from it are `recording`'s laws of calls that read one recording.
 use Prim.Native.Nat.{ℕ, suc, _+_, _-_, _≤_, _<_}
 use native.Mathlib.Omega.{arith}
 use mathlib.Core.Bool.{Bool, true, false}
@@ -54,7 +55,8 @@ fault-is d earlier ix used u v s =
     rw (le-ltb (length ix) used u, le-ltb (length d) earlier v, index-0 (take earlier d) (take used ix) s) (outcomes.first-one (shortFault d (length ix)))
 
 -- the fronts that are lent to be compared
-pub fronts-same : (d ix : List ℕ) (earlier used : ℕ) (t : Bool) → t ≡ same (take (used - 0) (drop 0 ix)) (lineStarts (take (earlier - 0) (drop 0 d))) → same (take used ix) (lineStarts (take earlier d)) ≡ t
+pub fronts-same : (d ix : List ℕ) (earlier used : ℕ) (t : Bool) → t ≡ same (take (used - 0) (drop 0 ix)) (lineStarts (take (earlier - 0) (drop 0 d)))
+    → same (take used ix) (lineStarts (take earlier d)) ≡ t
 fronts-same d ix earlier used t e =
     let p : used - 0 ≡ used = omega arith in
     let q : earlier - 0 ≡ earlier = omega arith in
@@ -232,7 +234,8 @@ module _ (r : Recording) (ix : List ℕ) where
               extend-is : extendOutcome r earlier ix used ≡ done (indexResult e-d)
               unfolding extendOutcome
               extend-is =
-                  outcomes.content-done r (extendFault e-d earlier ix used) (lineRoom (length ix)) (indexResult e-d) a (fault-is e-d earlier ix used u v s ∙ short-0 e-d (length ix) (omega (arith, extend-fits, all-length)))
+                  outcomes.content-done r (extendFault e-d earlier ix used) (lineRoom (length ix)) (indexResult e-d) a
+                  (fault-is e-d earlier ix used u v s ∙ short-0 e-d (length ix) (omega (arith, extend-fits, all-length)))
                   (room-left e-d (length ix) (omega (arith, extend-fits, all-length)))
 
               written : overAt used (startsFrom earlier (drop earlier e-d)) ix ≡ over (lineStarts e-d) ix

@@ -4,3 +4,4 @@ pub mod AskLaws
 pub mod WriteLaws
 pub mod CallLaws
 pub mod Shown
+pub mod PinsHold

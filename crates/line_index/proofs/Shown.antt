@@ -1,4 +1,5 @@
--- All that Q-7 asks to be shown (`specs/Shown.antt`). A reply that is not refused has passed every test (`line-passed`, `place-passed`), and one that passes them has its numbers (`line-numbers`, `place-numbers`).
+-- All that Q-7 asks to be shown (`specs/Shown.antt`).
+-- A reply that is not refused has passed every test (`line-passed`, `place-passed`), and one that passes them has its numbers (`line-numbers`, `place-numbers`).
 use Prim.Native.Nat.{ℕ, suc, _+_, _-_, _≤_, _<_}
 use native.Mathlib.Omega.{arith}
 use mathlib.Core.Bool.{Bool, true, false, not, _||_}
@@ -67,19 +68,21 @@ after-append r q x e ix ix′ ix″ b H p =
     let long : length (q .dataBytes) ≡ length d + length x = ap length e ∙ length-append d x in
     let same-out : extendOutcome q (length d) ix′ used ≡ buildOutcome q (length ix′)
     = extending q (length d) ix′ used (omega (arith, long)) (omega (arith, l, H .fits))
-        (ap (λ (y : List ℕ). take used y) (H .list) ∙ take-over (lineStarts d) ix ∙ ap lineStarts (sym front)) in
+    (ap (λ (y : List ℕ). take used y) (H .list) ∙ take-over (lineStarts d) ix ∙ ap lineStarts (sym front)) in
     let more : length (lineStarts d) ≤ length (lineStarts (q .dataBytes))
     = omega (
-        arith, ap length (extend-is-build (length d) (q .dataBytes) (omega (arith, long))), ap (λ (y : Bytes). length (lineStarts y)) front,
-        length-append (lineStarts (take (length d) (q .dataBytes))) (startsFrom (length d) (drop (length d) (q .dataBytes))),
-      ) in (
+      arith,
+      ap length (extend-is-build (length d) (q .dataBytes) (omega (arith, long))),
+      ap (λ (y : Bytes). length (lineStarts y)) front,
+      length-append (lineStarts (take (length d) (q .dataBytes))) (startsFrom (length d) (drop (length d) (q .dataBytes))),
+    ) in (
       p .0 ∙ ap returned same-out ∙ ap (λ (n : ℕ). returned (buildOutcome q n)) l,
       λ z.
-        let B = built q ix′ ix″ b (subst (λ (u : Outcome). Promised u (lentLines ix′) (lentLines ix″) b) same-out p) z in
-        record {
-          fits = omega (arith, l, B .0 .fits);
-          list = B .0 .list ∙ ap (λ (y : List ℕ). over (lineStarts (q .dataBytes)) y) (H .list) ∙ over-again (lineStarts (q .dataBytes)) (lineStarts d) ix more;
-        },
+          let B = built q ix′ ix″ b (subst (λ (u : Outcome). Promised u (lentLines ix′) (lentLines ix″) b) same-out p) z in
+          record {
+            fits = omega (arith, l, B .0 .fits);
+            list = B .0 .list ∙ ap (λ (y : List ℕ). over (lineStarts (q .dataBytes)) y) (H .list) ∙ over-again (lineStarts (q .dataBytes)) (lineStarts d) ix more;
+          },
     )
 
 -- ── lines
@@ -171,15 +174,15 @@ turned r ix =
     record {
       build = refusal-told (contentFaults r (shortFault d (length ix))) (lineRoom (length ix)) (indexResult d) ∙ content-own r (shortFault d (length ix)) (lineRoom (length ix)) (indexResult d) room;
       extend = λ earlier used.
-        refusal-told (contentFaults r (extendFault d earlier ix used)) (lineRoom (length ix)) (indexResult d)
-        ∙ content-own r (extendFault d earlier ix used) (lineRoom (length ix)) (indexResult d) (λ z.
+          refusal-told (contentFaults r (extendFault d earlier ix used)) (lineRoom (length ix)) (indexResult d)
+          ∙ content-own r (extendFault d earlier ix used) (lineRoom (length ix)) (indexResult d) (λ z.
           let i : ℕ = indexFault (take earlier d) (take used ix) in
           let g = firstOf-zero (refuseIf (ltb (length ix) used || ltb (length d) earlier) 36) (i ∷ shortFault d (length ix) ∷ []) z in
           let k = firstOf-zero i (shortFault d (length ix) ∷ []) (g .1) in
           room (firstOf-zero (shortFault d (length ix)) [] (k .1) .0));
       line = λ n.
-        refusal-replied (contentFaults r (lineFault d ix n)) (lineRoom 0) nothingLeft (lineAt d n .first) (lineAt d n .end) ∙ content-own r (lineFault d ix n) (lineRoom 0) nothingLeft (λ z. refl);
+          refusal-replied (contentFaults r (lineFault d ix n)) (lineRoom 0) nothingLeft (lineAt d n .first) (lineAt d n .end) ∙ content-own r (lineFault d ix n) (lineRoom 0) nothingLeft (λ z. refl);
       place = λ o.
-        refusal-replied (contentFaults r (placeFault d ix o)) (lineRoom 0) nothingLeft (placeOf d o .line) (placeOf d o .column)
-        ∙ content-own r (placeFault d ix o) (lineRoom 0) nothingLeft (λ z. refl);
+          refusal-replied (contentFaults r (placeFault d ix o)) (lineRoom 0) nothingLeft (placeOf d o .line) (placeOf d o .column)
+          ∙ content-own r (placeFault d ix o) (lineRoom 0) nothingLeft (λ z. refl);
     }

@@ -67,7 +67,8 @@ unfolding startsFrom
 starts-up at [] i j k h = absurd (omega arith)
 starts-up at (x ∷ d) i j k h = go (λ i j k h. starts-up (suc at) d i j k h) (eqb x 0x0A) i j k h
   where
-    go : ((i j : ℕ) → i < j → j < length (startsFrom (suc at) d) → getD (startsFrom (suc at) d) i 0 < getD (startsFrom (suc at) d) j 0) → (t : Bool) (i j : ℕ) → i < j → j < length (cond t (suc at ∷ startsFrom (suc at) d) (startsFrom (suc at) d))
+    go : ((i j : ℕ) → i < j → j < length (startsFrom (suc at) d) → getD (startsFrom (suc at) d) i 0 < getD (startsFrom (suc at) d) j 0)
+        → (t : Bool) (i j : ℕ) → i < j → j < length (cond t (suc at ∷ startsFrom (suc at) d) (startsFrom (suc at) d))
         → getD (cond t (suc at ∷ startsFrom (suc at) d) (startsFrom (suc at) d)) i 0 < getD (cond t (suc at ∷ startsFrom (suc at) d) (startsFrom (suc at) d)) j 0
     go r true i zero k g = absurd (omega arith)
     go r true zero (suc j) k g = starts-bound (suc at) d j (omega arith) .0
@@ -138,7 +139,8 @@ unfolding startsFrom endsFrom
 ends-starts at [] i h = absurd (omega arith)
 ends-starts at (x ∷ d) i h = go (λ i h. ends-starts (suc at) d i h) (eqb x 0x0A) i h
   where
-    go : ((i : ℕ) → i < length (startsFrom (suc at) d) → getD (startsFrom (suc at) d) i 0 ≡ suc (getD (endsFrom (suc at) d) i 0)) → (t : Bool) (i : ℕ) → i < length (cond t (suc at ∷ startsFrom (suc at) d) (startsFrom (suc at) d))
+    go : ((i : ℕ) → i < length (startsFrom (suc at) d) → getD (startsFrom (suc at) d) i 0 ≡ suc (getD (endsFrom (suc at) d) i 0))
+        → (t : Bool) (i : ℕ) → i < length (cond t (suc at ∷ startsFrom (suc at) d) (startsFrom (suc at) d))
         → getD (cond t (suc at ∷ startsFrom (suc at) d) (startsFrom (suc at) d)) i 0 ≡ suc (getD (cond t (at ∷ endsFrom (suc at) d) (endsFrom (suc at) d)) i 0)
     go r true zero g = refl
     go r true (suc i) g = r i (omega arith)

@@ -242,13 +242,7 @@ pub fn line_at(content: &[u8], entries: &[u32], text: &[u8], index: &[u32], n: u
 }
 
 // The line and the byte column of an offset, both counted from 0.
-pub fn place_of(
-    content: &[u8],
-    entries: &[u32],
-    text: &[u8],
-    index: &[u32],
-    offset: usize,
-) -> Reply
+pub fn place_of(content: &[u8], entries: &[u32], text: &[u8], index: &[u32], offset: usize) -> Reply
     ensures { λ r. ⌜ replyOf r ≡ placeReplied (recording (now (content .entry)) (now (entries .entry)) (now (text .entry))) (now (index .entry)) offset ⌝ }
 {
     let checked = check(content, entries, text);

@@ -31,7 +31,9 @@ pub rest-end : (at : ℕ) (d : List ℕ) → length d ≤ at → newlines (drop 
 rest-end at d h = rw (drop-of-length-le d {i = at} h)
 
 pub block-rest : (n at : ℕ) (d : List ℕ) → newlines (drop at d) ≡ newlines (take n (drop at d)) + newlines (drop (at + n) d)
-block-rest n at d = ap newlines (sym (take-append-drop n (drop at d))) ∙ count-append (take n (drop at d)) (drop n (drop at d)) ∙ ap (λ (l : List ℕ). newlines (take n (drop at d)) + newlines l) (drop-drop n at d)
+block-rest n at d =
+    ap newlines (sym (take-append-drop n (drop at d))) ∙ count-append (take n (drop at d)) (drop n (drop at d))
+    ∙ ap (λ (l : List ℕ). newlines (take n (drop at d)) + newlines l) (drop-drop n at d)
 
 -- at most one a byte
 pub count-few : (d : List ℕ) → newlines d ≤ length d

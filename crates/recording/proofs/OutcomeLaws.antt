@@ -10,12 +10,14 @@ use borrow.Author.Tests.{eq-eqb, ne-eqb, eqb-true}
 use Rattle.recording.specs.declared.Refusal.{Refusal}
 use Rattle.recording.specs.declared.Refusal.the-variants.{DataTooLong, EntryNumbers, EntryShape, EntryPosition, TextPart, LabelIllFormed, TextIllFormed, ReplacementRange}
 use Rattle.recording.specs.declared.Refusal.the-variants.{ResultOverLimit, LengthOverBuffer, DataBufferTooShort, EntryBufferTooShort, TextBufferTooShort, LineListTooShort}
-use Rattle.recording.specs.declared.Refusal.the-variants.{TabStop, PrefixNewline, PrefixMissing, ViewLabel, ContentUnbalanced, LineIndex, NoSuchPlace, SetsDiffer, CallNumbers, AnswerListTooShort}
+use Rattle.recording.specs.declared.Refusal.the-variants.{TabStop, PrefixNewline, PrefixMissing, ViewLabel, ContentUnbalanced, LineIndex, NoSuchPlace}
+use Rattle.recording.specs.declared.Refusal.the-variants.{SetsDiffer, CallNumbers, AnswerListTooShort}
 use Rattle.recording.specs.declared.Answer.the-variants.{Refused, Done}
 use Rattle.recording.specs.declared.Reply.the-variants as R
 use Rattle.recording.specs.Recording.{Recording}
 use Rattle.recording.specs.Refusals.{numberOf, firstOf, recordingFault}
-use Rattle.recording.specs.Outcome.{Room, Result, Faults, contentFaults, Outcome, refused, done, overLimit, noRoom, refusalOf, settle, Lent, lentAfter, returned, answerOf, Promised, replied, replyOf}
+use Rattle.recording.specs.Outcome.{Room, Result, Faults, contentFaults, Outcome, refused, done, overLimit, noRoom, refusalOf, settle}
+use Rattle.recording.specs.Outcome.{Lent, lentAfter, returned, answerOf, Promised, replied, replyOf}
 
 -- no refusal has the number 0
 pub number-pos : (f : Refusal) → 0 < numberOf f

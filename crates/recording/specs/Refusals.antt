@@ -9,7 +9,8 @@ use Rattle.recording.specs.declared.Entry.{Entry}
 use Rattle.recording.specs.declared.Refusal.{Refusal}
 use Rattle.recording.specs.declared.Refusal.the-variants.{DataTooLong, EntryNumbers, EntryShape, EntryPosition, TextPart, LabelIllFormed, TextIllFormed, ReplacementRange}
 use Rattle.recording.specs.declared.Refusal.the-variants.{ResultOverLimit, LengthOverBuffer, DataBufferTooShort, EntryBufferTooShort, TextBufferTooShort, LineListTooShort}
-use Rattle.recording.specs.declared.Refusal.the-variants.{TabStop, PrefixNewline, PrefixMissing, ViewLabel, ContentUnbalanced, LineIndex, NoSuchPlace, SetsDiffer, CallNumbers, AnswerListTooShort}
+use Rattle.recording.specs.declared.Refusal.the-variants.{TabStop, PrefixNewline, PrefixMissing, ViewLabel, ContentUnbalanced, LineIndex, NoSuchPlace}
+use Rattle.recording.specs.declared.Refusal.the-variants.{SetsDiffer, CallNumbers, AnswerListTooShort}
 use Rattle.recording.specs.Recording.{Bytes, Recording, entriesOf, partOf}
 
 -- document 01's number of each refusal

@@ -37,12 +37,17 @@ clean c = let k = c .before .before .check in let g = c .enum-told .given in sym
 short : (c : tie.After-enum-told) → length (start (c .before .before) .args .content .now) ≤ dataLimit
 short c = ltb-false _ _ (no-fault (content (c .before .before)) (clean c) .dataBytes)
 
+-- how many starts there are behind the first
+abbrev starts : tie.After-check → ℕ
+starts k = length (startsFrom 0 (drop 0 (start k .args .content .now)))
+
 -- and its index has room
 fits : (c : tie.Else2) → length (lineStarts (start (c .before .before .before .before .before) .args .content .now)) ≤ length (start (c .before .before .before .before .before) .args .index .now)
 fits c =
     let k = c .before .before .before .before .before in
     let f = c .before .starts-fit in
-    omega (arith, calls.starts-one (start k .args .content .now), leb-true (length (startsFrom 0 (drop 0 (start k .args .content .now)))) (length (start k .args .index .now) - 1) (sym (f .ensures) ∙ not-false (f .result) (c .if2 .left)), c .before .before .if1 .left)
+    let l = leb-true (starts k) (length (start k .args .index .now) - 1) (sym (f .ensures) ∙ not-false (f .result) (c .if2 .left)) in
+    omega (arith, calls.starts-one (start k .args .content .now), l, c .before .before .if1 .left)
 
 check-requires : tie.Need-check-requires
 check-requires c κs = search needs
@@ -75,7 +80,7 @@ returns-3 c =
     let k = c .before .before .before .before .before in
     let f = c .before .starts-fit in
     calls.build-short (content k) (start k .args .index .now) (clean (c .before .before .before))
-    (omega (arith, calls.starts-one (start k .args .content .now), leb-false (length (startsFrom 0 (drop 0 (start k .args .content .now)))) (length (start k .args .index .now) - 1) (sym (f .ensures) ∙ not-true (f .result) (c .if2 .taken))))
+    (omega (arith, calls.starts-one (start k .args .content .now), leb-false (starts k) (length (start k .args .index .now) - 1) (sym (f .ensures) ∙ not-true (f .result) (c .if2 .taken))))
 
 write-index-requires : tie.Need-write-index-requires
 write-index-requires c κs = (short (c .before .before .before .before), fits (c .before))

@@ -3,7 +3,8 @@ use native.Mathlib.Omega.{arith}
 use borrow.Author.Needs.{needs}
 use Prim.Native.Nat.{ℕ, _+_, _-_, _≤_, _<_}
 use mathlib.Core.Path.{_≡_, refl, sym, ap, _∙_}
-use mathlib.Core.Bool.{Bool, true, false}
+use mathlib.Core.Bool.{true}
+use mathlib.Core.List.{List}
 use lib.ListN.{length, take, drop, getD}
 use borrow.Author.Tests.{ltb-false, leb-true, leb-false, not-true, not-false}
 use Rattle.recording.specs.Recording.{Recording, recording}
@@ -38,23 +39,45 @@ clean c = let k = c .before .before .check in let g = c .enum-told .given in sym
 short : (c : tie.After-enum-told) → length (start (c .before .before) .args .content .now) ≤ dataLimit
 short c = ltb-false _ _ (no-fault (content (c .before .before)) (clean c) .dataBytes)
 
+-- the earlier part, its index and what is new, seen from the check
+abbrev list : tie.After-check → List ℕ
+list k = start k .args .index .now
+
+abbrev bytes : tie.After-check → List ℕ
+bytes k = start k .args .content .now
+
+abbrev earlier : tie.After-check → ℕ
+earlier k = start k .args .earlier
+
+abbrev used : tie.After-check → ℕ
+used k = start k .args .used
+
+abbrev new : tie.After-check → ℕ
+new k = length (startsFrom (earlier k) (drop (earlier k) (bytes k)))
+
+-- the check, seen from where the earlier part has been tested
+abbrev checked : tie.Else3 → tie.After-check
+checked c = c .before .before .before .before .before .before .before .before .before
+
+fine : (c : tie.Else3) → recordingFault (content (checked c)) ≡ 0
+fine c = clean (c .before .before .before .before .before .before .before)
+
 -- the earlier part is within list and data, and its index is there
-within : (c : tie.Else3) → (start (c .before .before .before .before .before .before .before .before .before) .args .used ≤ length (start (c .before .before .before .before .before .before .before .before .before) .args .index .now)) × (start (c .before .before .before .before .before .before .before .before .before) .args .earlier ≤ length (start (c .before .before .before .before .before .before .before .before .before) .args .content .now))
+within : (c : tie.Else3) → (used (checked c) ≤ length (list (checked c))) × (earlier (checked c) ≤ length (bytes (checked c)))
 within c = (c .before .before .before .before .before .before .if1 .left, c .before .before .before .before .before .if2 .left)
 
-front : (c : tie.Else3)
-    → same (take (start (c .before .before .before .before .before .before .before .before .before) .args .used) (start (c .before .before .before .before .before .before .before .before .before) .args .index .now)) (lineStarts (take (start (c .before .before .before .before .before .before .before .before .before) .args .earlier) (start (c .before .before .before .before .before .before .before .before .before) .args .content .now))) ≡ true
+front : (c : tie.Else3) → same (take (used (checked c)) (list (checked c))) (lineStarts (take (earlier (checked c)) (bytes (checked c)))) ≡ true
 front c =
-    let k = c .before .before .before .before .before .before .before .before .before in
+    let k = checked c in
     let t = c .before .is-index in
-    calls.fronts-same (start k .args .content .now) (start k .args .index .now) (start k .args .earlier) (start k .args .used) (t .result) (t .ensures) ∙ not-false (t .result) (c .if3 .left)
+    calls.fronts-same (bytes k) (list k) (earlier k) (used k) (t .result) (t .ensures) ∙ not-false (t .result) (c .if3 .left)
 
 -- what is new has room behind it
-fits : (c : tie.Else4) → (let k = c .before .before .before .before .before .before .before .before .before .before .before in length (startsFrom (start k .args .earlier) (drop (start k .args .earlier) (start k .args .content .now))) ≤ length (start k .args .index .now) - start k .args .used)
+fits : (c : tie.Else4) → new (checked (c .before .before)) ≤ length (list (checked (c .before .before))) - used (checked (c .before .before))
 fits c =
-    let k = c .before .before .before .before .before .before .before .before .before .before .before in
+    let k = checked (c .before .before) in
     let f = c .before .starts-fit in
-    leb-true (length (startsFrom (start k .args .earlier) (drop (start k .args .earlier) (start k .args .content .now)))) (length (start k .args .index .now) - start k .args .used) (sym (f .ensures) ∙ not-false (f .result) (c .if4 .left))
+    leb-true (new k) (length (list k) - used k) (sym (f .ensures) ∙ not-false (f .result) (c .if4 .left))
 
 check-requires : tie.Need-check-requires
 check-requires c κs = search needs
@@ -66,7 +89,7 @@ returns : tie.Need-returns
 returns c =
     let k = c .before .before .before in
     let g = c .before .checked .given in
-    calls.extend-content (content k) (start k .args .index .now) (start k .args .earlier) (start k .args .used) (g .0 .0) (sym (k .check .ensures .0) ∙ refused-number (k .check .result) (g .0 .0) (g .1))
+    calls.extend-content (content k) (list k) (earlier k) (used k) (g .0 .0) (sym (k .check .ensures .0) ∙ refused-number (k .check .result) (g .0 .0) (g .1))
 
 enum-told : tie.Need-enum-told
 enum-told c = search needs
@@ -74,12 +97,12 @@ enum-told c = search needs
 returns-2 : tie.Need-returns-2
 returns-2 c =
     let k = c .before .before .before in
-    calls.extend-used (content k) (start k .args .index .now) (start k .args .earlier) (start k .args .used) (clean (c .before)) (c .if1 .taken)
+    calls.extend-used (content k) (list k) (earlier k) (used k) (clean (c .before)) (c .if1 .taken)
 
 returns-3 : tie.Need-returns-3
 returns-3 c =
     let k = c .before .before .before .before in
-    calls.extend-earlier (content k) (start k .args .index .now) (start k .args .earlier) (start k .args .used) (clean (c .before .before)) (c .before .if1 .left) (c .if2 .taken)
+    calls.extend-earlier (content k) (list k) (earlier k) (used k) (clean (c .before .before)) (c .before .if1 .left) (c .if2 .taken)
 
 sub-is-index : tie.Need-sub-is-index
 sub-is-index c = search needs
@@ -109,8 +132,9 @@ returns-4 : tie.Need-returns-4
 returns-4 c =
     let k = c .before .before .before .before .before .before .before .before .before in
     let t = c .before .is-index in
-    calls.extend-wrong (content k) (start k .args .index .now) (start k .args .earlier) (start k .args .used) (clean (c .before .before .before .before .before .before .before)) (c .before .before .before .before .before .before .if1 .left)
-    (c .before .before .before .before .before .if2 .left) (calls.fronts-same (start k .args .content .now) (start k .args .index .now) (start k .args .earlier) (start k .args .used) (t .result) (t .ensures) ∙ not-true (t .result) (c .if3 .taken))
+    calls.extend-wrong (content k) (list k) (earlier k) (used k) (clean (c .before .before .before .before .before .before .before)) (c .before .before .before .before .before .before .if1 .left)
+    (c .before .before .before .before .before .if2 .left)
+    (calls.fronts-same (bytes k) (list k) (earlier k) (used k) (t .result) (t .ensures) ∙ not-true (t .result) (c .if3 .taken))
 
 sub-starts-fit : tie.Need-sub-starts-fit
 sub-starts-fit c = search needs
@@ -124,17 +148,18 @@ same-length-2 c = search needs
 returns-5 : tie.Need-returns-5
 returns-5 c =
     let b = c .before .before in
-    let k = b .before .before .before .before .before .before .before .before .before in
+    let k = checked b in
     let f = c .before .starts-fit in
-    calls.extend-short (content k) (start k .args .index .now) (start k .args .earlier) (start k .args .used) (clean (b .before .before .before .before .before .before .before)) (within b .0) (within b .1) (front b)
-    (leb-false (length (startsFrom (start k .args .earlier) (drop (start k .args .earlier) (start k .args .content .now)))) (length (start k .args .index .now) - start k .args .used) (sym (f .ensures) ∙ not-true (f .result) (c .if4 .taken)))
+    calls.extend-short (content k) (list k) (earlier k) (used k) (fine b) (within b .0) (within b .1) (front b)
+    (leb-false (new k) (length (list k) - used k) (sym (f .ensures) ∙ not-true (f .result) (c .if4 .taken)))
 
 write-starts-requires : tie.Need-write-starts-requires
 write-starts-requires c κs =
     let b = c .before .before .before in
-    let k = b .before .before .before .before .before .before .before .before .before in
-    ((within b .1, short (b .before .before .before .before .before .before .before)),
-      calls.extend-fits (content k) (start k .args .index .now) (start k .args .earlier) (start k .args .used) (clean (b .before .before .before .before .before .before .before)) (within b .0) (within b .1) (front b) (fits (c .before)))
+    let k = checked b in (
+      (within b .1, short (b .before .before .before .before .before .before .before)),
+      calls.extend-fits (content k) (list k) (earlier k) (used k) (fine b) (within b .0) (within b .1) (front b) (fits (c .before)),
+    )
 
 same-length-3 : tie.Need-same-length-3
 same-length-3 c = c .before .before .write-starts .kept .1 .1 .0
@@ -142,10 +167,9 @@ same-length-3 c = c .before .before .write-starts .kept .1 .1 .0
 returns-6 : tie.Need-returns-6
 returns-6 c =
     let b = c .before .before .before .before .before .before in
-    let k = b .before .before .before .before .before .before .before .before .before in
+    let k = checked b in
     let e = c .before .before .write-starts .ensures in
-    calls.extend-done (content k) (start k .args .index .now) (start k .args .earlier) (start k .args .used) (clean (b .before .before .before .before .before .before .before)) (within b .0) (within b .1) (front b) (fits (c .before .before .before .before))
-    _ _ (e .1) (e .0)
+    calls.extend-done (content k) (list k) (earlier k) (used k) (fine b) (within b .0) (within b .1) (front b) (fits (c .before .before .before .before)) _ _ (e .1) (e .0)
 
 pub extend-line-index-spec : {M : Type 1} → statement M
 extend-line-index-spec =

@@ -85,7 +85,8 @@ end-of-requires c κs =
 returns-4 : tie.Need-returns-4
 returns-4 c =
     let k = c .before .before .before .before .before .before .before in
-    calls.line-found (content k) (start k .args .index .now) (start k .args .n) (clean (c .before .before .before .before .before)) (index (c .before .before .before)) (c .before .before .if2 .left) _ (c .end-of .ensures)
+    calls.line-found (content k) (start k .args .index .now) (start k .args .n) (clean (c .before .before .before .before .before)) (index (c .before .before .before))
+    (c .before .before .if2 .left) _ (c .end-of .ensures)
 
 pub line-at-spec : {M : Type 1} → statement M
 line-at-spec =

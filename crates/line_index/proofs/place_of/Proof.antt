@@ -87,8 +87,8 @@ returns-4 : tie.Need-returns-4
 returns-4 c =
     let k = c .before .before .before .before .before .before .before in
     let f = c .before .find-line in
-    calls.place-found (content k) (start k .args .index .now) (start k .args .offset) (clean (c .before .before .before .before .before)) (index (c .before .before .before)) (c .before .before .if2 .left)
-    (f .result) (f .ensures .0) (f .ensures .1) (f .ensures .2)
+    calls.place-found (content k) (start k .args .index .now) (start k .args .offset) (clean (c .before .before .before .before .before)) (index (c .before .before .before))
+    (c .before .before .if2 .left) (f .result) (f .ensures .0) (f .ensures .1) (f .ensures .2)
 
 pub place-of-spec : {M : Type 1} → statement M
 place-of-spec =

@@ -29,7 +29,8 @@ room c =
     let l = c .before .before .before in
     let a = l .before .args in
     omega (
-      arith, write-room _ _ _ _ _ _ (l .loop .inv .2) (l .before .pre .1),
+      arith,
+      write-room _ _ _ _ _ _ (l .loop .inv .2) (l .before .pre .1),
       ap length (starts-newline (l .loop .at) (a .to) (a .s .now) (omega arith) (l .before .pre .0 .1) (c .if1 .taken)),
     )
 
@@ -69,11 +70,11 @@ loop-again c =
     let next = startsFrom (l .loop .at + 1) (part (l .loop .at + 1) (a .to) (a .s .now)) in
     let ways
     = ⊎-elim
-        (λ w. write-stored all rest (a .index .now) (l .loop .index) (a .k) (l .loop .n) (l .loop .inv .2) (l .before .pre .1) (l .loop .at + 1) next
-            (starts-newline (l .loop .at) (a .to) (a .s .now) (omega arith) (l .before .pre .0 .1) (w .0 .taken)) (c .if1 .index) (c .if1 .n) (w .1) (w .2))
-        (λ w. write-kept all rest (a .index .now) (l .loop .index) (a .k) (l .loop .n) (l .loop .inv .2) (l .before .pre .1) next
-            (starts-other (l .loop .at) (a .to) (a .s .now) (omega arith) (l .before .pre .0 .1) (w .0 .left)) (c .if1 .index) (c .if1 .n) (w .1) (w .2))
-        (c .if1 .came) in
+    (λ w. write-stored all rest (a .index .now) (l .loop .index) (a .k) (l .loop .n) (l .loop .inv .2) (l .before .pre .1) (l .loop .at + 1) next
+    (starts-newline (l .loop .at) (a .to) (a .s .now) (omega arith) (l .before .pre .0 .1) (w .0 .taken)) (c .if1 .index) (c .if1 .n) (w .1) (w .2))
+    (λ w. write-kept all rest (a .index .now) (l .loop .index) (a .k) (l .loop .n) (l .loop .inv .2) (l .before .pre .1) next
+    (starts-other (l .loop .at) (a .to) (a .s .now) (omega arith) (l .before .pre .0 .1) (w .0 .left)) (c .if1 .index) (c .if1 .n) (w .1) (w .2))
+    (c .if1 .came) in
     (omega (arith, l .loop .inv .0), omega arith, ways)
 
 same-length : tie.Need-same-length Inv-loop μ-loop

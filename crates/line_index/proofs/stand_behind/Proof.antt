@@ -57,7 +57,8 @@ returns-3 : tie.Need-returns-3 Inv-loop μ-loop
 returns-3 c =
     let l = c .before .before .before .before .before .before in
     let a = l .before .args in
-    behind-stop (a .s .now) (l .loop .last) (a .index .now) (l .loop .k) (omega arith) _ (l .loop .inv .1) (behind-other (a .s .now) (l .loop .last) _ (c .before .before .before .if1 .left) (c .before .before .if2 .left) (c .if3 .taken))
+    behind-stop (a .s .now) (l .loop .last) (a .index .now) (l .loop .k) (omega arith) _ (l .loop .inv .1)
+    (behind-other (a .s .now) (l .loop .last) _ (c .before .before .before .if1 .left) (c .before .before .if2 .left) (c .if3 .taken))
 
 add-k : tie.Need-add-k Inv-loop μ-loop
 add-k c = search needs
@@ -70,7 +71,8 @@ loop-again c =
     let l = c .before .before .before .before .before .before in
     let a = l .before .args in
     let n = getD (a .index .now) (l .loop .k) 0 in
-    (omega arith, behind-on (a .s .now) (l .loop .last) (a .index .now) (l .loop .k) (omega arith) _ (l .loop .inv .1) (behind-in (a .s .now) (l .loop .last) n (c .before .before .before .if1 .left) (c .before .before .if2 .left) (c .if3 .left)))
+    let b = behind-in (a .s .now) (l .loop .last) n (c .before .before .before .if1 .left) (c .before .before .if2 .left) (c .if3 .left) in
+    (omega arith, behind-on (a .s .now) (l .loop .last) (a .index .now) (l .loop .k) (omega arith) _ (l .loop .inv .1) b)
 
 returns-4 : tie.Need-returns-4 Inv-loop μ-loop
 returns-4 c =

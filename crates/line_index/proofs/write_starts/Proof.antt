@@ -49,7 +49,8 @@ put-starts-requires c κs =
     let s = b .args .s .now in
     let r = write-room _ _ _ _ _ _ (l .loop .inv .2) (b .pre .1) in
     let p = starts-part (l .loop .at) (l .loop .at + 16) s (omega arith) (omega arith) in
-    ((omega arith, omega arith, b .pre .0 .1), omega (arith, r, ap length p, length-append (startsFrom (l .loop .at) (part (l .loop .at) (l .loop .at + 16) s)) (startsFrom (l .loop .at + 16) (drop (l .loop .at + 16) s))))
+    let n = length-append (startsFrom (l .loop .at) (part (l .loop .at) (l .loop .at + 16) s)) (startsFrom (l .loop .at + 16) (drop (l .loop .at + 16) s)) in
+    ((omega arith, omega arith, b .pre .0 .1), omega (arith, r, ap length p, n))
 
 add-at : tie.Need-add-at Inv-loop μ-loop
 add-at c = search needs
@@ -69,11 +70,11 @@ loop-again c =
     let S = l .loop .inv .2 in
     let ways
     = ⊎-elim
-        (λ w. write-more all rest (b .args .index .now) (l .loop .index) (b .args .first) (l .loop .k) S (b .pre .1) (startsFrom at (part at (at + 16) s)) next (c .if1 .index) (c .if1 .k)
-            (starts-part at (at + 16) s (omega arith) (omega arith)) (w .5 ∙ w .2 .ensures .0) (ap length (w .5) ∙ w .2 .kept .1 .1 .1 .0) (w .6 ∙ w .2 .ensures .1))
-        (λ w. write-kept all rest (b .args .index .now) (l .loop .index) (b .args .first) (l .loop .k) S (b .pre .1) next
-            (starts-block 16 at s (ltb-false (toBreak (drop at s)) 16 (sym (c .before .has-break .ensures) ∙ w .0 .left))) (c .if1 .index) (c .if1 .k) (w .1) (w .2))
-        (c .if1 .came) in
+    (λ w. write-more all rest (b .args .index .now) (l .loop .index) (b .args .first) (l .loop .k) S (b .pre .1) (startsFrom at (part at (at + 16) s)) next (c .if1 .index) (c .if1 .k)
+    (starts-part at (at + 16) s (omega arith) (omega arith)) (w .5 ∙ w .2 .ensures .0) (ap length (w .5) ∙ w .2 .kept .1 .1 .1 .0) (w .6 ∙ w .2 .ensures .1))
+    (λ w. write-kept all rest (b .args .index .now) (l .loop .index) (b .args .first) (l .loop .k) S (b .pre .1) next
+    (starts-block 16 at s (ltb-false (toBreak (drop at s)) 16 (sym (c .before .has-break .ensures) ∙ w .0 .left))) (c .if1 .index) (c .if1 .k) (w .1) (w .2))
+    (c .if1 .came) in
     (omega (arith, l .loop .inv .0), omega arith, ways)
 
 put-starts-requires-2 : tie.Need-put-starts-requires-2 Inv-loop μ-loop
@@ -97,7 +98,8 @@ returns c =
     let r = c .before .before .put-starts2 in
     let none = sym (append-nil (startsFrom at (part at (length s) s))) in
     let e = sym (starts-rest at s (l .loop .inv .1)) ∙ none in
-    write-end _ [] _ _ _ _ (write-more _ (startsFrom at (drop at s)) _ _ _ _ (l .loop .inv .2) (b .pre .1) (startsFrom at (part at (length s) s)) [] _ _ e (r .ensures .0) (r .kept .1 .1 .1 .0) (r .ensures .1)) (b .pre .1) refl
+    let S = write-more _ (startsFrom at (drop at s)) _ _ _ _ (l .loop .inv .2) (b .pre .1) (startsFrom at (part at (length s) s)) [] _ _ e (r .ensures .0) (r .kept .1 .1 .1 .0) (r .ensures .1) in
+    write-end _ [] _ _ _ _ S (b .pre .1) refl
 
 pub write-starts-spec : {M : Type 1} → statement M
 write-starts-spec =
