@@ -1,6 +1,6 @@
 -- Whether a list is the index, asked without finding the lines: numbers that rise, each behind a 0A, and as many as there are 0A, are all of them (`all-behind`).
 -- The idea: such numbers are never more than the 0A that are left (`few-behind`), so none can be passed over.
-use Prim.Native.Nat.{ℕ, zero, suc, _+_, _-_, _≤_, _<_}
+use Prim.Native.Nat.{ℕ, suc, _+_, _-_, _≤_, _<_}
 use native.Mathlib.Omega.{arith}
 use native.Mathlib.Numerals.{add-one}
 use mathlib.Core.Bool.{Bool, true, false, cond, _&&_, false≢true}
@@ -9,7 +9,7 @@ use mathlib.Core.List.{List, [], _∷_}
 use lib.Dec.{leb, ltb, eqb}
 use lib.ListN.{length, drop, getD, length-drop, drop-of-length-le}
 use lib.Seq.{drop-cons}
-use borrow.Author.Tests.{eq-eqb, ne-eqb, eqb-true, eqb-false, ltb-true, ltb-false, leb-true, lt-ltb, le-ltb, le-leb, lt-leb}
+use borrow.Author.Tests.{eq-eqb, ne-eqb, eqb-true, eqb-false, ltb-true, leb-true, lt-ltb, le-ltb, le-leb, lt-leb}
 use Rattle.newlines.specs.Newlines.{newlines}
 use Rattle.recording.specs.Lists.{same}
 use Rattle.recording.proofs.Lists.{and-left, and-right, same-self, same-equal}
@@ -29,7 +29,7 @@ count-starts at (b ∷ d) = go (eqb b 0x0A) (count-starts (suc at) d)
 
 -- ── one number
 module _ (w : List ℕ) (last n : ℕ) where
-  pub behind-out : behind w last n ≡ true → (last < n) × (n ≤ length w) × (getD w (n - 1) 0 ≡ 0x0A)
+  behind-out : behind w last n ≡ true → (last < n) × (n ≤ length w) × (getD w (n - 1) 0 ≡ 0x0A)
   behind-out h =
       let r = and-right (ltb last n) (leb n (length w) && eqb (getD w (n - 1) 0) 0x0A) h in (
         ltb-true _ _ (and-left (ltb last n) (leb n (length w) && eqb (getD w (n - 1) 0) 0x0A) h),
@@ -50,7 +50,7 @@ module _ (w : List ℕ) (last n : ℕ) where
   behind-other a b h = rw (lt-ltb last n a, le-leb n (length w) b, ne-eqb _ _ h)
 
 module _ (w : List ℕ) (last n : ℕ) (ns : List ℕ) (h : standBehind w last (n ∷ ns) ≡ true) where
-  pub first-behind : (last < n) × (n ≤ length w) × (getD w (n - 1) 0 ≡ 0x0A)
+  first-behind : (last < n) × (n ≤ length w) × (getD w (n - 1) 0 ≡ 0x0A)
   first-behind = behind-out w last n (and-left (behind w last n) (standBehind w n ns) h)
 
   rest-behind : standBehind w n ns ≡ true
@@ -130,7 +130,7 @@ few-behind w at (b ∷ d) ns e h = go (next-of w at ns h) (λ ms m. few-behind w
         omega (arith, ap length q, more, f (n ∷ r) (later w at (suc at) n r l k))
 
 -- AS MANY, AND THEY ARE ALL
-pub all-behind : (w : List ℕ) (at : ℕ) (d ns : List ℕ) → drop at w ≡ d → standBehind w at ns ≡ true → length ns ≡ newlines d → ns ≡ startsFrom at d
+all-behind : (w : List ℕ) (at : ℕ) (d ns : List ℕ) → drop at w ≡ d → standBehind w at ns ≡ true → length ns ≡ newlines d → ns ≡ startsFrom at d
 unfolding startsFrom
 all-behind w at [] [] e h c = refl
 all-behind w at [] (n ∷ ns) e h c = absurd (omega arith)
@@ -156,7 +156,7 @@ all-behind w at (b ∷ d) ns e h c = go (eqb b 0x0A) refl c (next-of w at ns h) 
         f ns (subst (λ (x : List ℕ). standBehind w (suc at) x ≡ true) (sym q) (later w at (suc at) n r l m)) (omega (arith, k))
 
 -- the starts are such numbers
-pub starts-behind : (w : List ℕ) (at : ℕ) (d : List ℕ) → drop at w ≡ d → standBehind w at (startsFrom at d) ≡ true
+starts-behind : (w : List ℕ) (at : ℕ) (d : List ℕ) → drop at w ≡ d → standBehind w at (startsFrom at d) ≡ true
 unfolding startsFrom
 starts-behind w at [] e = refl
 starts-behind w at (b ∷ d) e = go (eqb b 0x0A) refl (starts-behind w (suc at) d (left-next at b d w e))

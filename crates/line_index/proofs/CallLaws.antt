@@ -4,7 +4,7 @@ use Prim.Native.Nat.{ℕ, suc, _+_, _-_, _≤_, _<_}
 use native.Mathlib.Omega.{arith}
 use mathlib.Core.Bool.{Bool, true, false}
 use mathlib.Core.Path.{_≡_, refl, sym, ap, subst, _∙_}
-use mathlib.Core.List.{List, [], _∷_, _++_}
+use mathlib.Core.List.{List, [], _∷_}
 use lib.ListN.{length, take, drop, getD, length-append}
 use lib.Seq.{length-take-le}
 use borrow.Author.Tests.{lt-ltb, le-ltb, lt-leb, le-leb}
@@ -17,7 +17,7 @@ use Rattle.recording.specs.Lists.{same}
 use Rattle.recording.proofs.Lists.{same-equal}
 use Rattle.recording.specs.Recording.{Recording}
 use Rattle.recording.specs.Refusals.{numberOf, firstOf, recordingFault}
-use Rattle.recording.specs.Outcome.{Outcome, done, overLimit, noRoom, settle, lentAfter, returned, answerOf, Promised, contentFaults, lineRoom, lentLines, nothingLeft, replied, replyOf}
+use Rattle.recording.specs.Outcome.{Outcome, done, overLimit, noRoom, settle, lentAfter, returned, answerOf, Promised, contentFaults, lineRoom, lentLines, nothingLeft, replyOf}
 use Rattle.recording.proofs.OutcomeLaws as outcomes
 use Rattle.recording.proofs.OutcomeLaws.{promise-refused, reply-refused, reply-found}
 use Rattle.line_index.specs.Starts.{startsFrom, lineStarts, lineAt, lineOfOffset, placeOf}
@@ -171,7 +171,7 @@ module _ (r : Recording) (ix : List ℕ) where
         promise-refused (buildOutcome r (length ix)) LineIndex (lentLines ix)
         (outcomes.own-refused r (shortFault (r .dataBytes) (length ix)) (lineRoom (length ix)) (indexResult (r .dataBytes)) a LineIndex (short-36 (r .dataBytes) (length ix) h))
 
-    pub build-is : length (lineStarts (r .dataBytes)) ≤ length ix → buildOutcome r (length ix) ≡ done (indexResult (r .dataBytes))
+    build-is : length (lineStarts (r .dataBytes)) ≤ length ix → buildOutcome r (length ix) ≡ done (indexResult (r .dataBytes))
     unfolding buildOutcome
     build-is h =
         outcomes.content-done r (shortFault (r .dataBytes) (length ix)) (lineRoom (length ix)) (indexResult (r .dataBytes)) a (short-0 (r .dataBytes) (length ix) h)

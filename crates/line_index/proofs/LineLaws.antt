@@ -2,12 +2,11 @@
 use Prim.Native.Nat.{ℕ, zero, suc, _+_, _-_, _≤_, _<_}
 use native.Mathlib.Omega.{arith}
 use mathlib.Core.Bool.{Bool, true, false, cond}
-use mathlib.Core.Path.{_≡_, refl, sym, ap, subst, _∙_}
-use mathlib.Core.List.{List, [], _∷_, _++_, append-nil, append-assoc}
+use mathlib.Core.Path.{_≡_, refl, sym, ap, _∙_}
+use mathlib.Core.List.{List, [], _∷_, _++_, append-nil}
 use lib.Dec.{eqb}
-use lib.ListN.{length, take, drop, getD, length-drop, drop-of-length-le}
-use lib.Seq.{take-suc, drop-drop, getD-drop, drop-cons}
-use borrow.Author.Tests.{eqb-true}
+use lib.ListN.{length, take, drop, getD, length-drop}
+use lib.Seq.{take-suc, getD-drop}
 use Rattle.buffer.specs.Place.{part}
 use Rattle.recording.specs.Lists.{AllOf}
 use Rattle.layout.specs.Wrap.{ontoFirst, splitLines, joinLines}

@@ -1,27 +1,26 @@
 -- All that Q-7 asks to be shown (`specs/Shown.antt`).
 -- A reply that is not refused has passed every test (`line-passed`, `place-passed`), and one that passes them has its numbers (`line-numbers`, `place-numbers`).
-use Prim.Native.Nat.{ℕ, suc, _+_, _-_, _≤_, _<_}
+use Prim.Native.Nat.{ℕ, _+_, _-_, _≤_, _<_}
 use native.Mathlib.Omega.{arith}
-use mathlib.Core.Bool.{Bool, true, false, not, _||_}
+use mathlib.Core.Bool.{true, not, _||_}
 use mathlib.Core.Path.{_≡_, refl, sym, ap, subst, _∙_}
 use mathlib.Core.List.{List, [], _∷_, _++_}
 use lib.Dec.{leb, ltb}
-use lib.ListN.{length, take, drop, getD, length-append}
+use lib.ListN.{length, take, drop, length-append}
 use lib.Seq.{take-append-seam, drop-append-add, drop-drop}
-use borrow.Author.Tests.{ltb-false, leb-false, le-ltb, lt-leb, lt-ltb}
+use borrow.Author.Tests.{ltb-false, leb-false, le-ltb, lt-leb}
 use Rattle.buffer.specs.Place.{over}
 use Rattle.buffer.proofs.Laws.{take-over, length-over}
-use Rattle.recording.specs.declared.Answer.{Answer}
 use Rattle.recording.specs.Lists.{same}
-use Rattle.recording.proofs.Lists.{not-false, or-left, or-right, same-self}
+use Rattle.recording.proofs.Lists.{not-false, same-self}
 use Rattle.recording.specs.Recording.{Bytes, Recording}
 use Rattle.recording.specs.Refusals.{firstOf, refuseIf, recordingFault}
-use Rattle.recording.specs.Outcome.{Outcome, done, overLimit, noRoom, refusalOf, settle, lentAfter, returned, answerOf, Promised, contentFaults, lineRoom, lentLines, nothingLeft, Replied, replied}
+use Rattle.recording.specs.Outcome.{Outcome, done, overLimit, noRoom, refusalOf, settle, lentAfter, returned, Promised, contentFaults, lineRoom, lentLines, nothingLeft, Replied, replied}
 use Rattle.recording.proofs.OutcomeLaws.{is-done, refusal-told, refusal-replied, content-own, content-done}
 use Rattle.recording.proofs.FaultLaws.{firstOf-zero, refuseIf-zero, Granted, granted}
-use Rattle.line_index.specs.Starts.{startsFrom, lineStarts, lineEnds, lineAt, Place, placeOf}
+use Rattle.line_index.specs.Starts.{startsFrom, lineStarts, lineAt, Place, placeOf}
 use Rattle.line_index.specs.Index.{shortFault, indexFault, extendFault, lineFault, placeFault, indexResult, buildOutcome, extendOutcome, lineReplied, placeReplied}
-use Rattle.line_index.specs.Shown.{Extending, Holds, Built, AfterAppend, Lines, Places, EveryOffset, LineOfPlace, PlaceOfLine, Turned}
+use Rattle.line_index.specs.Shown.{Extending, Built, AfterAppend, Lines, EveryOffset, LineOfPlace, PlaceOfLine, Turned}
 use Rattle.line_index.proofs.StartLaws.{extend-is-build, first-is, end-inner, end-last, end-le, end-newline, place-line, place-start, place-end, place-only, place-unique}
 use Rattle.line_index.proofs.LineLaws.{pieces-split, lines-joined, lines-count, line-bytes, line-clean}
 use Rattle.line_index.proofs.CallLaws.{fault-is, room-left}

@@ -1,4 +1,4 @@
--- The starts and ends of lines: what an append adds (`starts-append`), that they rise (`starts-rise`), and where an offset stands among them (`start-within`, `start-beyond`).
+-- The starts and ends of lines: what an append adds (`starts-append`), and where an offset stands among them (`start-within`, `start-beyond`).
 -- So the place of an offset is there, and no other is (`place-line`, `place-start`, `place-end`, `place-unique`).
 use Prim.Native.Nat.{ℕ, zero, suc, _+_, _-_, _≤_, _<_}
 use native.Mathlib.Omega.{arith}
@@ -8,10 +8,9 @@ use mathlib.Core.Path.{_≡_, refl, sym, ap, _∙_}
 use mathlib.Core.List.{List, [], _∷_, _++_}
 use lib.Dec.{ltb, eqb}
 use borrow.Author.Tests.{ltb-true, ltb-false, eqb-true}
-use lib.ListN.{length, take, drop, getD, length-append, length-drop, take-append-drop, List·getD-append, drop-of-length-le}
-use lib.Seq.{length-take-le, getD-append-add, drop-cons, drop-drop}
-use Rattle.layout.specs.Wrap.{Line, lineOf}
-use Rattle.line_index.specs.Starts.{startsFrom, lineStarts, endsFrom, lineEnds, lineAt, Place, lineOfOffset, placeOf}
+use lib.ListN.{length, take, drop, getD, length-append, length-drop, take-append-drop, List·getD-append}
+use lib.Seq.{length-take-le, getD-append-add, drop-cons}
+use Rattle.line_index.specs.Starts.{startsFrom, lineStarts, endsFrom, lineEnds, lineAt, lineOfOffset, placeOf}
 
 -- ── the byte at a place, of a text of which b ∷ bs is left there
 module _ (at b : ℕ) (bs w : List ℕ) (e : drop at w ≡ b ∷ bs) where
@@ -47,7 +46,7 @@ extend-is-build n d h =
     ∙ ap (λ (k : ℕ). startsFrom 0 (take n d) ++ startsFrom k (drop n d)) (omega (arith, length-take-le n d h)))
 
 -- ── each start is past the place and within the data
-pub starts-bound : (at : ℕ) (d : List ℕ) (i : ℕ) → i < length (startsFrom at d) → (at < getD (startsFrom at d) i 0) × (getD (startsFrom at d) i 0 ≤ at + length d)
+starts-bound : (at : ℕ) (d : List ℕ) (i : ℕ) → i < length (startsFrom at d) → (at < getD (startsFrom at d) i 0) × (getD (startsFrom at d) i 0 ≤ at + length d)
 unfolding startsFrom
 starts-bound at [] i h = absurd (omega arith)
 starts-bound at (x ∷ d) i h = go (λ j g. starts-bound (suc at) d j g) (eqb x 0x0A) i h
@@ -61,27 +60,7 @@ starts-bound at (x ∷ d) i h = go (λ j g. starts-bound (suc at) d j g) (eqb x 
     go r true (suc j) g = (omega (arith, r j (omega arith) .0), omega (arith, r j (omega arith) .1))
     go r false j g = (omega (arith, r j g .0), omega (arith, r j g .1))
 
--- STRICTLY RISING
-starts-up : (at : ℕ) (d : List ℕ) (i j : ℕ) → i < j → j < length (startsFrom at d) → getD (startsFrom at d) i 0 < getD (startsFrom at d) j 0
-unfolding startsFrom
-starts-up at [] i j k h = absurd (omega arith)
-starts-up at (x ∷ d) i j k h = go (λ i j k h. starts-up (suc at) d i j k h) (eqb x 0x0A) i j k h
-  where
-    go : ((i j : ℕ) → i < j → j < length (startsFrom (suc at) d) → getD (startsFrom (suc at) d) i 0 < getD (startsFrom (suc at) d) j 0)
-        → (t : Bool) (i j : ℕ) → i < j → j < length (cond t (suc at ∷ startsFrom (suc at) d) (startsFrom (suc at) d))
-        → getD (cond t (suc at ∷ startsFrom (suc at) d) (startsFrom (suc at) d)) i 0 < getD (cond t (suc at ∷ startsFrom (suc at) d) (startsFrom (suc at) d)) j 0
-    go r true i zero k g = absurd (omega arith)
-    go r true zero (suc j) k g = starts-bound (suc at) d j (omega arith) .0
-    go r true (suc i) (suc j) k g = r i j (omega arith) (omega arith)
-    go r false i j k g = r i j k g
-
-pub starts-rise : (d : List ℕ) (i j : ℕ) → i < j → j < length (lineStarts d) → getD (lineStarts d) i 0 < getD (lineStarts d) j 0
-unfolding lineStarts
-starts-rise d i zero k h = absurd (omega arith)
-starts-rise d zero (suc j) k h = starts-bound 0 d j (omega arith) .0
-starts-rise d (suc i) (suc j) k h = starts-up 0 d i j (omega arith) (omega arith)
-
-pub start-le : (d : List ℕ) (i : ℕ) → i < length (lineStarts d) → getD (lineStarts d) i 0 ≤ length d
+start-le : (d : List ℕ) (i : ℕ) → i < length (lineStarts d) → getD (lineStarts d) i 0 ≤ length d
 unfolding lineStarts
 start-le d zero h = omega arith
 start-le d (suc i) h = omega (arith, starts-bound 0 d i (omega arith) .1)
@@ -92,7 +71,7 @@ module _ (d : List ℕ) (o : ℕ) (h : o ≤ length d) where
   unfolding lineStarts lineOfOffset
   k-is = refl
 
-  pub line-there : lineOfOffset d o < length (lineStarts d)
+  line-there : lineOfOffset d o < length (lineStarts d)
   line-there = omega (arith, k-is, ap length (extend-is-build o d h), length-append (lineStarts (take o d)) (startsFrom o (drop o d)))
 
   pub start-within : (i : ℕ) → i ≤ lineOfOffset d o → getD (lineStarts d) i 0 ≤ o
@@ -101,7 +80,7 @@ module _ (d : List ℕ) (o : ℕ) (h : o ≤ length d) where
       = ap (λ (l : List ℕ). getD l i 0) (extend-is-build o d h) ∙ List·getD-append (lineStarts (take o d)) (startsFrom o (drop o d)) 0 i (omega (arith, k-is)) in
       omega (arith, e, start-le (take o d) i (omega (arith, k-is)), length-take-le o d h)
 
-  pub start-beyond : (i : ℕ) → lineOfOffset d o < i → i < length (lineStarts d) → o < getD (lineStarts d) i 0
+  start-beyond : (i : ℕ) → lineOfOffset d o < i → i < length (lineStarts d) → o < getD (lineStarts d) i 0
   start-beyond i g l =
       let a : List ℕ = lineStarts (take o d) in
       let b : List ℕ = startsFrom o (drop o d) in

@@ -11,7 +11,7 @@ use Rattle.recording.specs.Refusals.{firstOf, recordingFault}
 use Rattle.recording.specs.Outcome.{returned, answerOf, Promised, lentLines}
 use Rattle.layout.specs.Wrap.{splitLines, joinLines}
 use Rattle.layout.specs.Unindent.{hasNewline}
-use Rattle.line_index.specs.Starts.{lineStarts, lineEnds, lineAt, Place, placeOf}
+use Rattle.line_index.specs.Starts.{lineStarts, lineEnds, lineAt, placeOf}
 use Rattle.line_index.specs.Index.{shortFault, extendFault, lineFault, placeFault, buildOutcome, extendOutcome, lineReplied, placeReplied}
 
 -- ── "Extending it after an append equals building it over all the data"

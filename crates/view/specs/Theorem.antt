@@ -1,6 +1,6 @@
 -- What Q-6 asks to be shown: of two recordings that differ only under the label the floor reads the same (`Theorem`); what each reader reads of one recording, in the request's words (`Readers`);
 -- and a view after a list of layout calls (`Follows`). `proofs/Shown.antt` has all three.
-use Prim.Native.Nat.{ℕ, _+_, _≤_, _<_}
+use Prim.Native.Nat.{_+_, _≤_, _<_}
 use mathlib.Core.Bool.{Bool, true, false, cond, _||_}
 use mathlib.Core.Path.{_≡_}
 use mathlib.Core.Logic.{_⊎_}

@@ -1,8 +1,8 @@
 -- One before the next start, or the data's end (`end-inner`, `end-last`).
 use native.Mathlib.Omega.{arith}
 use borrow.Author.Needs.{needs}
-use Prim.Native.Nat.{ℕ, _+_, _-_, _≤_, _<_}
-use mathlib.Core.Path.{_≡_, sym, ap}
+use Prim.Native.Nat.{ℕ, _+_, _-_}
+use mathlib.Core.Path.{sym, ap}
 use mathlib.Core.List.{List}
 use lib.ListN.{length, getD}
 use Rattle.line_index.proofs.StartLaws.{end-inner, end-last}

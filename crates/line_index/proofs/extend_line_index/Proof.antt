@@ -1,18 +1,17 @@
 -- Each return is one law of `CallLaws`. The check is named once (`After-check`), and each place further down counts back to it; so is the test of the earlier part (`Else3`).
-use native.Mathlib.Omega.{arith}
 use borrow.Author.Needs.{needs}
-use Prim.Native.Nat.{ℕ, _+_, _-_, _≤_, _<_}
-use mathlib.Core.Path.{_≡_, refl, sym, ap, _∙_}
+use Prim.Native.Nat.{ℕ, _-_, _≤_}
+use mathlib.Core.Path.{_≡_, sym, _∙_}
 use mathlib.Core.Bool.{true}
 use mathlib.Core.List.{List}
-use lib.ListN.{length, take, drop, getD}
+use lib.ListN.{length, take, drop}
 use borrow.Author.Tests.{ltb-false, leb-true, leb-false, not-true, not-false}
 use Rattle.recording.specs.Recording.{Recording, recording}
 use Rattle.recording.specs.Refusals.{recordingFault, dataLimit}
 use Rattle.recording.proofs.FaultLaws.{no-fault}
 use Rattle.recording.proofs.CheckLaws.{refused-number, fine-zero}
 use Rattle.recording.specs.Lists.{same}
-use Rattle.line_index.specs.Starts.{startsFrom, lineStarts, lineAt}
+use Rattle.line_index.specs.Starts.{startsFrom, lineStarts}
 use Rattle.line_index.proofs.CallLaws as calls
 use Rattle.line_index.proofs.extend_line_index.Statement.{statement}
 use Rattle.line_index.proofs.extend_line_index.Tie as tie

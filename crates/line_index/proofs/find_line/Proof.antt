@@ -2,8 +2,8 @@
 use native.Mathlib.Omega.{arith}
 use borrow.Author.Needs.{needs}
 use Prim.Native.Nat.{ℕ, _/_, _+_, _-_, _≤_, _<_}
-use mathlib.Core.Path.{_≡_, refl, sym, ap, subst, _∙_}
-use lib.ListN.{length, take, drop, getD}
+use mathlib.Core.Path.{_≡_, subst}
+use lib.ListN.{length, getD}
 use Rattle.line_index.proofs.find_line.Statement.{statement}
 use Rattle.line_index.proofs.find_line.Tie as tie
 use Rattle.line_index.proofs.find_line.Reads as reads

@@ -1,10 +1,9 @@
 -- Each test that fails says that the list is another; where all hold it is the index (`AskLaws`).
 use native.Mathlib.Omega.{arith}
 use borrow.Author.Needs.{needs}
-use Prim.Native.Nat.{ℕ, _+_, _-_, _≤_, _<_}
-use mathlib.Core.Path.{_≡_, refl, sym, ap, _∙_}
-use mathlib.Core.Bool.{Bool, true, false}
-use lib.ListN.{length, drop, getD}
+use Prim.Native.Nat.{ℕ, _-_}
+use mathlib.Core.Path.{sym, ap, _∙_}
+use lib.ListN.{length}
 use borrow.Author.Tests.{not-true, not-false}
 use Rattle.line_index.proofs.AskLaws.{ask-none, ask-first, ask-behind, ask-count}
 use lib.Dec.{eqb}

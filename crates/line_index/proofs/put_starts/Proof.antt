@@ -1,15 +1,13 @@
 -- What is in the list and what is still to come are together all (`Written`); a 0A adds one number, any other byte none.
 use native.Mathlib.Omega.{arith}
 use borrow.Author.Needs.{needs}
-use Prim.Native.Nat.{ℕ, _+_, _-_, _≤_, _<_}
-use mathlib.Core.Path.{_≡_, refl, sym, ap, _∙_}
-use lib.ListN.{length, getD}
+use Prim.Native.Nat.{_+_, _-_, _≤_, _<_}
+use mathlib.Core.Path.{ap}
+use lib.ListN.{length}
 use Rattle.buffer.specs.Place.{part}
 use Rattle.line_index.specs.Starts.{startsFrom}
 use Rattle.line_index.proofs.WriteLaws.{Written, write-start, write-room, write-kept, write-stored, write-end, starts-newline, starts-other, starts-over}
 use mathlib.Core.Logic.{_⊎_, ⊎-elim}
-use mathlib.Core.List.{_∷_}
-use mathlib.Core.Path.{subst}
 use Rattle.line_index.proofs.put_starts.Statement.{statement}
 use Rattle.line_index.proofs.put_starts.Tie as tie
 use Rattle.line_index.proofs.put_starts.Reads as reads

@@ -1,14 +1,10 @@
 -- The numbers from k on say what all say (`standBehind`).
 use native.Mathlib.Omega.{arith}
 use borrow.Author.Needs.{needs}
-use Prim.Native.Nat.{ℕ, _+_, _-_, _≤_, _<_}
-use mathlib.Core.Path.{_≡_, refl, sym, ap, _∙_}
+use Prim.Native.Nat.{_-_, _≤_}
+use mathlib.Core.Path.{_≡_, sym, _∙_}
 use lib.ListN.{length, drop, getD}
 use Rattle.line_index.specs.Code.{standBehind}
-use native.Mathlib.Numerals.{add-one}
-use mathlib.Core.Bool.{Bool, true, false}
-use lib.ListN.{drop-of-length-le}
-use lib.Seq.{drop-cons}
 use Rattle.line_index.proofs.AskLaws.{behind-stop, behind-on, behind-end, behind-low, behind-past, behind-other, behind-in}
 use Rattle.line_index.proofs.stand_behind.Statement.{statement}
 use Rattle.line_index.proofs.stand_behind.Tie as tie

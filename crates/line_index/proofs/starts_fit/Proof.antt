@@ -1,13 +1,12 @@
 -- At most one a byte; otherwise as many as there are 0A (`count-starts`).
 use native.Mathlib.Omega.{arith}
 use borrow.Author.Needs.{needs}
-use Prim.Native.Nat.{ℕ, _+_, _-_, _≤_, _<_}
-use mathlib.Core.Path.{_≡_, refl, sym, ap, _∙_}
+use Prim.Native.Nat.{ℕ, _-_}
+use mathlib.Core.Path.{sym, ap, _∙_}
 use lib.ListN.{length, drop}
 use lib.Dec.{leb}
 use lib.ListN.{length-drop}
 use borrow.Author.Tests.{le-leb}
-use Rattle.newlines.specs.Newlines.{newlines}
 use Rattle.newlines.proofs.CountLaws.{count-few}
 use Rattle.line_index.specs.Starts.{startsFrom}
 use Rattle.line_index.proofs.AskLaws.{count-starts}

@@ -1,8 +1,8 @@
 -- What is in the list and what is still to come are together all (`Written`); a block without 0A adds nothing (`starts-block`), any other what its bytes add (`starts-part`).
 use native.Mathlib.Omega.{arith}
 use borrow.Author.Needs.{needs}
-use Prim.Native.Nat.{ℕ, _+_, _-_, _≤_, _<_}
-use mathlib.Core.Path.{_≡_, refl, sym, ap, _∙_}
+use Prim.Native.Nat.{_+_, _-_, _≤_}
+use mathlib.Core.Path.{refl, sym, ap, _∙_}
 use mathlib.Core.Logic.{_⊎_, ⊎-elim}
 use lib.ListN.{length, drop}
 use Rattle.buffer.specs.Place.{part}

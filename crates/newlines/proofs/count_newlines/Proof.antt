@@ -1,7 +1,7 @@
 -- Blocks of 64 bytes, then the rest: what is counted and what is still to come are together all (`block-rest`).
 use native.Mathlib.Omega.{arith}
 use borrow.Author.Needs.{needs}
-use Prim.Native.Nat.{ℕ, _+_, _-_, _≤_}
+use Prim.Native.Nat.{_+_, _-_, _≤_}
 use mathlib.Core.Path.{_≡_}
 use lib.ListN.{length, drop}
 use Rattle.newlines.specs.Newlines.{newlines}
