@@ -1,5 +1,6 @@
-"""The model's own tests: document 01's cases C1 to C16, with document 02's widths of lines, tab stops, indent taken off, pictures, two readers and line index; its reading of UTF-8 against Python's
-decoder; and laws, on random inputs (those of the two readers are in `views.py`, those of the line index in `indexes.py`)."""
+"""The model's own tests: document 01's cases C1 to C16, with document 02's widths of lines, tab stops, indent taken off, pictures, two readers and line
+index; its reading of UTF-8 against Python's decoder; and laws, on random inputs (those of the two readers are in `views.py`, of the line index in
+`indexes.py`)."""
 import random
 from contextlib import contextmanager
 
@@ -9,7 +10,8 @@ import random_calls
 import ruszvedok_model
 
 from runs import NAMES
-from ruszvedok_model import (CALLS, PICTURES, PUSH, QUESTIONS, RAW, TEXT_CALLS, Recording, balanced, call, char_width, chars, coloured, listed_lines, recording, text_width, width_of, wraplist)
+from ruszvedok_model import (CALLS, PICTURES, PUSH, QUESTIONS, RAW, TEXT_CALLS, Recording, balanced, call, char_width, chars, coloured, listed_lines,
+                             recording, text_width, width_of, wraplist)
 
 FACE, TRUCK = "\U0001F600".encode(), "\U0001F680".encode()
 WRAPS = [
@@ -162,8 +164,9 @@ QUESTION_REFUSALS = [
     ("line 3 of 3", ("line_at", ROWS, (0, 2, 5), 3), 37),
     ("offset 6 of 5", ("place_of", ROWS, (0, 2, 5), 6), 37),
     *[(f"{why}, {name}", (name, r, index, asked), refusal) for name, asked in (("line_at", 3), ("place_of", 6)) for why, r, index, refusal in [
-        ("a number wrong", ROWS, (0, 3, 5), 36), ("one too few", ROWS, (0, 2), 36), ("one too many", ROWS, (0, 2, 5, 5), 36), ("not in order", ROWS, (0, 5, 2), 36),
-        ("the first not 0", ROWS, (1, 2, 5), 36), ("none", ROWS, (), 36), ("6 before 36", FAULTY, (0,), 6), ("6 before 37", FAULTY, (0, 2, 5), 6),
+        ("a number wrong", ROWS, (0, 3, 5), 36), ("one too few", ROWS, (0, 2), 36), ("one too many", ROWS, (0, 2, 5, 5), 36),
+        ("not in order", ROWS, (0, 5, 2), 36), ("the first not 0", ROWS, (1, 2, 5), 36), ("none", ROWS, (), 36),
+        ("6 before 36", FAULTY, (0,), 6), ("6 before 37", FAULTY, (0, 2, 5), 6),
         ("4 before 36", recording(b"", (1, 1, 0, 0)), (), 4), ("5 before 36", recording(b"", (), b"x" * 65537), (), 5)]],
     ("36 though the line is there", ("line_at", ROWS, (0, 2, 5, 6), 0), 36),
     ("36 though the offset is there", ("place_of", ROWS, (0, 2), 0), 36),

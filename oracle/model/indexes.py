@@ -1,4 +1,6 @@
-"""Document 02, Q-7: random recordings with lines, line indexes that are right or nearly so, and laws over the four calls on them. Its random inputs are also those of `compare_calls`."""
+"""Document 02, Q-7: random recordings with lines, line indexes that are right or nearly so, and laws over the four calls on them.
+
+The random inputs are also those of `compare_calls`."""
 import random
 
 import random_calls
@@ -7,7 +9,7 @@ from ruszvedok_model import QUESTIONS, call, line_starts, recording
 LARGEST = 2 ** 32 - 1
 # Bytes that are 0A but for one bit or for one, and others; 0D before some 0As.
 NEAR = b"\x0A\x0A\x0A\x0B\x09\x08\x0E\x02\x1A\x2A\x4A\x8A\x8B\x89\x00\xF5\xFFa"
-PIECES = [p.encode() if isinstance(p, str) else p for p in ["\n", "\n", "\n", "\n", "\n\n", "\r\n", "a", "b c", "oak 12 ft", "木", "é", "\t", "\0", b"\x8A", b"\x0B", b"\xFF", b"\xE6"]]
+PIECES = [b"\n"] * 4 + [b"\n\n", b"\r\n", b"a", b"b c", b"oak 12 ft", "木".encode(), "é".encode(), b"\t", b"\0", b"\x8A", b"\x0B", b"\xFF", b"\xE6"]
 # The library may look for 0A at sixteen bytes at a time: lines about as long.
 LENGTHS = (0, 1, 7, 8, 9, 14, 15, 16, 17, 18, 30, 31, 32, 33, 34, 47, 48, 49)
 
@@ -64,7 +66,7 @@ def other_data(pick, d):
 
 
 def nearly(pick, index, d):
-    """An index that is mostly another one: a number wrong, one too few or too many, not in order, the first not 0, of other data, none, or any numbers. Some are still the same."""
+    """Mostly another index: a number wrong, one too few or too many, not in order, the first not 0, of other data, none, or any numbers. Some are the same."""
     index, at = list(index), int(pick.random() * len(index))
     way = int(pick.random() * 9)
     if way == 0:
@@ -90,7 +92,7 @@ def nearly(pick, index, d):
 
 
 def size(pick, right, edges):
-    """A number that C takes as a size_t: mostly one of the edges or near the right one; a few that are beyond 32 bits and have such a number in their lower half."""
+    """A number that C takes as a size_t: mostly one of the edges or near the right one; a few are beyond 32 bits, some of these with it in the lower half."""
     way = pick.random()
     if way < 0.5:
         return max(pick.choice(edges), 0)
@@ -104,10 +106,10 @@ def asking(pick, name):
     r = content(pick)
     right = line_starts(r.data)
     index = right if pick.random() < 0.7 else nearly(pick, right, r.data)
-    start = pick.choice(right)
+    count, length, start = len(right), len(r.data), pick.choice(right)
     if name == "line_at":
-        return r, index, size(pick, int(pick.random() * len(right)), (0, len(right) - 2, len(right) - 1, len(right) - 1, len(right), len(right), len(right) + 1, len(r.data)))
-    return r, index, size(pick, int(pick.random() * (len(r.data) + 1)), (0, start, start, start - 1, start - 1, start + 1, start - 2, len(r.data), len(r.data), len(r.data) + 1))
+        return r, index, size(pick, int(pick.random() * count), (0, count - 2, count - 1, count - 1, count, count, count + 1, length))
+    return r, index, size(pick, int(pick.random() * (length + 1)), (0, start, start, start - 1, start - 1, start + 1, start - 2, length, length, length + 1))
 
 
 def room(pick, needed):
@@ -116,7 +118,7 @@ def room(pick, needed):
 
 
 def building(pick, former):
-    """A recording, and a list of a length that is about right; `former` gives what a list of a length held before. It may also hold the index already, or nearly."""
+    """A recording, and a list of about the right length: it holds what `former` gives for a length, or the index already, or nearly."""
     r = content(pick)
     right = line_starts(r.data)
     length = room(pick, len(right))
@@ -130,7 +132,7 @@ def overlaid(held, numbers):
 
 
 def extending(pick, former):
-    """A recording, an earlier length, how many numbers are used, and a list: mostly they fit each other, otherwise nearly. Behind the used numbers the list has any, or what the index goes on with."""
+    """A recording, an earlier length, how many numbers are used, and a list: they fit, or nearly. Behind the used numbers it has any, or the index goes on."""
     r = content(pick)
     d, whole = r.data, line_starts(r.data)
     start = pick.choice(whole)
@@ -158,7 +160,7 @@ def steps(pick):
     """Recordings that grow by appending, two to four of them, of which the last is whole; and the length of a list."""
     r = content(pick)
     starts = line_starts(r.data)
-    cuts = [min(max(pick.choice((0, start, start - 1, int(pick.random() * (len(r.data) + 1)))), 0), len(r.data)) for start in pick.choices(starts, k=1 + int(pick.random() * 3))]
+    cuts = [pick.choice((0, start, max(start - 1, 0), int(pick.random() * (len(r.data) + 1)))) for start in pick.choices(starts, k=1 + int(pick.random() * 3))]
     return [front(r, length) for length in sorted(cuts)] + [r], room(pick, len(starts))
 
 
@@ -226,7 +228,7 @@ def laws_broken(count=3000):
 
 
 def extended(r, earlier, length):
-    """Whether an index of the earlier data, extended, is what building over all the data leaves in the same list, and the index of the earlier data otherwise."""
+    """Whether an index of the earlier data, extended, is what building over all the data leaves in the same list; or stays, where that is refused."""
     before, held, _ = built(front(r, earlier), length)
     if before[0]:
         return True
@@ -238,13 +240,14 @@ def extended(r, earlier, length):
 
 
 def extensions_unlike_building(count=1000):
-    """The random recordings, with an earlier length, of which extending is not building; each by every earlier length, in a list that is exactly full, longer, or too short by one."""
+    """The random recordings of which extending is not building, each tried by every earlier length in a list exactly full, longer, and too short by one."""
     pick, wrong = random.Random(12), []
     for _ in range(count):
         r = random_calls.with_entries(pick, data(pick)[:80])
         if fault_of(r) == 0:
             needed = r.data.count(b"\n") + 1
-            wrong += [(r, earlier, length) for earlier in range(len(r.data) + 1) for length in (needed, needed + 2, needed - 1) if not extended(r, earlier, length)]
+            tried = [(r, earlier, length) for earlier in range(len(r.data) + 1) for length in (needed, needed + 2, needed - 1)]
+            wrong += [one for one in tried if not extended(*one)]
     return wrong
 
 
@@ -275,7 +278,7 @@ def index_fault(r, earlier, used, held):
 
 
 def refusals_unlike(count=20_000):
-    """The random calls whose refusal is another than it must be, or that answer more than a refusal, or leave the list otherwise. Each refusal has to come up often."""
+    """The random calls that are refused otherwise than they must be, or answer or leave something else. Each refusal has to come up often."""
     pick, wrong, seen = random.Random(14), [], {}
     for k in range(count):
         name = (*WRITTEN, *ASKED)[k % 4]

@@ -764,7 +764,7 @@ def build_index_call(content, buffers):
 
 
 def extend_index_call(content, earlier, used, buffers):
-    """36 also where the first `used` numbers are not the index of the earlier data, whose length must not pass the data's. Otherwise it equals building over all the data."""
+    """36 also where the first `used` numbers are not the index of the earlier data, whose length must not pass the data's. Otherwise it equals building."""
     check_recording(content)
     *_, index = buffers
     refuse_if(used > len(index) or earlier > len(content.data), 36)
@@ -866,8 +866,8 @@ def call(name, *inputs, room=()):
     """The five numbers of the answer, and the lent buffers after: data, entry numbers, text, line list.
 
     `room` gives the buffers before, in the same order, each by its length (then every byte is A5) or by its members; those left out have no places.
-    A recording is `recording(data, numbers, text)`. The adding calls take how much of the three buffers is used, and the bytes to add. A line index that is written is the last buffer; for a
-    question, whose answer has three numbers, it is an input.
+    A recording is `recording(data, numbers, text)`. The adding calls take how much of the three buffers is used, and the bytes to add.
+    A line index that is written is the last buffer; for a question, whose answer has three numbers, it is an input.
     """
     if name in TEXT_CALLS:
         results = tuple(TEXT_CALLS[name](*inputs))

@@ -12,7 +12,8 @@ NAMES = ("text_width well_formed truncate_end_pos truncate_start_pos zero_width_
          "write_padded_centered write_indented wrap_bytes write_wrapped write_replaced elide_start elide_end complete_newline write push_label pop_label raw "
          "char_width read_char trim_start_zero_width_chars write_tabs_expanded write_unindented write_for_office write_for_floor "
          "build_line_index extend_line_index line_at place_of").split()
-KEYS = "data entries text second second_entries second_text records new added used width break code answer out out_entries out_text lines characters label index at".split()
+KEYS = ("data entries text second second_entries second_text records new added used width break code answer out out_entries out_text lines characters "
+        "label index at").split()
 WORDS = {"push": 0, "pop": 1, "raw": 2}
 ESCAPES = {"n": 0x0A, "t": 0x09}
 FIELD = re.compile(r'(?:[^ "]|"[^"]*")+')
