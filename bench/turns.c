@@ -18,6 +18,8 @@ typedef struct row {
     uint8_t text[12 * MOST_ENTRIES];
     uint32_t records[LONG / 32 * 4];
     size_t records_len, half, lines;
+    uint32_t index[MOST_LINES]; /* where its lines start; how many, and how many of its first nine tenths */
+    size_t index_len, index_before;
 } row;
 
 /* One of the two sides. */
@@ -44,6 +46,7 @@ typedef struct task {
 #define SECOND(string) RUSZVEDOK_READ(ruszvedok_plain(string))
 #define LENT RUSZVEDOK_LENT(&out)
 #define LINES out_lines, line_numbers *(t.exact ? r->lines : r->view.data_len + 1)
+#define EARLIER(r) ((r)->view.data_len / 10 * 9)
 ON_ROW(replay, CONTENT, LENT, res)
 ON_ROW(write_truncated_start, CONTENT, SECOND(".."), (uint32_t)r->half, LENT, res)
 ON_ROW(write_truncated_end, CONTENT, SECOND(".."), (uint32_t)r->half, LENT, res)
@@ -58,6 +61,11 @@ ON_ROW(write_replaced, CONTENT, r->records, r->records_len, (const uint8_t *)"ne
 ON_ROW(write_tabs_expanded, CONTENT, 8, LENT, res)
 ON_ROW(write_for_office, CONTENT, (const uint8_t *)"work", 4, LENT, res)
 ON_ROW(write_for_floor, CONTENT, (const uint8_t *)"work", 4, LENT, res)
+ON_ROW(build_line_index, CONTENT, out_lines, t.exact ? r->lines : r->view.data_len + 1, res)
+/* the list is the row's own: it holds the whole index, and extending leaves that */
+ON_ROW(extend_line_index, CONTENT, EARLIER(r), (uint32_t *)r->index, t.exact ? r->lines : MOST_LINES, r->index_before, res)
+ON_ROW(line_at, CONTENT, r->index, r->index_len, r->index_len / 2, res)
+ON_ROW(place_of, CONTENT, r->index, r->index_len, r->view.data_len / 2, res)
 ON_ROW(elide_start, r->view.data, r->view.data_len, (const uint8_t *)"..", 2, (uint32_t)r->half, out_data, ROOM, res)
 ON_ROW(elide_end, r->view.data, r->view.data_len, (const uint8_t *)"..", 2, (uint32_t)r->half, out_data, ROOM, res)
 ON_ROW(complete_newline, r->view.data, r->view.data_len, out_data, ROOM, res)
@@ -73,7 +81,8 @@ static const call calls[] = {
     OF(write_padded_start, false, false), OF(write_padded_end, false, false), OF(write_padded_centered, false, false),
     OF(write_indented, false, false), OF(write_unindented, false, false), OF(wrap_bytes, true, false), OF(write_wrapped, true, false),
     OF(write_replaced, false, false), OF(write_tabs_expanded, false, false), OF(write_for_office, false, false),
-    OF(write_for_floor, false, false), OF(elide_start, false, true), OF(elide_end, false, true), OF(complete_newline, false, true)};
+    OF(write_for_floor, false, false), OF(build_line_index, true, false), OF(extend_line_index, true, false), OF(line_at, false, false),
+    OF(place_of, false, false), OF(elide_start, false, true), OF(elide_end, false, true), OF(complete_newline, false, true)};
 
 static const call *named(const char *name)
 {
@@ -188,6 +197,13 @@ static void fill_row(row *r, uint8_t *data, size_t size, bool broken, size_t cou
     }
     r->view = (ruszvedok_view){data, size, r->entries, RUSZVEDOK_ENTRY_SIZE * count, r->text, used};
     r->half = CALL(ruszvedok_text_width)(data, size) / 2;
+    r->index[0] = 0;
+    r->index_len = r->index_before = 1;
+    for (size_t at = 0; at < size; at++)
+        if (data[at] == '\n') {
+            r->index_before += at < EARLIER(r);
+            r->index[r->index_len++] = (uint32_t)at + 1;
+        }
 }
 
 /* ---- timing ---- */
@@ -225,6 +241,7 @@ static void compare(const call *c, const char *of, row *rows, size_t count, task
         take(s);
         f[s] = dlsym(side, c->symbol);
         for (size_t i = 0; i < count; i++) {
+            memset(res, 0, sizeof res); /* a question writes three numbers */
             c->run(f[s], rows + i, (task){t.width, t.break_words, false});
             rows[i].lines = res[RUSZVEDOK_RES_NUMBER];
             for (int k = 0; k < 5; k++)

@@ -1,16 +1,18 @@
-//! The calls that are timed. A new one is one more line of `CASES`: its name and a function from an input to the two sides.
+//! The calls that are timed. A new one is one more line of `CASES`: its name and a function from an input to the two sides. Those of the line
+//! index are `LINE_INDEX_CASES`.
 use std::cell::RefCell;
 use std::hint::black_box;
 use std::io::{Result as Io, Write as _};
 use std::rc::Rc;
 
-use bench::inputs::{Input, Numbers, ROWS, SHORT_ROWS, SIZES, Size, TABBED};
-use bench::ours;
+use bench::inputs::{Input, LONG_ROWS, Numbers, ROWS, SHORT_ROWS, SIZES, Size, TABBED};
+use bench::ours::{self, ByByte, ByMemchr, Newlines};
 use bench::recordings::{self, Answer, Left, view};
 use bench::room::Room;
 use bench::timing::Pair;
 use oracle::original::{FormatRecorder, Formatter};
 use oracle::{Entry, Kind, Lists, Recording, original};
+use ruszvedok::Refusal;
 use ruszvedok::lent::{self, LINE_NUMBERS, Place, Replacement, Used, View};
 
 pub struct Case {
@@ -62,6 +64,32 @@ pub const CASES: &[Case] = &[
     Case { name: "typed_write_truncated_end", sizes: &ROWS, sides: typed_write_truncated_end },
     Case { name: "made_by_adding", sizes: &SHORT_ROWS, sides: made_by_adding },
 ];
+
+/// Those of the line index, for lines of about so many bytes: each against both forms of ours, lists that surely have room or are exactly full.
+macro_rules! line_index_cases {
+    ($($of:literal, $sizes:expr, $line:expr;)*) => { &[$(
+        Case { name: concat!("build_line_index", $of), sizes: $sizes, sides: |input| build_line_index::<ByByte>(input, $line, false) },
+        Case { name: concat!("build_line_index_by_memchr", $of), sizes: $sizes, sides: |input| build_line_index::<ByMemchr>(input, $line, false) },
+        Case { name: concat!("build_line_index_exact", $of), sizes: $sizes, sides: |input| build_line_index::<ByByte>(input, $line, true) },
+        Case { name: concat!("build_line_index_by_memchr_exact", $of), sizes: $sizes, sides: |input| build_line_index::<ByMemchr>(input, $line, true) },
+        Case { name: concat!("extend_line_index", $of), sizes: $sizes, sides: |input| extend_line_index::<ByByte>(input, $line, false) },
+        Case { name: concat!("extend_line_index_by_memchr", $of), sizes: $sizes, sides: |input| extend_line_index::<ByMemchr>(input, $line, false) },
+        Case { name: concat!("extend_line_index_exact", $of), sizes: $sizes, sides: |input| extend_line_index::<ByByte>(input, $line, true) },
+        Case { name: concat!("extend_line_index_by_memchr_exact", $of), sizes: $sizes, sides: |input| extend_line_index::<ByMemchr>(input, $line, true) },
+        Case { name: concat!("line_at", $of), sizes: $sizes, sides: |input| line_at::<ByByte>(input, $line) },
+        Case { name: concat!("line_at_by_memchr", $of), sizes: $sizes, sides: |input| line_at::<ByMemchr>(input, $line) },
+        Case { name: concat!("place_of", $of), sizes: $sizes, sides: |input| place_of::<ByByte>(input, $line) },
+        Case { name: concat!("place_of_by_memchr", $of), sizes: $sizes, sides: |input| place_of::<ByMemchr>(input, $line) },
+    )*] };
+}
+
+pub const LINE_INDEX_CASES: &[Case] = line_index_cases! {
+    "", &ROWS, BOARD;
+    "_lines_1000", &LONG_ROWS, 1000;
+    "_lines_16000", &LONG_ROWS, 16_000;
+    "_no_newline", &LONG_ROWS, NO_NEWLINE;
+    "_all_newlines", &LONG_ROWS, ALL_NEWLINES;
+};
 
 fn text_width(input: &Input) -> Result<Pair, String> {
     Pair::of_values(input.texts.clone(), |s| original::text_width(s) as u64, |s| lent::text_width(s))
@@ -446,6 +474,102 @@ fn write_for_floor(rust: Ours, rows: Vec<Row>) -> Result<Pair, String> {
         rows,
         move |row, out| rust(out, &row.recorder, PRICE),
         |row, room| lent::write_for_floor(view(&row.lists), PRICE, room.lent()),
+    )
+}
+
+/// Bytes of a board row, and two lengths of a line that are none: no 0A, and nothing else.
+const BOARD: usize = 80;
+const NO_NEWLINE: usize = 0;
+const ALL_NEWLINES: usize = 1;
+
+/// A recording with its index, and that of its first nine tenths.
+struct Indexed {
+    lists: Lists,
+    index: Vec<u32>,
+    earlier: usize,
+    before: Vec<u32>,
+}
+
+impl Indexed {
+    /// In lines of about that many bytes, entries as in other rows.
+    fn new(text: &[u8], line: usize, numbers: &mut Numbers) -> Self {
+        let data = match line {
+            NO_NEWLINE => text.iter().map(|byte| if *byte == b'\n' { b' ' } else { *byte }).collect(),
+            _ => indented(text, b"", line, numbers),
+        };
+        let starts = |data: &[u8]| [0].into_iter().chain(ByByte::behind(data).map(|at| at as u32)).collect();
+        let earlier = data.len() * 9 / 10;
+        let (index, before) = (starts(&data), starts(&data[..earlier]));
+        let count = (data.len() / FEW / 2 * 2).max(6);
+        Self { lists: recordings::labelled(data, count).to_lists(), index, earlier, before }
+    }
+}
+
+fn indexed(input: &Input, line: usize) -> Vec<Indexed> {
+    let mut numbers = Numbers::new((input.size + line) as u64);
+    input.texts.iter().map(|text| Indexed::new(text, line, &mut numbers)).collect()
+}
+
+/// Both sides leave the index in a list that is lent again and again: one that surely has room, or one that is exactly long enough. It holds
+/// at first what `before` says of the content.
+fn on_list(
+    rows: Vec<Indexed>,
+    exact: bool,
+    before: fn(&Indexed) -> &[u32],
+    rust: fn(&Indexed, &mut [u32]) -> Result<usize, u64>,
+    rattle: fn(&Indexed, &mut [u32]) -> Left,
+) -> Result<Pair, String> {
+    let list = move |row: &Indexed| {
+        let mut list = before(row).to_vec();
+        list.resize(if exact { row.index.len() } else { row.lists.data.len() + 1 }, 7);
+        list
+    };
+    let rows: Vec<_> = rows.into_iter().map(|row| (RefCell::new(list(&row)), RefCell::new(list(&row)), row)).collect();
+    let check = |(ours, theirs, row): &(RefCell<Vec<u32>>, RefCell<Vec<u32>>, Indexed)| {
+        let (count, got) = (rust(row, &mut ours.borrow_mut()), rattle(row, &mut theirs.borrow_mut()));
+        let same = count == Ok(row.index.len()) && got.map(|done| done.number as usize).ok() == count.ok() && ours == theirs;
+        if same && ours.borrow().starts_with(&row.index) { Ok(()) } else { Err(format!("other results: {count:?}, {got:?}")) }
+    };
+    Pair::new(rows, check, move |(ours, _, row)| rust(row, &mut ours.borrow_mut()), move |(_, theirs, row)| rattle(row, &mut theirs.borrow_mut()))
+}
+
+/// Against a function of ours, as in all cases of the line index: the original has none.
+fn build_line_index<N: Newlines>(input: &Input, line: usize, exact: bool) -> Result<Pair, String> {
+    on_list(
+        indexed(input, line),
+        exact,
+        |_| &[],
+        |row, list| ours::build_line_index::<N>(&row.lists, list),
+        |row, list| lent::build_line_index(view(&row.lists), list),
+    )
+}
+
+/// By the last tenth of the data.
+fn extend_line_index<N: Newlines>(input: &Input, line: usize, exact: bool) -> Result<Pair, String> {
+    on_list(
+        indexed(input, line),
+        exact,
+        |row| &row.before,
+        |row, list| ours::extend_line_index::<N>(&row.lists, row.earlier, list, row.before.len()),
+        |row, list| lent::extend_line_index(view(&row.lists), row.earlier, list, row.before.len()),
+    )
+}
+
+/// The line in the middle.
+fn line_at<N: Newlines>(input: &Input, line: usize) -> Result<Pair, String> {
+    Pair::of_values(
+        indexed(input, line),
+        |row| ours::line_at::<N>(&row.lists, &row.index, row.index.len() / 2),
+        |row| lent::line_at(view(&row.lists), &row.index, row.index.len() / 2).map(|line| (line.start, line.end)).map_err(Refusal::number),
+    )
+}
+
+/// The byte in the middle.
+fn place_of<N: Newlines>(input: &Input, line: usize) -> Result<Pair, String> {
+    Pair::of_values(
+        indexed(input, line),
+        |row| ours::place_of::<N>(&row.lists, &row.index, row.lists.data.len() / 2),
+        |row| lent::place_of(view(&row.lists), &row.index, row.lists.data.len() / 2).map(|at| (at.line, at.column)).map_err(Refusal::number),
     )
 }
 

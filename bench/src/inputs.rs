@@ -25,6 +25,7 @@ pub const SIZES: [Size; 4] = [(6, "6 B"), (80, "80 B"), (64 << 10, "64 KiB"), (1
 
 /// For the calls on recordings: results keep within the limit of 1 MiB.
 pub const ROWS: [Size; 3] = [(80, "80 B"), (64 << 10, "64 KiB"), (1_000_000, "1 MB")];
+pub const LONG_ROWS: [Size; 2] = [(64 << 10, "64 KiB"), (1_000_000, "1 MB")];
 pub const SHORT_ROWS: [Size; 2] = [(80, "80 B"), (64 << 10, "64 KiB")];
 /// For expanding tabs at stops of 8: with a tab in about 18 bytes a result can be longer by two fifths.
 pub const TABBED: [Size; 3] = [(80, "80 B"), (64 << 10, "64 KiB"), (700_000, "700 kB")];

@@ -5,7 +5,7 @@ use std::process::ExitCode;
 
 use bench::inputs::{Input, KINDS, Kind, PICTURES};
 use bench::timing;
-use cases::{CASES, Case};
+use cases::{CASES, Case, LINE_INDEX_CASES};
 
 fn table(case: &Case, kinds: &[(Kind, &str)], rounds: usize, many: usize) -> Result<(), String> {
     println!("\n### {}\n", case.name);
@@ -40,7 +40,8 @@ fn main() -> ExitCode {
             _ => names.push(word),
         }
     }
-    if let Some(name) = names.iter().find(|name| CASES.iter().all(|case| case.name != **name)) {
+    let cases = || CASES.iter().chain(LINE_INDEX_CASES);
+    if let Some(name) = names.iter().find(|name| cases().all(|case| case.name != **name)) {
         eprintln!("bench: no case {name}");
         return ExitCode::from(2);
     }
@@ -48,7 +49,7 @@ fn main() -> ExitCode {
         println!("Time of Rattle as a part of Rust's, below 1 is faster (in brackets: Rattle / Rust, nanoseconds a byte).");
         println!("The shortest of {rounds} rounds in turns; short inputs are {many} text(s) in a row.");
     }
-    for case in CASES.iter().filter(|case| names.is_empty() || names.iter().any(|name| name == case.name)) {
+    for case in cases().filter(|case| names.is_empty() || names.iter().any(|name| name == case.name)) {
         let done = if count { once(case) } else { table(case, kinds, rounds, many) };
         if let Err(difference) = done {
             eprintln!("bench: the sides differ: {difference}");

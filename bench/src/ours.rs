@@ -1,11 +1,14 @@
-//! Calls that the Rust original has not, each as the plainest good Rust over the original's recorder, to be timed beside the library's.
+//! Calls that the Rust original has not, each as the plainest good Rust over the original's recorder, to be timed beside the library's; those
+//! of the line index are over the three lists of a recording, which they check as the library does.
 use std::io::Result as Io;
 use std::ops::Range;
 
 use bstr::ByteSlice as _;
-use oracle::Kind;
 use oracle::original::{FormatRecorder, Formatter};
+use oracle::{Kind, Lists};
 use unicode_width::UnicodeWidthChar as _;
+
+use crate::recordings::fault;
 
 /// Writes the content with each tab replaced by spaces up to the next stop. In one pass: characters are read beside the replay, since an
 /// entry may stand inside of one, and what lies between two tabs is written at once. (`char_indices`, which the original reads with, would
@@ -258,4 +261,106 @@ fn floor(
     }
     floor.flush(formatter, data.len())?;
     Ok(0)
+}
+
+/// How the 0A of a text are found.
+pub trait Newlines {
+    /// The place after each 0A.
+    fn behind(data: &[u8]) -> impl Iterator<Item = usize>;
+}
+
+/// Byte by byte.
+pub struct ByByte;
+
+impl Newlines for ByByte {
+    fn behind(data: &[u8]) -> impl Iterator<Item = usize> {
+        data.iter().enumerate().filter(|(_, byte)| **byte == b'\n').map(|(at, _)| at + 1)
+    }
+}
+
+/// By `memchr`, which takes 32 bytes at a time where the processor has AVX2.
+pub struct ByMemchr;
+
+impl Newlines for ByMemchr {
+    fn behind(data: &[u8]) -> impl Iterator<Item = usize> {
+        let mut at = 0;
+        std::iter::from_fn(move || {
+            at += data[at..].find_byte(b'\n')? + 1;
+            Some(at)
+        })
+    }
+}
+
+/// The data of a content that is a recording; otherwise the number of its refusal.
+fn checked(content: &Lists) -> Result<&[u8], u64> {
+    match fault(content) {
+        0 => Ok(&content.data),
+        number => Err(number),
+    }
+}
+
+/// Whether the list is the index of the data.
+fn is_index<N: Newlines>(data: &[u8], index: &[u32]) -> bool {
+    match index.split_first() {
+        Some((0, rest)) => rest.iter().map(|at| *at as usize).eq(N::behind(data)),
+        _ => false,
+    }
+}
+
+/// Puts the starts of the lines behind `earlier` after the first `used` numbers, if they fit; gives back how many there are then. A list
+/// with a number for each byte surely has room, so that nothing needs to be counted.
+fn put_starts<N: Newlines>(data: &[u8], earlier: usize, index: &mut [u32], used: usize) -> Result<usize, u64> {
+    let (data, index) = (&data[earlier..], &mut index[used..]);
+    if index.len() < data.len() && index.len() < N::behind(data).count() {
+        return Err(36);
+    }
+    let mut count = used;
+    for (to, at) in index.iter_mut().zip(N::behind(data)) {
+        *to = (earlier + at) as u32;
+        count += 1;
+    }
+    Ok(count)
+}
+
+/// The line index of the data; gives back how many lines there are, or the number of its refusal.
+pub fn build_line_index<N: Newlines>(content: &Lists, index: &mut [u32]) -> Result<usize, u64> {
+    let data = checked(content)?;
+    if index.is_empty() {
+        return Err(36);
+    }
+    let count = put_starts::<N>(data, 0, index, 1)?;
+    index[0] = 0;
+    Ok(count)
+}
+
+/// The same for a list whose first `used` numbers are the index of the first `earlier` bytes.
+pub fn extend_line_index<N: Newlines>(content: &Lists, earlier: usize, index: &mut [u32], used: usize) -> Result<usize, u64> {
+    let data = checked(content)?;
+    match (data.get(..earlier), index.get(..used)) {
+        (Some(before), Some(held)) if is_index::<N>(before, held) => put_starts::<N>(data, earlier, index, used),
+        _ => Err(36),
+    }
+}
+
+/// The first byte and the end of line n.
+pub fn line_at<N: Newlines>(content: &Lists, index: &[u32], n: usize) -> Result<(usize, usize), u64> {
+    let data = checked(content)?;
+    if !is_index::<N>(data, index) {
+        return Err(36);
+    }
+    let first = *index.get(n).ok_or(37u64)?;
+    Ok((first as usize, index.get(n + 1).map_or(data.len(), |next| *next as usize - 1)))
+}
+
+/// The line and the byte column of an offset.
+pub fn place_of<N: Newlines>(content: &Lists, index: &[u32], offset: usize) -> Result<(usize, usize), u64> {
+    let data = checked(content)?;
+    if !is_index::<N>(data, index) {
+        return Err(36);
+    }
+    if offset > data.len() {
+        return Err(37);
+    }
+    let line = index.partition_point(|start| *start as usize <= offset) - 1;
+    Ok((line, offset - index[line] as usize))
 }

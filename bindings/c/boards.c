@@ -1,5 +1,5 @@
 /* Every function of the header once or more: document 01's cases C1 to C16, a refusal of each kind that lengths can give, and the
- * calls over structs; lists of calls. */
+ * calls over structs; lists of calls; a line index. */
 #include "ruszvedok.h"
 
 #include <stdio.h>
@@ -298,6 +298,99 @@ static void list_numbers(void)
 #undef RUN
 }
 
+/* What the three numbers of a question are. */
+static void replied(const char *what, const uint64_t *reply, uint64_t refusal, uint64_t first, uint64_t second)
+{
+    expect(what, reply[0] == refusal && reply[1] == first && reply[2] == second);
+}
+
+/* A list of line starts: how many there are by the answer, what they are, and that nothing is touched beyond them. */
+static void starts(const char *what, const uint32_t *index, size_t room, uint32_t count)
+{
+    static const uint32_t wanted[] = {0, 2, 5};
+    size_t k;
+    expect(what, res[0] == 0 && (res[1] | res[2] | res[3]) == 0 && res[RUSZVEDOK_RES_NUMBER] == count);
+    for (k = 0; k < room; k++)
+        expect(what, index[k] == (k < count ? wanted[k] : 7));
+}
+
+/* A line index of "a", "bb" and an empty line: built, extended, asked, and what is refused. */
+static void line_index(void)
+{
+    uint32_t index[4] = {7, 7, 7, 7};
+    uint64_t reply[3] = {7, 7, 7};
+    ruszvedok_build_line_index(PLAIN("a\nbb\n"), index, 2, res);
+    refused("index, too short", RUSZVEDOK_LINE_INDEX);
+    expect("index, too short", index[0] == 7 && index[1] == 7);
+    ruszvedok_build_line_index(PLAIN(""), index, 4, res);
+    starts("index of no data", index, 4, 1);
+    ruszvedok_extend_line_index(PLAIN("a\nb"), 0, index, 4, 1, res);
+    starts("index, extended", index, 4, 2);
+    ruszvedok_extend_line_index(PLAIN("a\nbb\n"), 3, index, 2, 2, res);
+    refused("index, too short to extend", RUSZVEDOK_LINE_INDEX);
+    ruszvedok_extend_line_index(PLAIN("a\nbb\n"), 3, index, 4, 0, res);
+    refused("index, nothing to extend", RUSZVEDOK_LINE_INDEX);
+    ruszvedok_extend_line_index(PLAIN("a\nbb\n"), 3, index, 4, 5, res);
+    refused("index, used above its length", RUSZVEDOK_LINE_INDEX);
+    ruszvedok_extend_line_index(PLAIN("a\nbb\n"), 6, index, 4, 2, res);
+    refused("index, earlier above the data's length", RUSZVEDOK_LINE_INDEX);
+    ruszvedok_extend_line_index(PLAIN("a\nbb\n"), 1, index, 4, 2, res);
+    refused("index, of other data", RUSZVEDOK_LINE_INDEX);
+    expect("index, what it held", index[0] == 0 && index[1] == 2 && index[2] == 7 && index[3] == 7);
+    ruszvedok_extend_line_index(PLAIN("a\nbb\n"), 3, index, 4, 2, res);
+    starts("index, extended again", index, 4, 3);
+    ruszvedok_build_line_index(PLAIN("a\nbb\n"), index, 3, res);
+    starts("index, built", index, 4, 3);
+#define LINE(content, count, n) (ruszvedok_line_at(PLAIN(content), index, count, n, reply), reply)
+#define PLACE(content, count, offset) (ruszvedok_place_of(PLAIN(content), index, count, offset, reply), reply)
+    replied("line 0", LINE("a\nbb\n", 3, 0), 0, 0, 1);
+    replied("line 1", LINE("a\nbb\n", 3, 1), 0, 2, 4);
+    replied("line 2", LINE("a\nbb\n", 3, 2), 0, 5, 5);
+    replied("no line 3", LINE("a\nbb\n", 3, 3), RUSZVEDOK_NO_SUCH_PLACE, 0, 0);
+    replied("line, index too long", LINE("a\nbb\n", 4, 3), RUSZVEDOK_LINE_INDEX, 0, 0);
+    replied("line, of other data", LINE("a\nbb\n\n", 3, 0), RUSZVEDOK_LINE_INDEX, 0, 0);
+    replied("offset 1, a 0A", PLACE("a\nbb\n", 3, 1), 0, 0, 1);
+    replied("offset 2", PLACE("a\nbb\n", 3, 2), 0, 1, 0);
+    replied("offset 4", PLACE("a\nbb\n", 3, 4), 0, 1, 2);
+    replied("offset 5, the end", PLACE("a\nbb\n", 3, 5), 0, 2, 0);
+    replied("no offset 6", PLACE("a\nbb\n", 3, 6), RUSZVEDOK_NO_SUCH_PLACE, 0, 0);
+    replied("offset, index too short", PLACE("a\nbb\n", 2, 0), RUSZVEDOK_LINE_INDEX, 0, 0);
+#undef LINE
+#undef PLACE
+    /* A content that is no recording comes first. */
+    ruszvedok_line_at(BYTES("a"), entries, 3, text, 0, index, 0, 9, reply);
+    replied("line, no recording", reply, RUSZVEDOK_ENTRY_NUMBERS, 0, 0);
+    ruszvedok_build_line_index(BYTES("a"), entries, 3, text, 0, index, 0, res);
+    refused("index, no recording", RUSZVEDOK_ENTRY_NUMBERS);
+}
+
+/* The same over structs. */
+static void line_index_structs(void)
+{
+    ruszvedok_line line;
+    ruszvedok_line_column at;
+    RUSZVEDOK_RECORDING(rows, 16, 4, 4);
+    RUSZVEDOK_LINE_STARTS(index, 3);
+    RUSZVEDOK_LINE_STARTS(built, 3);
+    line = ruszvedok_line_at_in(&index, ruszvedok_plain(""), 0);
+    expect("no data, structs", line.refusal == 0 && line.first == 0 && line.end == 0);
+    ruszvedok_string_to(&rows, "a\nb");
+    expect("extended, structs", ruszvedok_extend_line_index_to(&index, ruszvedok_view_of(&rows)).number == 2 && index.data_len == 3);
+    ruszvedok_labeled_to(&rows, "x", "b\n");
+    expect("stale, structs", ruszvedok_line_at_in(&index, ruszvedok_view_of(&rows), 0).refusal == RUSZVEDOK_LINE_INDEX);
+    expect("extended again, structs", ruszvedok_extend_line_index_to(&index, ruszvedok_view_of(&rows)).number == 3 && index.starts_len == 3);
+    expect("built, structs", ruszvedok_build_line_index_to(&built, ruszvedok_view_of(&rows)).number == 3 && built.data_len == 5
+            && memcmp(index_starts, built_starts, sizeof built_starts) == 0);
+    line = ruszvedok_line_at_in(&built, ruszvedok_view_of(&rows), 1);
+    expect("line, structs", line.refusal == 0 && line.first == 2 && line.end == 4);
+    at = ruszvedok_place_of_in(&built, ruszvedok_view_of(&rows), 4);
+    expect("place, structs", at.refusal == 0 && at.line == 1 && at.column == 2);
+    expect("no place, structs", ruszvedok_place_of_in(&built, ruszvedok_view_of(&rows), 6).refusal == RUSZVEDOK_NO_SUCH_PLACE);
+    ruszvedok_string_to(&rows, "\n");
+    expect("no room, structs", ruszvedok_extend_line_index_to(&index, ruszvedok_view_of(&rows)).refusal == RUSZVEDOK_LINE_INDEX
+            && index.starts_len == 3 && index.data_len == 5);
+}
+
 /* Adding over structs, and reading part by part. */
 static void parts(void)
 {
@@ -343,6 +436,8 @@ int main(void)
     structs();
     lists();
     list_numbers();
+    line_index();
+    line_index_structs();
     parts();
     names();
     return failed;

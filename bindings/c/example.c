@@ -1,7 +1,7 @@
 /* A board row, recorded with its grades as labels, then truncated, padded and wrapped, by calls of their own and as a list of
  * calls; each result is printed with its labels, and the wrapped lines once more, right-aligned. Two rows of a ticket, whose tabs
- * go to stops; they are indented, and the indent is taken off. A row with a price, as the office and as the floor reads it.
- * Plain C11, and C++ as well. */
+ * go to stops; they are indented, and the indent is taken off. A row with a price, as the office and as the floor reads it. A line
+ * index of the ticket, extended after a row. Plain C11, and C++ as well. */
 #include "ruszvedok.h"
 
 #include <stdio.h>
@@ -56,10 +56,13 @@ int main(void)
     RUSZVEDOK_RECORDING(out, 256, 16, 128);
     RUSZVEDOK_RECORDING(other, 256, 16, 128);
     RUSZVEDOK_CALLS(list, 3, 16, 16);
+    RUSZVEDOK_LINE_STARTS(index, 8);
     RUSZVEDOK_RECORDING(few, 8, 16, 128);
     uint32_t lines[16 * RUSZVEDOK_LINE_NUMBERS];
     ruszvedok_call_answer answers[3];
     ruszvedok_answer answer;
+    ruszvedok_line line;
+    ruszvedok_line_column at;
     ruszvedok_view content, ellipsis;
     size_t k, untouched = 0;
 
@@ -112,6 +115,17 @@ int main(void)
     print("for the office, width", (unsigned)ruszvedok_text_width(out.data, out.data_len), ruszvedok_view_of(&out));
     number(ruszvedok_write_for_floor_to(&out, ruszvedok_view_of(&priced), (const uint8_t *)"price", 5));
     print("for the floor, width", (unsigned)ruszvedok_text_width(out.data, out.data_len), ruszvedok_view_of(&out));
+
+    /* A console jumps to a row, and shows the row of a byte. The index is kept beside the data and extended after an append. */
+    number(ruszvedok_build_line_index_to(&index, ruszvedok_view_of(&ticket)));
+    number(ruszvedok_string_to(&ticket, "\nfir\t16 ft"));
+    answer = ruszvedok_extend_line_index_to(&index, ruszvedok_view_of(&ticket));
+    line = ruszvedok_line_at_in(&index, ruszvedok_view_of(&ticket), 2);
+    at = ruszvedok_place_of_in(&index, ruszvedok_view_of(&ticket), 20);
+    if (line.refusal != 0 || at.refusal != 0)
+        return 1;
+    printf("line 2 of %u: bytes %u to %u\n", number(answer), (unsigned)line.first, (unsigned)line.end);
+    printf("byte 20: line %u, byte column %u\n", (unsigned)at.line, (unsigned)at.column);
 
     /* Eight bytes are too few for the result: the call is refused and leaves them alone. */
     memset(few_data, 0xEE, sizeof few_data);

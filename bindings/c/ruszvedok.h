@@ -15,12 +15,14 @@
  *   the refusal (0: none), data length, number of entry numbers, text length, and the call's number (a width or a count, or 0).
  * After a refusal the other four are 0 and every buffer holds what it held. Otherwise each buffer holds the result from its first
  * place on, and all beyond it is untouched. The texts of a result's entries lie one after another from 0, in entry order.
+ * A question writes no buffer: its `res` gets three numbers, the refusal (0: none) and the two asked for, 0 after a refusal.
  *
  * No call allocates, keeps a pointer, or has a state of its own; calls over different buffers may run at the same time.
  *
  * The calls on recordings stand here twice: as the library exports them, and at the end, with _to behind the name, over the structs
  * ruszvedok_view (a recording that is read) and ruszvedok_recording (buffers that hold one), which are shorter to use. A whole list of
- * layout calls is made in one call by ruszvedok_run_calls_to: ruszvedok_add_call makes the list. */
+ * layout calls is made in one call by ruszvedok_run_calls_to: ruszvedok_add_call makes the list. A ruszvedok_line_index is built and
+ * extended by functions with _to behind the name too, and asked by those with _in. */
 #ifndef RUSZVEDOK_H
 #define RUSZVEDOK_H
 
@@ -214,6 +216,29 @@ typedef struct ruszvedok_calls {
     uint32_t name##_pool_numbers[number_count]; \
     ruszvedok_calls name = {name##_calls, call_count, 0, name##_pool, byte_count, 0, name##_pool_numbers, number_count, 0}
 
+/* A line index: the list of line starts, its number of elements, how many of them are used, and how long the data is that it is of. */
+typedef struct ruszvedok_line_index {
+    uint32_t *starts;
+    size_t starts_room, starts_len, data_len;
+} ruszvedok_line_index;
+
+/* Declares a ruszvedok_line_index `name` with room of its own for so many lines, 1 at least: the index of no data, which is 0 alone. */
+#define RUSZVEDOK_LINE_STARTS(name, line_count) \
+    uint32_t name##_starts[line_count] = {0}; \
+    ruszvedok_line_index name = {name##_starts, line_count, 1, 0}
+
+/* Where a line is, or a refusal: its first byte, and its end. */
+typedef struct ruszvedok_line {
+    uint64_t refusal;
+    size_t first, end;
+} ruszvedok_line;
+
+/* The line of an offset and its byte column there, or a refusal. */
+typedef struct ruszvedok_line_column {
+    uint64_t refusal;
+    size_t line, column;
+} ruszvedok_line_column;
+
 /* ======== written by tools/declarations from the library's sources ======== */
 
 /* The version of this header. */
@@ -250,7 +275,7 @@ enum ruszvedok_call_kind {
 };
 
 /* Refusals. The first cause in this order is given: 10; the content, then the second recording, each 1, 2, 5 for its lengths and
- * then entry by entry 3, 4, 5, 6; a pushed label (6), an appended raw sequence (3); 7; 8; 31; 32; 33; 34; 35; 9; 21 to 24.
+ * then entry by entry 3, 4, 5, 6; a pushed label (6), an appended raw sequence (3); 7; 8; 31 to 37; 9; 21 to 24.
  * Of a list of calls: 10; 61; 62; 63. */
 enum ruszvedok_refusal {
     RUSZVEDOK_DATA_TOO_LONG = 1,           /* Data over its limit. */
@@ -272,6 +297,8 @@ enum ruszvedok_refusal {
     RUSZVEDOK_PREFIX_MISSING = 33,         /* A line that is not empty and does not begin with the prefix to be taken off. */
     RUSZVEDOK_VIEW_LABEL = 34,             /* A reader's label that is empty or not well-formed UTF-8. */
     RUSZVEDOK_CONTENT_UNBALANCED = 35,     /* A content whose labels are not balanced. */
+    RUSZVEDOK_LINE_INDEX = 36,             /* A line index that is too short for its numbers, or not that of the data. */
+    RUSZVEDOK_NO_SUCH_PLACE = 37,          /* A line or an offset that is not there. */
     RUSZVEDOK_SETS_DIFFER = 61,            /* Two sets of buffers that differ in a length. */
     RUSZVEDOK_CALL_NUMBERS = 62,           /* Calls that are not eight numbers each, an unknown kind, a range not within its pool. */
     RUSZVEDOK_ANSWER_LIST_TOO_SHORT = 63   /* The list of answers is too short, at two numbers a call. */
@@ -301,6 +328,8 @@ static inline const char *ruszvedok_refusal_name(uint64_t refusal)
     case RUSZVEDOK_PREFIX_MISSING: return "PREFIX_MISSING";
     case RUSZVEDOK_VIEW_LABEL: return "VIEW_LABEL";
     case RUSZVEDOK_CONTENT_UNBALANCED: return "CONTENT_UNBALANCED";
+    case RUSZVEDOK_LINE_INDEX: return "LINE_INDEX";
+    case RUSZVEDOK_NO_SUCH_PLACE: return "NO_SUCH_PLACE";
     case RUSZVEDOK_SETS_DIFFER: return "SETS_DIFFER";
     case RUSZVEDOK_CALL_NUMBERS: return "CALL_NUMBERS";
     case RUSZVEDOK_ANSWER_LIST_TOO_SHORT: return "ANSWER_LIST_TOO_SHORT";
@@ -332,6 +361,8 @@ static inline const char *ruszvedok_refusal_reason(uint64_t refusal)
     case RUSZVEDOK_PREFIX_MISSING: return "a line that is not empty and does not begin with the prefix to be taken off";
     case RUSZVEDOK_VIEW_LABEL: return "a reader's label that is empty or not well-formed UTF-8";
     case RUSZVEDOK_CONTENT_UNBALANCED: return "a content whose labels are not balanced";
+    case RUSZVEDOK_LINE_INDEX: return "a line index that is too short for its numbers, or not that of the data";
+    case RUSZVEDOK_NO_SUCH_PLACE: return "a line or an offset that is not there";
     case RUSZVEDOK_SETS_DIFFER: return "two sets of buffers that differ in a length";
     case RUSZVEDOK_CALL_NUMBERS: return "calls that are not eight numbers each, an unknown kind, a range not within its pool";
     case RUSZVEDOK_ANSWER_LIST_TOO_SHORT: return "the list of answers is too short, at two numbers a call";
@@ -491,6 +522,45 @@ void ruszvedok_write_for_floor(
     const uint8_t *label, size_t label_len,
     uint8_t *out_data, size_t out_data_len, uint32_t *out_entries, size_t out_entries_len, uint8_t *out_text, size_t out_text_len,
     uint64_t res[5]);
+
+/* ---- a line index beside the data, which no list of calls holds: `index` is a list of line starts ---- */
+
+/* Puts the line index of a recording's data into `index`: 0, and the place after each 0A. The number is how many lines there
+ * are. Data of n bytes has at most n + 1 lines; a 0A belongs to the line that it ends. The lengths in `res` are 0. A list
+ * that is too short is refused by 36. */
+void ruszvedok_build_line_index(
+    const uint8_t *content, size_t content_len, const uint32_t *entries, size_t entries_len, const uint8_t *text, size_t text_len,
+    uint32_t *index, size_t index_len,
+    uint64_t res[5]);
+
+/* Makes a line index that of the data after an append: the first `used` numbers of `index` are that of the first `earlier`
+ * bytes. The number is how many lines there are. It leaves what ruszvedok_build_line_index leaves for all the data. Refused
+ * by 36: `used` above the list's length, `earlier` above the data's, numbers that are not that index (so `used` = 0 always),
+ * a list too short for the result. */
+void ruszvedok_extend_line_index(
+    const uint8_t *content, size_t content_len, const uint32_t *entries, size_t entries_len, const uint8_t *text, size_t text_len,
+    size_t earlier,
+    uint32_t *index, size_t index_len,
+    size_t used,
+    uint64_t res[5]);
+
+/* Where line n is, counted from 0: its first byte, and its end, which is the place of its 0A or the data's end. `index` is the
+ * line index of the data. `res` gets three numbers: the refusal or 0, the first byte and the end. An `index` that is not
+ * exactly the numbers of that index is refused by 36, then a line that is not there by 37. */
+void ruszvedok_line_at(
+    const uint8_t *content, size_t content_len, const uint32_t *entries, size_t entries_len, const uint8_t *text, size_t text_len,
+    const uint32_t *index, size_t index_len,
+    size_t n,
+    uint64_t res[3]);
+
+/* The line of an offset and its byte column there, both counted from 0. `index` is the line index of the data. `res` gets three
+ * numbers: the refusal or 0, the line and the column. The offset may be the data length. Refused as ruszvedok_line_at is: by
+ * 36, then an offset beyond the data by 37. */
+void ruszvedok_place_of(
+    const uint8_t *content, size_t content_len, const uint32_t *entries, size_t entries_len, const uint8_t *text, size_t text_len,
+    const uint32_t *index, size_t index_len,
+    size_t offset,
+    uint64_t res[3]);
 
 /* ---- a list of calls on recordings ---- */
 
@@ -735,6 +805,57 @@ static inline ruszvedok_answer ruszvedok_run_calls_to(
     if (res[RUSZVEDOK_RES_REFUSAL] == 0)
         other->data_len = other->entries_len = other->text_len = 0;
     return ruszvedok_take_over(to, res);
+}
+
+/* Takes over what a call left in a line index; after a refusal it is what it was. */
+static inline ruszvedok_answer ruszvedok_take_over_index(ruszvedok_line_index *index, ruszvedok_view content, const uint64_t res[5])
+{
+    ruszvedok_answer answer = ruszvedok_answer_of(res);
+    if (answer.refusal == 0) {
+        index->starts_len = (size_t)answer.number;
+        index->data_len = content.data_len;
+    }
+    return answer;
+}
+
+/* Makes `index` that of the data, whatever it held. */
+static inline ruszvedok_answer ruszvedok_build_line_index_to(ruszvedok_line_index *index, ruszvedok_view content)
+{
+    uint64_t res[5];
+    ruszvedok_build_line_index(RUSZVEDOK_READ(content), index->starts, index->starts_room, res);
+    return ruszvedok_take_over_index(index, content, res);
+}
+
+/* Makes `index`, which is that of the data before an append, that of all the data. */
+static inline ruszvedok_answer ruszvedok_extend_line_index_to(ruszvedok_line_index *index, ruszvedok_view content)
+{
+    uint64_t res[5];
+    ruszvedok_extend_line_index(RUSZVEDOK_READ(content), index->data_len, index->starts, index->starts_room, index->starts_len, res);
+    return ruszvedok_take_over_index(index, content, res);
+}
+
+/* Line n of the data, counted from 0, by its index. */
+static inline ruszvedok_line ruszvedok_line_at_in(const ruszvedok_line_index *index, ruszvedok_view content, size_t n)
+{
+    uint64_t res[3];
+    ruszvedok_line line;
+    ruszvedok_line_at(RUSZVEDOK_READ(content), index->starts, index->starts_len, n, res);
+    line.refusal = res[0];
+    line.first = (size_t)res[1];
+    line.end = (size_t)res[2];
+    return line;
+}
+
+/* Line and byte column of an offset, by the data's index. */
+static inline ruszvedok_line_column ruszvedok_place_of_in(const ruszvedok_line_index *index, ruszvedok_view content, size_t offset)
+{
+    uint64_t res[3];
+    ruszvedok_line_column at;
+    ruszvedok_place_of(RUSZVEDOK_READ(content), index->starts, index->starts_len, offset, res);
+    at.refusal = res[0];
+    at.line = (size_t)res[1];
+    at.column = (size_t)res[2];
+    return at;
 }
 
 /* Adds a string. */

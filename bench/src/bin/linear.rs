@@ -1,8 +1,9 @@
 //! Wrapping texts that are hard for it, at 64 KiB and 1 MiB: nanoseconds a byte of the library, with a line list that surely has room and with one
-//! that is exactly long enough, which must be found out by counting first. Linear time: the two sizes cost about the same a byte.
+//! that is exactly long enough, which must be found out by counting first. Then the calls of the line index, from no 0A to nothing else. Linear
+//! time: the two sizes cost about the same a byte.
 use std::time::{Duration, Instant};
 
-use ruszvedok::lent::{LINE_NUMBERS, wrap_bytes};
+use ruszvedok::lent::{LINE_NUMBERS, View, build_line_index, extend_line_index, line_at, place_of, wrap_bytes};
 
 const SIZES: [usize; 2] = [1 << 16, 1 << 20];
 const ROUNDS: usize = 15;
@@ -21,18 +22,58 @@ const TEXTS: &[(&str, &[u8], u32, bool)] = &[
     ("line ends", b"\n", 80, false),
 ];
 
-fn nanoseconds(text: &[u8], width: u32, break_words: bool, lines: &mut [u32]) -> f64 {
+/// Name, and what the text repeats.
+const INDEXED: &[(&str, &[u8])] = &[
+    ("no line end", b"x"),
+    ("lines of 80 bytes", b"0123456789abcdef0123456789abcdef0123456789abcdef0123456789abcdef0123456789abcde\n"),
+    ("lines of 10 bytes", b"oak 12 ft\n"),
+    ("line ends", b"\n"),
+];
+
+/// The shortest time of a call that is not refused, a byte of the text.
+fn nanoseconds(size: usize, mut is_answered: impl FnMut() -> bool) -> f64 {
     let mut shortest = Duration::MAX;
     for _ in 0..ROUNDS {
         let start = Instant::now();
-        let answer = wrap_bytes(text, width, break_words, lines);
+        let answered = is_answered();
         shortest = shortest.min(start.elapsed());
-        assert!(answer.is_ok());
+        assert!(answered);
     }
-    shortest.as_secs_f64() * 1e9 / text.len() as f64
+    shortest.as_secs_f64() * 1e9 / size as f64
 }
 
 fn main() {
+    wrapping();
+    println!();
+    line_index();
+}
+
+/// The list of `build_line_index` surely has room or is exactly long enough; extending is by the last tenth, and the line and the byte asked
+/// for are the last ones.
+fn line_index() {
+    let calls = ["`build_line_index`", "exact list", "`extend_line_index`", "`line_at`", "`place_of`"];
+    println!("| text | {} |\n|---|{}", calls.map(|name| format!("{name}, 64 KiB | 1 MiB")).join(" | "), "---|".repeat(2 * calls.len()));
+    for &(name, unit) in INDEXED {
+        let [small, large] = SIZES.map(|size| {
+            let text = unit.repeat(size / unit.len());
+            let (content, earlier) = (View { data: &text, ..View::default() }, text.len() * 9 / 10);
+            let mut list = vec![0; text.len() + 1];
+            let used = build_line_index(View { data: &text[..earlier], ..content }, &mut list).unwrap().number as usize;
+            let extending = nanoseconds(text.len(), || extend_line_index(content, earlier, &mut list, used).is_ok());
+            let roomy = nanoseconds(text.len(), || build_line_index(content, &mut list).is_ok());
+            let count = build_line_index(content, &mut list).unwrap().number as usize;
+            list.truncate(count);
+            let exact = nanoseconds(text.len(), || build_line_index(content, &mut list).is_ok());
+            let line = nanoseconds(text.len(), || line_at(content, &list, list.len() - 1).is_ok());
+            let place = nanoseconds(text.len(), || place_of(content, &list, text.len()).is_ok());
+            [roomy, exact, extending, line, place]
+        });
+        let cells: Vec<_> = small.iter().zip(large).map(|(small, large)| format!("{small:.2} | {large:.2}")).collect();
+        println!("| {name} | {} |", cells.join(" | "));
+    }
+}
+
+fn wrapping() {
     println!("| text | roomy list, 64 KiB | 1 MiB | exact list, 64 KiB | 1 MiB |\n|---|---|---|---|---|");
     for &(name, unit, width, break_words) in TEXTS {
         let mut row = format!("| {name} |");
@@ -44,7 +85,7 @@ fn main() {
                     let count = wrap_bytes(&text, width, break_words, &mut lines).unwrap().number as usize;
                     lines.truncate(LINE_NUMBERS * count);
                 }
-                row += &format!(" {:.2} |", nanoseconds(&text, width, break_words, &mut lines));
+                row += &format!(" {:.2} |", nanoseconds(text.len(), || wrap_bytes(&text, width, break_words, &mut lines).is_ok()));
             }
         }
         println!("{row}");

@@ -75,6 +75,16 @@ fn answered([refusal, data, entries, text, number]: [u64; 5]) -> Result<Done, Re
     }
 }
 
+/// What a question answers by its three numbers.
+#[inline]
+fn replied([refusal, first, second]: [u64; 3]) -> Result<(usize, usize), Refusal> {
+    debug_assert!(refusal == 0 || [first, second] == [0; 2], "a refusal comes alone");
+    match Refusal::from_number(refusal) {
+        None => Ok((first as usize, second as usize)),
+        Some(refusal) => Err(refusal),
+    }
+}
+
 /// A line as a line list has it: a stretch of the text that was wrapped, and how wide it is.
 #[derive(Clone, Copy, Debug, PartialEq, Eq, Hash)]
 #[non_exhaustive]
@@ -124,6 +134,16 @@ impl Iterator for Lines<'_> {
 }
 
 impl ExactSizeIterator for Lines<'_> {}
+
+/// A place in a text by its line, counted from 0.
+#[derive(Clone, Copy, Debug, PartialEq, Eq, PartialOrd, Ord, Hash)]
+#[non_exhaustive]
+pub struct LineColumn {
+    /// The line.
+    pub line: usize,
+    /// The bytes of the line before the place.
+    pub column: usize,
+}
 
 /// A replacement: the bytes `start` to `end` of the data by the bytes `from` to `to` of the replacement text.
 #[derive(Clone, Copy, Debug, PartialEq, Eq, Hash)]
@@ -408,6 +428,85 @@ pub fn write_for_office(content: View, label: &[u8], out: Buffers) -> Result<Don
 #[inline]
 pub fn write_for_floor(content: View, label: &[u8], out: Buffers) -> Result<Done, Refusal> {
     layout!(ruszvedok_write_for_floor, [content], [label.as_ptr(), label.len()], out)
+}
+
+/// The line index of the data: 0, and the place after each 0A; the number is how many lines there are. Data of n bytes has at most n + 1.
+///
+/// ```
+/// use ruszvedok::lent::{build_line_index, extend_line_index, line_at, place_of, View};
+///
+/// let rows = |data| View { data, ..View::default() };
+/// let mut list = [7; 4];
+/// assert_eq!(build_line_index(rows(b"a\nb"), &mut list)?.number, 2);
+/// assert_eq!(extend_line_index(rows(b"a\nbb\n"), 3, &mut list, 2)?.number, 3);
+/// assert_eq!(list, [0, 2, 5, 7]);
+/// assert_eq!(line_at(rows(b"a\nbb\n"), &list[..3], 1)?, 2..4);
+/// let at = place_of(rows(b"a\nbb\n"), &list[..3], 4)?;
+/// assert_eq!((at.line, at.column), (1, 2));
+/// # Ok::<(), ruszvedok::Refusal>(())
+/// ```
+///
+/// # Errors
+///
+/// Refusals 1 to 6, 36 for a list that is too short.
+#[inline]
+pub fn build_line_index(content: View, index: &mut [u32]) -> Result<Done, Refusal> {
+    let mut res = [0; 5];
+    let (d, e, t) = (content.data, content.entries, content.text);
+    unsafe {
+        sys::ruszvedok_build_line_index(
+            d.as_ptr(), d.len(), e.as_ptr(), e.len(), t.as_ptr(), t.len(), index.as_mut_ptr(), index.len(), &mut res,
+        )
+    };
+    answered(res)
+}
+
+/// The line index of the data after an append, in a list whose first `used` numbers are that of the first `earlier` bytes: it leaves what
+/// [`build_line_index`] leaves.
+///
+/// # Errors
+///
+/// Refusals 1 to 6, 36 for `used` above the list's length, `earlier` above the data's, numbers that are not that index, or a list that is
+/// too short.
+#[inline]
+pub fn extend_line_index(content: View, earlier: usize, index: &mut [u32], used: usize) -> Result<Done, Refusal> {
+    let mut res = [0; 5];
+    let (d, e, t) = (content.data, content.entries, content.text);
+    unsafe {
+        sys::ruszvedok_extend_line_index(
+            d.as_ptr(), d.len(), e.as_ptr(), e.len(), t.as_ptr(), t.len(), earlier, index.as_mut_ptr(), index.len(), used, &mut res,
+        )
+    };
+    answered(res)
+}
+
+/// Line `n`, counted from 0: from its first byte to its 0A, or to the data's end. `index` is exactly the line index of the data.
+///
+/// # Errors
+///
+/// Refusals 1 to 6, 36 for numbers that are not that index, 37 for a line that is not there.
+#[inline]
+pub fn line_at(content: View, index: &[u32], n: usize) -> Result<Range<usize>, Refusal> {
+    let mut res = [0; 3];
+    let (d, e, t) = (content.data, content.entries, content.text);
+    unsafe { sys::ruszvedok_line_at(d.as_ptr(), d.len(), e.as_ptr(), e.len(), t.as_ptr(), t.len(), index.as_ptr(), index.len(), n, &mut res) };
+    replied(res).map(|(first, end)| first..end)
+}
+
+/// The line and the byte column of an offset up to the data length; a 0A belongs to the line that it ends. `index` is exactly the line
+/// index of the data.
+///
+/// # Errors
+///
+/// Refusals 1 to 6, 36 for numbers that are not that index, 37 for an offset beyond the data.
+#[inline]
+pub fn place_of(content: View, index: &[u32], offset: usize) -> Result<LineColumn, Refusal> {
+    let mut res = [0; 3];
+    let (d, e, t) = (content.data, content.entries, content.text);
+    unsafe {
+        sys::ruszvedok_place_of(d.as_ptr(), d.len(), e.as_ptr(), e.len(), t.as_ptr(), t.len(), index.as_ptr(), index.len(), offset, &mut res)
+    };
+    replied(res).map(|(line, column)| LineColumn { line, column })
 }
 
 /// All calls of a list, each on what the last one not refused left; the number is how many were not refused. The content is what `used`

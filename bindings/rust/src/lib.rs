@@ -1,11 +1,13 @@
 //! Recorded text and its layout: text with labels is cut, padded, indented, wrapped and replaced, its tabs are expanded, an indent is
-//! taken off, and the labels stay in step. What is under a label can be hidden from one of two readers.
+//! taken off, and the labels stay in step. What is under a label can be hidden from one of two readers. A line index beside the data says
+//! where a line is, and in which line a byte.
 //!
 //! The work is done by a library whose every function is proved to meet its contract (`crates/capi` and what is below it). This crate
 //! is three layers over its C names, none of which is proved:
 //!
 //! * the type [`FormatRecorder`] and the functions of [`text_util`], with the names and the order of parameters that jj-cli has;
-//!   they own their buffers and lengthen them as needed; [`run_layouts`] makes a list of [`Layout`] calls in one;
+//!   they own their buffers and lengthen them as needed; [`run_layouts`] makes a list of [`Layout`] calls in one, and [`LineIndex`] owns
+//!   its list of line starts;
 //! * [`lent`]: one safe function for each call, over buffers that the caller lends; nothing is allocated;
 //! * `sys`: the declarations.
 //!
@@ -26,6 +28,7 @@
 #[allow(unsafe_code)]
 pub mod lent;
 mod layouts;
+mod line_index;
 mod recorder;
 mod refusal;
 #[allow(missing_docs)]
@@ -33,6 +36,8 @@ mod sys;
 pub mod text_util;
 
 pub use layouts::{run_layouts, Layout};
+pub use lent::LineColumn;
+pub use line_index::LineIndex;
 pub use recorder::{FormatOp, FormatRecorder, Span};
 pub use refusal::Refusal;
 pub use sys::{LINE_NUMBERS, MAX_DATA, MAX_ENTRIES, MAX_ENTRY_NUMBERS, MAX_TEXT};

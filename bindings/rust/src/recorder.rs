@@ -463,7 +463,7 @@ fn within(used: usize, more: usize, limit: usize) -> Result<usize, Refusal> {
 }
 
 /// Makes a buffer at least this long, and as long as it can be without allocating; false if it is.
-fn lengthen<T: Clone + Default>(buffer: &mut Vec<T>, least: usize, limit: usize) -> bool {
+pub(crate) fn lengthen<T: Clone + Default>(buffer: &mut Vec<T>, least: usize, limit: usize) -> bool {
     let length = least.max(buffer.capacity()).min(limit);
     let short = buffer.len() < length;
     if short {

@@ -47,6 +47,10 @@ pub enum Refusal {
     ViewLabel,
     /// 35: a content whose labels are not balanced.
     ContentUnbalanced,
+    /// 36: a line index that is too short for its numbers, or not that of the data.
+    LineIndex,
+    /// 37: a line or an offset that is not there.
+    NoSuchPlace,
     /// 61: two sets of buffers that differ in a length.
     SetsDiffer,
     /// 62: calls that are not eight numbers each, an unknown kind, a range not within its pool.
@@ -79,6 +83,8 @@ impl Refusal {
         Self::PrefixMissing,
         Self::ViewLabel,
         Self::ContentUnbalanced,
+        Self::LineIndex,
+        Self::NoSuchPlace,
         Self::SetsDiffer,
         Self::CallNumbers,
         Self::AnswerListTooShort,
@@ -107,6 +113,8 @@ impl Refusal {
             Self::PrefixMissing => 33,
             Self::ViewLabel => 34,
             Self::ContentUnbalanced => 35,
+            Self::LineIndex => 36,
+            Self::NoSuchPlace => 37,
             Self::SetsDiffer => 61,
             Self::CallNumbers => 62,
             Self::AnswerListTooShort => 63,
@@ -137,6 +145,8 @@ impl Refusal {
             Self::PrefixMissing => "a line that is not empty and does not begin with the prefix to be taken off",
             Self::ViewLabel => "a reader's label that is empty or not well-formed UTF-8",
             Self::ContentUnbalanced => "a content whose labels are not balanced",
+            Self::LineIndex => "a line index that is too short for its numbers, or not that of the data",
+            Self::NoSuchPlace => "a line or an offset that is not there",
             Self::SetsDiffer => "two sets of buffers that differ in a length",
             Self::CallNumbers => "calls that are not eight numbers each, an unknown kind, a range not within its pool",
             Self::AnswerListTooShort => "the list of answers is too short, at two numbers a call",

@@ -1,4 +1,4 @@
-//! The exported functions as they are: a slice is a pointer and its number of elements, `res` five numbers.
+//! The exported functions as they are: a slice is a pointer and its number of elements, `res` five numbers or, of a question, three.
 //! Written by tools/declarations.
 
 /// The most data bytes of a recording; a plain text has the same limit.
@@ -123,6 +123,22 @@ extern "C" {
         content: *const u8, content_len: usize, entries: *const u32, entries_len: usize, text: *const u8,
         text_len: usize, label: *const u8, label_len: usize, out_data: *mut u8, out_data_len: usize,
         out_entries: *mut u32, out_entries_len: usize, out_text: *mut u8, out_text_len: usize, res: *mut [u64; 5],
+    );
+    pub fn ruszvedok_build_line_index(
+        content: *const u8, content_len: usize, entries: *const u32, entries_len: usize, text: *const u8,
+        text_len: usize, index: *mut u32, index_len: usize, res: *mut [u64; 5],
+    );
+    pub fn ruszvedok_extend_line_index(
+        content: *const u8, content_len: usize, entries: *const u32, entries_len: usize, text: *const u8,
+        text_len: usize, earlier: usize, index: *mut u32, index_len: usize, used: usize, res: *mut [u64; 5],
+    );
+    pub fn ruszvedok_line_at(
+        content: *const u8, content_len: usize, entries: *const u32, entries_len: usize, text: *const u8,
+        text_len: usize, index: *const u32, index_len: usize, n: usize, res: *mut [u64; 3],
+    );
+    pub fn ruszvedok_place_of(
+        content: *const u8, content_len: usize, entries: *const u32, entries_len: usize, text: *const u8,
+        text_len: usize, index: *const u32, index_len: usize, offset: usize, res: *mut [u64; 3],
     );
     pub fn ruszvedok_run_calls(
         calls: *const u32, calls_len: usize, pool: *const u8, pool_len: usize, pool_numbers: *const u32,

@@ -48,8 +48,8 @@ over-twice at a b old h =
     )
     (ap (λ (x : List ℕ). take at old ++ x) (sym (append-assoc a b (drop (length a + length b) (drop at old)))))
 
--- a byte is stored
-one-store : (l : List ℕ) (k b : ℕ) → k < length l → set l k b ≡ overAt k (b ∷ []) l
+-- a byte, or a number, is stored
+pub one-store : (l : List ℕ) (k b : ℕ) → k < length l → set l k b ≡ overAt k (b ∷ []) l
 unfolding overAt
 one-store l k b h = sets-eq (b ∷ []) l k (omega arith) ∙ append-assoc (take k l) (b ∷ []) (drop (k + 1) l) ∙ rw drop-drop
 

@@ -2,7 +2,9 @@
 // A slice passes as a pointer and its number of elements.
 // A call on recordings takes its content, then what else it reads, its numbers, and last the lent buffers; none may overlap another.
 // `res` gets five numbers: the refusal or 0, the lengths of data, entry numbers and text that were left, and the call's number.
+// A question leaves nothing: its `res` gets three, the refusal or 0 and the two numbers asked for.
 use answer_numbers::store;
+use answer_numbers::store_reply;
 use chars::cut_end;
 use chars::cut_start;
 use chars::display_width;
@@ -11,6 +13,10 @@ use elide::complete_newline;
 use elide::elide_end;
 use elide::elide_start;
 use indent::write_indented;
+use line_index::build_line_index;
+use line_index::extend_line_index;
+use line_index::line_at;
+use line_index::place_of;
 use pad::write_padded_centered;
 use pad::write_padded_end;
 use pad::write_padded_start;
@@ -41,9 +47,11 @@ ghost use Rattle.layout.specs.Layout.{truncateStart, truncateEnd, padStart, pad
 ghost use Rattle.layout.specs.Lent.{lentOf, lentLined};
 ghost use Rattle.wrap_lines.specs.WrapBytes.{wrapBytesOutcome};
 ghost use Rattle.view.specs.View.{officeOutcome, floorOutcome};
+ghost use Rattle.line_index.specs.Index.{buildOutcome, extendOutcome, lineReplied, placeReplied};
 ghost use Rattle.replace.specs.Records.{recordsOf};
 ghost use Rattle.call_lists.specs.Runs.{given, buffers};
 ghost use Rattle.elide.specs.Elide.{lent, elideEndOutcome, elideStartOutcome, completeNewlineOutcome};
+ghost use Rattle.answer_numbers.specs.Five.{three};
 ghost use Rattle.capi.specs.Promises.{PromisedNumbers, LeavesNumbers, RunsNumbers};
 
 // The width of a text.
@@ -483,6 +491,72 @@ pub extern "C" fn ruszvedok_write_for_floor(
 {
     let a = write_for_floor(content, entries, text, label, bytes, numbers, texts);
     store(a, res);
+}
+
+// Puts the line index of a recording's data into `index`: 0, and the place after each 0A. The number is how many lines there are.
+#[no_mangle]
+pub extern "C" fn ruszvedok_build_line_index(
+    content: &[u8],
+    entries: &[u32],
+    text: &[u8],
+    index: &mut [u32],
+    res: &mut [u64; 5],
+)
+    ensures { λ _. ⌜ PromisedNumbers (buildOutcome (recording (now (content .entry)) (now (entries .entry)) (now (text .entry))) (length (now (index .entry))))
+        (lentLines (now (index .entry))) (lentLines (now (index .exit))) (now (res .exit)) ⌝ }
+{
+    let a = build_line_index(content, entries, text, index);
+    store(a, res);
+}
+
+// Makes a line index that of the data after an append: the first `used` numbers of `index` are that of the first `earlier` bytes. The number is how many lines there are.
+#[no_mangle]
+pub extern "C" fn ruszvedok_extend_line_index(
+    content: &[u8],
+    entries: &[u32],
+    text: &[u8],
+    earlier: usize,
+    index: &mut [u32],
+    used: usize,
+    res: &mut [u64; 5],
+)
+    ensures { λ _. ⌜ PromisedNumbers (extendOutcome (recording (now (content .entry)) (now (entries .entry)) (now (text .entry))) earlier (now (index .entry)) used)
+        (lentLines (now (index .entry))) (lentLines (now (index .exit))) (now (res .exit)) ⌝ }
+{
+    let a = extend_line_index(content, entries, text, earlier, index, used);
+    store(a, res);
+}
+
+// Where line n is, counted from 0: its first byte, and its end, which is the place of its 0A or the data's end. `index` is the line index of the data.
+#[no_mangle]
+pub extern "C" fn ruszvedok_line_at(
+    content: &[u8],
+    entries: &[u32],
+    text: &[u8],
+    index: &[u32],
+    n: usize,
+    res: &mut [u64; 3],
+)
+    ensures { λ _. ⌜ now (res .exit) ≡ three (lineReplied (recording (now (content .entry)) (now (entries .entry)) (now (text .entry))) (now (index .entry)) n) ⌝ }
+{
+    let a = line_at(content, entries, text, index, n);
+    store_reply(a, res);
+}
+
+// The line of an offset and its byte column there, both counted from 0. `index` is the line index of the data.
+#[no_mangle]
+pub extern "C" fn ruszvedok_place_of(
+    content: &[u8],
+    entries: &[u32],
+    text: &[u8],
+    index: &[u32],
+    offset: usize,
+    res: &mut [u64; 3],
+)
+    ensures { λ _. ⌜ now (res .exit) ≡ three (placeReplied (recording (now (content .entry)) (now (entries .entry)) (now (text .entry))) (now (index .entry)) offset) ⌝ }
+{
+    let a = place_of(content, entries, text, index, offset);
+    store_reply(a, res);
 }
 
 // Runs all layout calls of a list, back and forth between two sets of lent buffers. The number is how many were not refused.

@@ -1,7 +1,7 @@
 // Indenting: `write_indented` (document 01, module 3), the prefix, a recording, before every line that is not empty.
 // It keeps one promise, `Leaves` (layout), for the job `indent`.
 // `bytes`, `numbers` and `texts` are the lent buffers; `content`, `entries` and `text` the recording that is indented.
-use newlines::line_end;
+use newlines::has_break;
 use recording::Answer;
 use recording::CheckedBoth;
 use recording_check::check_both;
@@ -14,12 +14,45 @@ ghost use mathlib.Core.Path.{_≡_};
 ghost use mathlib.Core.Bool.{true, false};
 ghost use Prim.Native.Nat.{_+_, _-_, _*_, _≤_, _<_};
 ghost use lib.ListN.{length, drop};
+ghost use Rattle.newlines.specs.Newlines.{toBreak};
 ghost use Rattle.recording.specs.Recording.{recording, items};
 ghost use Rattle.recording.specs.Edit.{edit};
 ghost use Rattle.writer.specs.Write.{out, add, blank, Fits, Sound};
 ghost use Rattle.layout.specs.Layout.{indentOps, indent};
 ghost use Rattle.layout.specs.Lent.{lentOf, Leaves};
 ghost use Rattle.indent.specs.Lines.{filledLines, toNext};
+
+// Passes 16 bytes at a time while no 0A is among them.
+fn skip_blocks(s: &[u8], from: usize) -> usize
+    requires { ⌜ from ≤ length (now s) ⌝ }
+    ensures { λ r. ⌜ r + toBreak (drop r (now (s .entry))) ≡ from + toBreak (drop from (now (s .entry))) ⌝ }
+    ensures { λ r. ⌜ (from ≤ r) × (r ≤ length (now (s .entry))) ⌝ }
+{
+    let mut at = from;
+    while 16 <= s.len() - at {
+        if has_break(s, at) {
+            return at;
+        }
+        at += 16;
+    }
+    at
+}
+
+// The place of the next 0A, the end if there is none.
+fn line_end(s: &[u8], from: usize) -> usize
+    requires { ⌜ from ≤ length (now s) ⌝ }
+    ensures { λ r. ⌜ r ≡ from + toBreak (drop from (now (s .entry))) ⌝ }
+    ensures { λ r. ⌜ (from ≤ r) × (r ≤ length (now (s .entry))) ⌝ }
+{
+    let mut at = skip_blocks(s, from);
+    while at < s.len() {
+        if s[at] == 10 {
+            return at;
+        }
+        at += 1;
+    }
+    at
+}
 
 // The first place from the start of a line on that has no 0A: empty lines are passed.
 fn skip_empty(s: &[u8], from: usize) -> usize

@@ -3,7 +3,7 @@ use Prim.Native.Nat.{ℕ, _<_}
 use native.Mathlib.Omega.{arith}
 use mathlib.Core.Bool.{Bool, true, false, cond}
 use mathlib.Core.Path.{_≡_, refl, sym, ap, _∙_}
-use mathlib.Core.List.{List, [], _∷_, _++_}
+use mathlib.Core.List.{List, [], _∷_, _++_, append-assoc}
 use lib.Dec.{eqb}
 use lib.ListN.{length, drop}
 use Rattle.recording.specs.Recording.{Bytes}
@@ -44,6 +44,11 @@ before-first line (l ∷ ls) = (line ++ l) ∷ ls
 pub nil-first : (ls : List Bytes) → 0 < length ls → before-first [] ls ≡ ls
 nil-first [] h = absurd (omega arith)
 nil-first (l ∷ ls) h = refl
+
+-- a byte goes to the line before
+pub first-onto : (p : Bytes) (b : ℕ) (ls : List Bytes) → before-first p (ontoFirst b ls) ≡ before-first (p ++ (b ∷ [])) ls
+first-onto p b [] = refl
+first-onto p b (l ∷ ls) = ap (λ (x : Bytes). x ∷ ls) (sym (append-assoc p (b ∷ []) l))
 
 onto-before : (b : ℕ) (p : Bytes) (ls : List Bytes) → ontoFirst b (before-first p ls) ≡ before-first (b ∷ p) ls
 onto-before b p [] = refl

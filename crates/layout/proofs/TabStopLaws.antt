@@ -24,7 +24,7 @@ use Rattle.layout.specs.Layout.{expandTabs, resultItems, refusal, after}
 use Rattle.layout.specs.Wrap.{ontoFirst, splitLines}
 use Rattle.layout.proofs.ListLaws.{after-done, after-refused}
 use Rattle.layout.proofs.StripLaws.{result-data, resultData}
-use Rattle.layout.proofs.LineLaws.{some-lines, before-first, nil-first}
+use Rattle.layout.proofs.LineLaws.{some-lines, before-first, nil-first, first-onto}
 use Rattle.layout.proofs.TabLaws.{some-spaces, Plain, spaces-plain, Sort, tab, newline, other, sort, width-line, Closed, closed-start, closed-more, closed-new, closed-spaces, column-tab, column-new, column-more, tab-char, chars-tab}
 
 -- ── the least multiple above a column
@@ -53,10 +53,6 @@ last-skip : (l : Bytes) (ls : List Bytes) → 0 < length ls → lastOf (l ∷ ls
 last-skip l [] h = absurd (omega arith)
 last-skip l (k ∷ ls) h = refl
 
-onto-first : (line : Bytes) (b : ℕ) (ls : List Bytes) → 0 < length ls → before-first (line ++ (b ∷ [])) ls ≡ before-first line (ontoFirst b ls)
-onto-first line b [] h = absurd (omega arith)
-onto-first line b (l ∷ ls) h = ap (λ (x : Bytes). x ∷ ls) (append-assoc line (b ∷ []) l)
-
 line-from : (line d : Bytes) → lineFrom line d ≡ lastOf (before-first line (splitLines d))
 line-from line [] = sym (append-nil line)
 line-from line (b ∷ d) = go (eqb b 0x0A) (λ l. line-from l d)
@@ -64,7 +60,7 @@ line-from line (b ∷ d) = go (eqb b 0x0A) (λ l. line-from l d)
     go : (t : Bool) → ((l : Bytes) → lineFrom l d ≡ lastOf (before-first l (splitLines d)))
         → lineFrom (cond t [] (line ++ (b ∷ []))) d ≡ lastOf (before-first line (cond t ([] ∷ splitLines d) (ontoFirst b (splitLines d))))
     go true f = f [] ∙ ap lastOf (nil-first (splitLines d) (some-lines d)) ∙ sym (last-skip (line ++ []) (splitLines d) (some-lines d))
-    go false f = f (line ++ (b ∷ [])) ∙ ap lastOf (onto-first line b (splitLines d) (some-lines d))
+    go false f = f (line ++ (b ∷ [])) ∙ ap lastOf (sym (first-onto line b (splitLines d)))
 
 last-line : (d : Bytes) → lineFrom [] d ≡ lastLine d
 unfolding lastLine

@@ -6,7 +6,11 @@ use lib.Dec.{leb, ltb, eqb}
 use lib.ListN.{length, getD}
 use Rattle.recording.specs.Recording.{Bytes}
 
--- the numbers rise, each is above `last` and the place behind a 0A of d
+-- n is above `last`, and the place behind a 0A of d
+abbrev pub behind : Bytes → ℕ → ℕ → Bool
+behind d last n = ltb last n && (leb n (length d) && eqb (getD d (n - 1) 0) 0x0A)
+
+-- the numbers rise from `last` on, and each is the place behind a 0A of d
 abbrev pub standBehind : Bytes → ℕ → List ℕ → Bool
 standBehind d last [] = true
-standBehind d last (n ∷ ns) = ltb last n && leb n (length d) && eqb (getD d (n - 1) 0) 0x0A && standBehind d n ns
+standBehind d last (n ∷ ns) = behind d last n && standBehind d n ns

@@ -2,7 +2,7 @@
 // The four calls answer and leave what the outcomes and replies of `specs/Index.antt` say, refusals included. None of them requires anything.
 // A refused call touches nothing: the list is asked and the room is settled before the first number is written.
 use newlines::count_newlines;
-use newlines::line_end;
+use newlines::has_break;
 use recording::Answer;
 use recording::Checked;
 use recording::Refusal;
@@ -12,8 +12,7 @@ ghost use mathlib.Core.Path.{_≡_};
 ghost use Prim.Native.Nat.{_+_, _≤_, _<_};
 ghost use lib.Dec.{leb};
 ghost use lib.ListN.{length, drop, getD};
-ghost use Rattle.buffer.specs.Place.{over, overAt};
-ghost use Rattle.newlines.specs.Newlines.{newlines};
+ghost use Rattle.buffer.specs.Place.{over, overAt, part};
 ghost use Rattle.recording.specs.Lists.{same};
 ghost use Rattle.recording.specs.Recording.{recording};
 ghost use Rattle.recording.specs.Refusals.{dataLimit};
@@ -33,26 +32,41 @@ fn starts_fit(s: &[u8], from: usize, room: usize) -> bool
     count_newlines(s, from) <= room
 }
 
-// Puts the starts after `from` into the list from `first` on, and returns the place after them.
+// Puts the places behind the 0A among the bytes `from` to `to` into the list from k on, and returns the place after them.
+fn put_starts(s: &[u8], from: usize, to: usize, index: &mut [u32], k: usize) -> usize
+    requires { ⌜ (from ≤ to) × (to ≤ length (now s)) × (length (now s) ≤ dataLimit) ⌝ }
+    requires { ⌜ k + length (startsFrom from (part from to (now s))) ≤ length (now index) ⌝ }
+    ensures { λ _. ⌜ now (index .exit) ≡ overAt k (startsFrom from (part from to (now (s .entry)))) (now (index .entry)) ⌝ }
+    ensures { λ r. ⌜ r ≡ k + length (startsFrom from (part from to (now (s .entry)))) ⌝ }
+{
+    let mut n = k;
+    let mut at = from;
+    while at < to {
+        if s[at] == 10 {
+            index[n] = (at + 1) as u32;
+            n += 1;
+        }
+        at += 1;
+    }
+    n
+}
+
+// Puts the starts after `from` into the list from `first` on, and returns the place after them. Blocks without 0A are passed whole.
 fn write_starts(s: &[u8], from: usize, index: &mut [u32], first: usize) -> usize
-    requires { ⌜ from ≤ length (now s) ⌝ }
-    requires { ⌜ length (now s) ≤ dataLimit ⌝ }
+    requires { ⌜ (from ≤ length (now s)) × (length (now s) ≤ dataLimit) ⌝ }
     requires { ⌜ first + length (startsFrom from (drop from (now s))) ≤ length (now index) ⌝ }
     ensures { λ _. ⌜ now (index .exit) ≡ overAt first (startsFrom from (drop from (now (s .entry)))) (now (index .entry)) ⌝ }
     ensures { λ r. ⌜ r ≡ first + length (startsFrom from (drop from (now (s .entry)))) ⌝ }
 {
     let mut k = first;
     let mut at = from;
-    loop {
-        let end = line_end(s, at);
-        if s.len() <= end {
-            break;
+    while 16 <= s.len() - at {
+        if has_break(s, at) {
+            k = put_starts(s, at, at + 16, index, k);
         }
-        index[k] = (end + 1) as u32;
-        k += 1;
-        at = end + 1;
+        at += 16;
     }
-    k
+    put_starts(s, at, s.len(), index, k)
 }
 
 // Puts the whole index into the list, and returns how many lines there are.

@@ -1,1 +1,2 @@
 pub mod BreakLaws
+pub mod CountLaws

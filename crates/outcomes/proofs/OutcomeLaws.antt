@@ -11,7 +11,7 @@ use Rattle.recording.specs.declared.Answer.the-variants.{Refused, Done}
 use Rattle.recording.specs.Recording.{Recording, Item, numbersOf, dataOf, textOf, entriesFrom, encode}
 use Rattle.recording.specs.Refusals.{numberOf, firstOf, recordingFault}
 use Rattle.recording.specs.Outcome.{Outcome, refused, done, overLimit, noRoom, refusalOf, Lent, roomIn, lentAfter, returned, answerOf}
-use Rattle.recording.proofs.OutcomeLaws.{number-pos, first-hit, first-on, first-one, stops-content, stops-second, stops-own, stops-sizes, is-refused, is-done}
+use Rattle.recording.proofs.OutcomeLaws.{number-pos, first-hit, first-on, first-one, stops-content, stops-second, stops-own, stops-sizes, is-refused, is-done, promise-refused}
 use Rattle.recording.proofs.FaultLaws.{firstOf-zero}
 use Rattle.recording.proofs.SizeLaws.{entryCount, count-numbers}
 use Rattle.writer.specs.declared.Cursor.{Cursor}
@@ -45,8 +45,7 @@ module _ (j : Job) (r : Recording) (b : Lent) where
 
   -- ── where a call stops, and what it has then answered and left
   stopped : (f : Refusal) → told ≡ refused (numberOf f) → Leaves j r b b (Refused f)
-  unfolding answerOf returned lentAfter
-  stopped f e = (rw e, rw e)
+  stopped f e = promise-refused told f b e
 
   -- at a fault of the content or of the second recording
   pub input-refused : (f : Refusal) → numberOf f ≡ firstOf (recordingFault r ∷ secondFault j ∷ []) → Leaves j r b b (Refused f)

@@ -1,8 +1,8 @@
 -- For code that finds the refusals one after another: which refusal a call gives when it stops there (`stops-..`), and what it then has to answer and leave.
-use mathlib.Core.Path.{_≡_, refl, sym, ap}
+use mathlib.Core.Path.{_≡_, refl, sym, ap, _∙_}
 use mathlib.Core.Bool.{Bool, true, false, cond}
 use mathlib.Core.List.{List, [], _∷_}
-use Prim.Native.Nat.{ℕ, _<_}
+use Prim.Native.Nat.{ℕ, zero, suc, _<_}
 use native.Mathlib.Omega.{arith}
 use lib.Dec.{eqb}
 use lib.ListN.{length}
@@ -12,8 +12,10 @@ use Rattle.recording.specs.declared.Refusal.the-variants.{DataTooLong, E
 use Rattle.recording.specs.declared.Refusal.the-variants.{ResultOverLimit, LengthOverBuffer, DataBufferTooShort, EntryBufferTooShort, TextBufferTooShort, LineListTooShort}
 use Rattle.recording.specs.declared.Refusal.the-variants.{TabStop, PrefixNewline, PrefixMissing, ViewLabel, ContentUnbalanced, LineIndex, NoSuchPlace, SetsDiffer, CallNumbers, AnswerListTooShort}
 use Rattle.recording.specs.declared.Answer.the-variants.{Refused, Done}
-use Rattle.recording.specs.Refusals.{numberOf, firstOf}
-use Rattle.recording.specs.Outcome.{Room, Result, Faults, Outcome, refused, done, overLimit, noRoom, refusalOf, settle, Lent, lentAfter, returned, answerOf}
+use Rattle.recording.specs.declared.Reply.the-variants as R
+use Rattle.recording.specs.Recording.{Recording}
+use Rattle.recording.specs.Refusals.{numberOf, firstOf, recordingFault}
+use Rattle.recording.specs.Outcome.{Room, Result, Faults, contentFaults, Outcome, refused, done, overLimit, noRoom, refusalOf, settle, Lent, lentAfter, returned, answerOf, Promised, replied, replyOf}
 
 -- no refusal has the number 0
 pub number-pos : (f : Refusal) → 0 < numberOf f
@@ -118,6 +120,23 @@ module _ (f : Faults) (o : Room) (x : Result) where
   unfolding answerOf returned
   done-answer d e t n z ed ee et en = rw (is-done z) (λ i. record { refusal = 0; dataBytes = ed i; entryNumbers = ee i; text = et i; number = en i })
 
+  -- the refusal that comes back, 0 included
+  pub refusal-told : returned (settle f o x) .refusal ≡ refusalOf f o x
+  unfolding settle returned
+  refusal-told = go (eqb (refusalOf f o x) 0) refl
+    where
+      go : (t : Bool) → eqb (refusalOf f o x) 0 ≡ t → returned (cond t (done x) (refused (refusalOf f o x))) .refusal ≡ refusalOf f o x
+      go true q = sym (eqb-true (refusalOf f o x) 0 q)
+      go false q = refl
+
+  pub refusal-replied : (a b : ℕ) → replied (settle f o x) a b .refusal ≡ refusalOf f o x
+  unfolding settle replied
+  refusal-replied a b = go (eqb (refusalOf f o x) 0) refl
+    where
+      go : (t : Bool) → eqb (refusalOf f o x) 0 ≡ t → replied (cond t (done x) (refused (refusalOf f o x))) a b .refusal ≡ refusalOf f o x
+      go true q = sym (eqb-true (refusalOf f o x) 0 q)
+      go false q = refl
+
   -- and back: an outcome that is not refused was granted
   pub done-only : (y : Result) → settle f o x ≡ done y → (refusalOf f o x ≡ 0) × (x ≡ y)
   unfolding settle
@@ -130,3 +149,41 @@ module _ (f : Faults) (o : Room) (x : Result) where
       go : (t : Bool) → eqb (refusalOf f o x) 0 ≡ t → cond t (done x) (refused (refusalOf f o x)) ≡ done y → (refusalOf f o x ≡ 0) × (x ≡ y)
       go true q p = (eqb-true (refusalOf f o x) 0 q, ap take-out p)
       go false q p = (cc, cc)
+
+-- ── an outcome, and what is then answered and left
+module _ (u : Outcome) where
+  pub promise-refused : (f : Refusal) (b : Lent) → u ≡ refused (numberOf f) → Promised u b b (Refused f)
+  unfolding answerOf returned lentAfter
+  promise-refused f b e = (rw e, rw e)
+
+  pub reply-refused : (f : Refusal) (a b : ℕ) → u ≡ refused (numberOf f) → replyOf (R.Refused f) ≡ replied u a b
+  unfolding replyOf replied
+  reply-refused f a b e = rw e
+
+  pub reply-found : (x : Result) (a b a′ b′ : ℕ) → u ≡ done x → a ≡ a′ → b ≡ b′ → replyOf (R.Found a b) ≡ replied u a′ b′
+  unfolding replyOf replied
+  reply-found x a b a′ b′ e p q = rw e (λ i. record { refusal = 0; first = p i; second = q i })
+
+-- ── a call that reads one recording and has a refusal of its own
+module _ (r : Recording) (own : ℕ) (o : Room) (x : Result) where
+  pub content-refused : (f : Refusal) → recordingFault r ≡ numberOf f → settle (contentFaults r own) o x ≡ refused (numberOf f)
+  content-refused f e = is-refused (contentFaults r own) o x f (stops-content (contentFaults r own) o x refl (omega (arith, e, number-pos f)) ∙ e)
+
+  module _ (a : recordingFault r ≡ 0) where
+    pub own-refused : (f : Refusal) → own ≡ numberOf f → settle (contentFaults r own) o x ≡ refused (numberOf f)
+    own-refused f e = is-refused (contentFaults r own) o x f (stops-own (contentFaults r own) o x refl a refl refl refl (omega (arith, e, number-pos f)) ∙ e)
+
+    pub content-done : own ≡ 0 → firstOf (overLimit (x .recording) ∷ noRoom o x ∷ []) ≡ 0 → settle (contentFaults r own) o x ≡ done x
+    content-done e z = is-done (contentFaults r own) o x (stops-sizes (contentFaults r own) o x refl a refl refl refl e ∙ z)
+
+  -- where what is left to be judged is never refused, there are no other refusals
+  pub content-own : (own ≡ 0 → firstOf (overLimit (x .recording) ∷ noRoom o x ∷ []) ≡ 0) → refusalOf (contentFaults r own) o x ≡ firstOf (recordingFault r ∷ own ∷ [])
+  content-own z = first (recordingFault r) refl
+    where
+      then : (n : ℕ) → own ≡ n → recordingFault r ≡ 0 → refusalOf (contentFaults r own) o x ≡ firstOf (recordingFault r ∷ own ∷ [])
+      then zero e a = stops-sizes (contentFaults r own) o x refl a refl refl refl e ∙ z e ∙ sym e ∙ sym (first-one own) ∙ sym (first-on (recordingFault r) (own ∷ []) a)
+      then (suc n) e a = stops-own (contentFaults r own) o x refl a refl refl refl (omega (arith, e)) ∙ sym (first-one own) ∙ sym (first-on (recordingFault r) (own ∷ []) a)
+
+      first : (n : ℕ) → recordingFault r ≡ n → refusalOf (contentFaults r own) o x ≡ firstOf (recordingFault r ∷ own ∷ [])
+      first zero a = then own refl a
+      first (suc n) a = stops-content (contentFaults r own) o x refl (omega (arith, a)) ∙ sym (first-hit (recordingFault r) (own ∷ []) (omega (arith, a)))

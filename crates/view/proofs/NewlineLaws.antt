@@ -20,6 +20,7 @@ use Rattle.layout.proofs.TabLaws.{Plain, Sort, tab, newline, other, sort}
 use Rattle.view.specs.View.{anyUnder, hides, hiddenFrom, hidden, stars, floorOf}
 use Rattle.view.specs.Alike.{Corresponding, end, entries, kept, replaced, Alike}
 use Rattle.newlines.specs.Newlines.{newlines}
+use Rattle.newlines.proofs.CountLaws.{count-append}
 use Rattle.view.specs.Theorem.{floorColoured, colouredNewlines}
 use Rattle.view.proofs.ColourLaws.{own-values, rest-values, data-is, floor-colours}
 use Rattle.view.proofs.SizeLaws.{floorBytes, floor-data}
@@ -42,10 +43,6 @@ hides-no : (l : Bytes) (c : Character) (cs : List Coloured) → hides l c cs ≡
 hides-no l c cs h = not-true (same (c .text) (0x0A ∷ [])) (and-right (anyUnder l cs) (not (same (c .text) (0x0A ∷ []))) h)
 
 -- ── all characters
-lines-append : (a b : Bytes) → newlines (a ++ b) ≡ newlines a + newlines b
-lines-append [] b = omega arith
-lines-append (x ∷ a) b = omega (arith, lines-append a b)
-
 lines-stars : (n : ℕ) → newlines (replicate n 0x2A) ≡ 0
 lines-stars zero = refl
 lines-stars (suc n) = omega (arith, lines-stars n)
@@ -66,8 +63,8 @@ module _ (l : Bytes) where
 
       go : (t : Bool) → hides l c own ≡ t → newlines rest ≡ newlines (bytesOf chs) → newlines (floorBytes (t ∷ hs) (c ∷ chs)) ≡ newlines (c .text ++ bytesOf chs)
       go true h ih =
-          omega (arith, lines-append (stars c) rest, lines-stars (wide c), lines-append (c .text) (bytesOf chs), ih, char-newlines c (bytesOf chs) (v .0) (hides-no l c own h))
-      go false h ih = omega (arith, lines-append (c .text) rest, lines-append (c .text) (bytesOf chs), ih)
+          omega (arith, count-append (stars c) rest, lines-stars (wide c), count-append (c .text) (bytesOf chs), ih, char-newlines c (bytesOf chs) (v .0) (hides-no l c own h))
+      go false h ih = omega (arith, count-append (c .text) rest, count-append (c .text) (bytesOf chs), ih)
 
   pub floor-newlines : (r : Recording) → newlines (floorOf l r .dataBytes) ≡ newlines (r .dataBytes)
   unfolding hidden

@@ -2,6 +2,7 @@
 //! A new call is one more line of `CALLS`, or of `MANY` if it makes calls of its own number. The first difference is printed with its
 //! input and ends the run.
 mod exhaustive;
+mod line_index;
 mod lists;
 mod typed;
 
@@ -44,6 +45,10 @@ const CALLS: &[(&str, Call)] = &[
     ("write_for_office", |n| for_reader(n, ours::write_for_office, lent::write_for_office)),
     ("write_for_floor", |n| for_reader(n, ours::write_for_floor, lent::write_for_floor)),
     ("write_for_floor_by_pieces", |n| for_reader(n, ours::write_for_floor_by_pieces, lent::write_for_floor)),
+    ("build_line_index", line_index::build),
+    ("extend_line_index", line_index::extend),
+    ("line_at", line_index::line_at),
+    ("place_of", line_index::place_of),
     ("elide_start", |n| elide(n, oracle::elide_start, lent::elide_start)),
     ("elide_end", |n| elide(n, oracle::elide_end, lent::elide_end)),
     ("complete_newline", complete_newline),
@@ -76,6 +81,8 @@ const MANY: &[(&str, Many)] = &[
     ("exhaustive_write_unindented", |n, _| exhaustive::write_unindented(n)),
     ("exhaustive_write_for_office", |n, _| exhaustive::for_reader(n, ours::write_for_office, lent::write_for_office)),
     ("exhaustive_write_for_floor", |n, _| exhaustive::for_reader(n, ours::write_for_floor, lent::write_for_floor)),
+    ("exhaustive_line_index_lists", |_, _| line_index::exhaustive_lists()),
+    ("exhaustive_line_index_questions", |_, _| line_index::exhaustive_questions()),
     ("exhaustive_write_wrapped", |n, _| exhaustive::write_wrapped(n)),
     ("exhaustive_write_replaced", |n, _| exhaustive::write_replaced(n)),
 ];

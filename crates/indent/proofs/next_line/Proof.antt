@@ -11,7 +11,7 @@ use Rattle.indent.proofs.next_line.Statement.{statement}
 use Rattle.indent.proofs.next_line.Tie as tie
 use Rattle.indent.proofs.next_line.Reads as reads
 use Rattle.indent.proofs.next_line.Lts as lts
-use Rattle.newlines.proofs.line_end.Reads as line-end-reads
+use Rattle.indent.proofs.line_end.Reads as line-end-reads
 use Rattle.indent.proofs.skip_empty.Reads as skip-empty-reads
 
 skip-empty-requires : tie.Need-skip-empty-requires

@@ -5,13 +5,13 @@ use borrow.Author.Tests.{ltb-false}
 use Prim.Native.Nat.{_+_, _-_, _≤_}
 use mathlib.Core.Path.{_≡_, sym, _∙_}
 use lib.ListN.{length, drop}
 use Rattle.newlines.specs.Newlines.{toBreak}
 use Rattle.newlines.proofs.BreakLaws.{break-past}
-use Rattle.newlines.proofs.skip_blocks.Statement.{statement}
-use Rattle.newlines.proofs.skip_blocks.Tie as tie
-use Rattle.newlines.proofs.skip_blocks.Reads as reads
-use Rattle.newlines.proofs.skip_blocks.Lts as lts
+use Rattle.indent.proofs.skip_blocks.Statement.{statement}
+use Rattle.indent.proofs.skip_blocks.Tie as tie
+use Rattle.indent.proofs.skip_blocks.Reads as reads
+use Rattle.indent.proofs.skip_blocks.Lts as lts
 use Rattle.newlines.proofs.has_break.Reads as has-break-reads
 
 abbrev Inv-loop : tie.InvT-loop
 Inv-loop s from at₀ at =

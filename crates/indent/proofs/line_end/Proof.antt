@@ -4,13 +4,13 @@ use borrow.Author.Needs.{needs}
 use Prim.Native.Nat.{_+_, _-_, _≤_}
 use mathlib.Core.Path.{_≡_}
 use lib.ListN.{length, drop}
 use Rattle.newlines.specs.Newlines.{toBreak}
 use Rattle.newlines.proofs.BreakLaws.{break-here, break-later, break-end}
-use Rattle.newlines.proofs.line_end.Statement.{statement}
-use Rattle.newlines.proofs.line_end.Tie as tie
-use Rattle.newlines.proofs.line_end.Reads as reads
-use Rattle.newlines.proofs.line_end.Lts as lts
-use Rattle.newlines.proofs.skip_blocks.Reads as skip-blocks-reads
+use Rattle.indent.proofs.line_end.Statement.{statement}
+use Rattle.indent.proofs.line_end.Tie as tie
+use Rattle.indent.proofs.line_end.Reads as reads
+use Rattle.indent.proofs.line_end.Lts as lts
+use Rattle.indent.proofs.skip_blocks.Reads as skip-blocks-reads
 
 abbrev Inv-loop : tie.InvT-loop
 Inv-loop s from at₀ at =

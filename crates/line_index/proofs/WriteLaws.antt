@@ -1,0 +1,149 @@
+-- The list while the starts are written: what is in it already and what is still to come are together all of them (`Written`).
+-- A byte, or a block without 0A, adds nothing or one number (`starts-byte`, `starts-block`).
+use Prim.Native.Nat.{ℕ, zero, suc, _+_, _-_, _≤_, _<_}
+use native.Mathlib.Omega.{arith}
+use native.Mathlib.Numerals.{add-one}
+use mathlib.Core.Bool.{Bool, true, false, cond}
+use mathlib.Core.Path.{_≡_, refl, sym, ap, _∙_}
+use mathlib.Core.List.{List, [], _∷_, _++_, append-nil, append-assoc}
+use lib.Dec.{eqb}
+use lib.ListN.{length, take, drop, getD, set, length-append, length-drop, length-set, drop-of-length-le, take-append-drop}
+use lib.Seq.{drop-cons, drop-drop, take-length, length-take-le}
+use borrow.Author.Tests.{eq-eqb, ne-eqb}
+use Rattle.buffer.specs.Place.{over, overAt, part}
+use Rattle.buffer.proofs.Laws.{over-none, over-twice, one-store, length-part}
+use Rattle.newlines.specs.Newlines.{toBreak}
+use Rattle.line_index.specs.Starts.{startsFrom, lineStarts}
+use Rattle.line_index.proofs.StartLaws.{starts-append}
+
+-- ── what is still to come
+-- from a place on: up to `to`, and behind it
+pub starts-part : (at to : ℕ) (d : List ℕ) → at ≤ to → to ≤ length d → startsFrom at (drop at d) ≡ startsFrom at (part at to d) ++ startsFrom to (drop to d)
+starts-part at to d l h =
+    let e : at + (to - at) ≡ to = omega arith in
+    ap (λ (x : List ℕ). startsFrom at x) (sym (take-append-drop (to - at) (drop at d)))
+    ∙ starts-append at (part at to d) (drop (to - at) (drop at d))
+    ∙ (λ i. startsFrom at (part at to d) ++ startsFrom (at + length-part at to d h i) (drop-drop (to - at) at d i))
+    ∙ (λ i. startsFrom at (part at to d) ++ startsFrom (e i) (drop (e i) d))
+
+-- all that is left
+pub starts-rest : (at : ℕ) (d : List ℕ) → at ≤ length d → startsFrom at (part at (length d) d) ≡ startsFrom at (drop at d)
+starts-rest at d h =
+    let e : length d - at ≡ length (drop at d) = sym (length-drop at d) in
+    ap (λ (n : ℕ). startsFrom at (take n (drop at d))) e ∙ ap (λ (x : List ℕ). startsFrom at x) (take-length (drop at d))
+
+-- nothing is left
+pub starts-over : (at to : ℕ) (d : List ℕ) → to ≤ at → startsFrom at (part at to d) ≡ []
+unfolding startsFrom
+starts-over at to d h =
+    let e : to - at ≡ 0 = omega arith in
+    rw e
+
+module _ (at to : ℕ) (d : List ℕ) (m : at < to) (h : to ≤ length d) where
+  part-next : part at to d ≡ getD d at 0 ∷ part (at + 1) to d
+  part-next =
+      let e : to - at ≡ suc (to - (at + 1)) = omega arith in
+      rw (e, add-one, drop-cons d at 0 (omega (arith, m, h)))
+
+  -- a 0A opens a line, any other byte none
+  pub starts-newline : getD d at 0 ≡ 0x0A → startsFrom at (part at to d) ≡ (at + 1) ∷ startsFrom (at + 1) (part (at + 1) to d)
+  unfolding startsFrom
+  starts-newline z = ap (λ (x : List ℕ). startsFrom at x) part-next ∙ rw (eq-eqb _ _ z, add-one)
+
+  pub starts-other : (getD d at 0 ≡ 0x0A → ⊥) → startsFrom at (part at to d) ≡ startsFrom (at + 1) (part (at + 1) to d)
+  unfolding startsFrom
+  starts-other z = ap (λ (x : List ℕ). startsFrom at x) part-next ∙ rw (ne-eqb _ _ z, add-one)
+
+-- bytes before the next 0A are passed
+starts-past : (n at : ℕ) (d : List ℕ) → n ≤ toBreak d → startsFrom at d ≡ startsFrom (at + n) (drop n d)
+unfolding startsFrom toBreak
+starts-past zero at d h = ap (λ (k : ℕ). startsFrom k d) (omega arith)
+starts-past (suc n) at [] h = refl
+starts-past (suc n) at (b ∷ d) h = go (eqb b 0x0A) h (λ g. starts-past n (suc at) d g)
+  where
+    go : (t : Bool) → suc n ≤ cond t 0 (suc (toBreak d)) → (n ≤ toBreak d → startsFrom (suc at) d ≡ startsFrom (suc at + n) (drop n d))
+        → cond t (suc at ∷ startsFrom (suc at) d) (startsFrom (suc at) d) ≡ startsFrom (at + suc n) (drop n d)
+    go true g f = absurd (omega arith)
+    go false g f = f (omega arith) ∙ ap (λ (k : ℕ). startsFrom k (drop n d)) (omega arith)
+
+pub starts-block : (n at : ℕ) (d : List ℕ) → n ≤ toBreak (drop at d) → startsFrom at (drop at d) ≡ startsFrom (at + n) (drop (at + n) d)
+starts-block n at d h = starts-past n at (drop at d) h ∙ ap (λ (x : List ℕ). startsFrom (at + n) x) (drop-drop n at d)
+
+-- ── the list: `all` is put into `old` from `first` on; it holds `now` up to k, and `rest` is still to come
+pub record Written (all rest old now : List ℕ) (first k : ℕ) : Type 0 where
+  pub new : List ℕ
+  pub holds : now ≡ overAt first new old
+  pub end : k ≡ first + length new
+  pub whole : new ++ rest ≡ all
+  pub long : length now ≡ length old
+
+pub write-start : (all old : List ℕ) (first : ℕ) → Written all all old old first first
+write-start all old first = record { new = []; holds = sym (over-none first old); end = omega arith; whole = refl; long = refl }
+
+module _ (all rest old now : List ℕ) (first k : ℕ) (S : Written all rest old now first k) (fits : first + length all ≤ length old) where
+  -- what is to come has room
+  pub write-room : k + length rest ≤ length now
+  write-room = omega (arith, S .end, S .long, fits, ap length (S .whole), length-append (S .new) rest)
+
+  -- the list stays, and the same is still to come
+  pub write-kept : (rest′ : List ℕ) → rest ≡ rest′ → (now′ : List ℕ) (k′ : ℕ) → now′ ≡ now → k′ ≡ k → Written all rest′ old now′ first k′
+  write-kept rest′ e now′ k′ w n =
+      record {
+        new = S .new;
+        holds = w ∙ S .holds;
+        end = n ∙ S .end;
+        whole = ap (λ (x : List ℕ). S .new ++ x) (sym e) ∙ S .whole;
+        long = ap length w ∙ S .long;
+      }
+
+  -- some of it is put at k
+  pub write-more : (a rest′ now′ : List ℕ) (k′ : ℕ) → rest ≡ a ++ rest′ → now′ ≡ overAt k a now → length now′ ≡ length now → k′ ≡ k + length a → Written all rest′ old now′ first k′
+  write-more a rest′ now′ k′ e w l n =
+      record {
+        new = S .new ++ a;
+        holds = w ∙ (λ i. overAt (S .end i) a (S .holds i)) ∙ over-twice first (S .new) a old (omega (arith, fits));
+        end = omega (arith, n, S .end, length-append (S .new) a);
+        whole = append-assoc (S .new) a rest′ ∙ ap (λ (x : List ℕ). S .new ++ x) (sym e) ∙ S .whole;
+        long = l ∙ S .long;
+      }
+
+  -- one number is stored
+  pub write-stored : (m : ℕ) (rest′ : List ℕ) → rest ≡ m ∷ rest′ → (now′ : List ℕ) (k′ : ℕ) → now′ ≡ set now k m → k′ ≡ k + 1 → Written all rest′ old now′ first k′
+  write-stored m rest′ e now′ k′ w n =
+      write-more (m ∷ []) rest′ now′ k′ e (w ∙ one-store now k m (omega (arith, write-room, ap length e))) (ap length w ∙ length-set now k m) n
+
+  -- nothing is left
+  pub write-end : rest ≡ [] → (now ≡ overAt first all old) × (k ≡ first + length all)
+  write-end e =
+      let q : S .new ≡ all = sym (append-nil (S .new)) ∙ ap (λ (x : List ℕ). S .new ++ x) (sym e) ∙ S .whole in
+      (S .holds ∙ ap (λ (x : List ℕ). overAt first x old) q, S .end ∙ ap (λ (x : List ℕ). first + length x) q)
+
+-- ── the whole index: its 0, then the starts
+module _ (d ix : List ℕ) (h : length (lineStarts d) ≤ length ix) where
+  pub first-room : 0 < length ix
+  unfolding lineStarts
+  first-room = omega (arith, h)
+
+  pub rest-room : 1 + length (startsFrom 0 (drop 0 d)) ≤ length (set ix 0 0)
+  unfolding lineStarts
+  rest-room = omega (arith, h, length-set ix 0 0)
+
+  pub whole-over : overAt 1 (startsFrom 0 (drop 0 d)) (set ix 0 0) ≡ over (lineStarts d) ix
+  unfolding lineStarts over overAt
+  whole-over = go ix first-room
+    where
+      go : (l : List ℕ) → 0 < length l → take 1 (set l 0 0) ++ (startsFrom 0 d ++ drop (length (startsFrom 0 d)) (drop 1 (set l 0 0))) ≡ (0 ∷ startsFrom 0 d) ++ drop (suc (length (startsFrom 0 d))) l
+      go [] g = absurd (omega arith)
+      go (x ∷ l) g = refl
+
+pub whole-count : (d : List ℕ) → 1 + length (startsFrom 0 (drop 0 d)) ≡ length (lineStarts d)
+unfolding lineStarts
+whole-count d = omega arith
+
+-- after a front that is there already
+pub front-over : (front new old : List ℕ) → take (length front) old ≡ front → overAt (length front) new old ≡ over (front ++ new) old
+unfolding overAt over
+front-over front new old h =
+    (λ i. h i ++ (new ++ drop-drop (length new) (length front) old i))
+    ∙ sym (append-assoc front new (drop (length front + length new) old))
+    ∙ ap (λ (n : ℕ). (front ++ new) ++ drop n old) (sym (length-append front new))
