@@ -10,19 +10,20 @@ LARGEST = 2 ** 32 - 1
 # Bytes that are 0A but for one bit or for one, and others; 0D before some 0As.
 NEAR = b"\x0A\x0A\x0A\x0B\x09\x08\x0E\x02\x1A\x2A\x4A\x8A\x8B\x89\x00\xF5\xFFa"
 PIECES = [b"\n"] * 4 + [b"\n\n", b"\r\n", b"a", b"b c", b"oak 12 ft", "木".encode(), "é".encode(), b"\t", b"\0", b"\x8A", b"\x0B", b"\xFF", b"\xE6"]
-# The library may look for 0A at sixteen bytes at a time: lines about as long.
-LENGTHS = (0, 1, 7, 8, 9, 14, 15, 16, 17, 18, 30, 31, 32, 33, 34, 47, 48, 49)
+# The library looks for 0A at sixteen bytes at a time and counts it at sixty-four: lines, and runs of 0A, about as long.
+LENGTHS = (0, 1, 7, 8, 9, 14, 15, 16, 17, 18, 30, 31, 32, 33, 34, 47, 48, 49, 62, 63, 64, 65, 66, 127, 128, 129)
+NEWLINES = (1, 1, 2, 3, 15, 16, 17, 31, 32, 33, 63, 64, 65, 127, 128, 129, 255, 256, 257)
 
 
 # ── Data, and recordings of it
 
 def data(pick, most=10):
-    """None; 0A only; without 0A; lines about as long as a block, the last with a 0A or without; pieces; or bytes that are nearly 0A."""
+    """None; 0A and what follows, if anything; without 0A; lines about as long as a block, the last with a 0A or without; pieces; or bytes that are nearly 0A."""
     way = pick.random()
     if way < 0.04:
         return b""
     if way < 0.1:
-        return b"\n" * pick.choice((1, 1, 2, 3, 15, 16, 17, 31, 32, 33))
+        return b"\n" * pick.choice(NEWLINES) + b"a" * pick.choice((0, 0, 0, 1, 16, 63, 64))
     if way < 0.16:
         return pick.choice((b"a", b"\x0B", b"\x8A", b"\r", b"ab ")) * pick.choice(LENGTHS)
     if way < 0.45:
@@ -70,7 +71,7 @@ def nearly(pick, index, d):
     index, at = list(index), int(pick.random() * len(index))
     way = int(pick.random() * 9)
     if way == 0:
-        index[at] = pick.choice((index[at] + 1, max(index[at] - 1, 0), 0, len(d), len(d) + 1, LARGEST, index[at] ^ 1 << int(pick.random() * 32)))
+        index[at] = pick.choice((index[at] + 1, max(index[at] - 1, 0), index[at - 1], 0, len(d), len(d) + 1, LARGEST, index[at] ^ 1 << int(pick.random() * 32)))
     elif way == 1:
         del index[pick.choice((0, -1, -1, at))]
     elif way == 2:
