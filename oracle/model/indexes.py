@@ -18,7 +18,7 @@ NEWLINES = (1, 1, 2, 3, 15, 16, 17, 31, 32, 33, 63, 64, 65, 127, 128, 129, 255, 
 # ── Data, and recordings of it
 
 def data(pick, most=10):
-    """None; 0A, with a line behind it or not; without 0A; lines about as long as a block, the last with a 0A or without; pieces; or bytes that are nearly 0A."""
+    """None; 0A, with a line behind or not; without 0A; lines about as long as a block, the last with a 0A or without; pieces; or bytes that are nearly 0A."""
     way = pick.random()
     if way < 0.04:
         return b""
