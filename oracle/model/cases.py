@@ -1,14 +1,17 @@
-"""The model's own tests: document 01's cases C1 to C16, with document 02's widths of lines, tab stops, indent taken off, pictures and two readers; its reading of UTF-8 against Python's decoder; and
-laws, on random inputs (those of the two readers are in `views.py`)."""
+"""The model's own tests: document 01's cases C1 to C16, with document 02's widths of lines, tab stops, indent taken off, pictures, two readers and line
+index; its reading of UTF-8 against Python's decoder; and laws, on random inputs (those of the two readers are in `views.py`, of the line index in
+`indexes.py`)."""
 import random
 from contextlib import contextmanager
 
+import indexes
 import lists
 import random_calls
 import ruszvedok_model
 
 from runs import NAMES
-from ruszvedok_model import (CALLS, PICTURES, PUSH, RAW, TEXT_CALLS, Recording, balanced, call, char_width, chars, coloured, listed_lines, recording, text_width, width_of, wraplist)
+from ruszvedok_model import (CALLS, PICTURES, PUSH, QUESTIONS, RAW, TEXT_CALLS, Recording, balanced, call, char_width, chars, coloured, listed_lines,
+                             recording, text_width, width_of, wraplist)
 
 FACE, TRUCK = "\U0001F600".encode(), "\U0001F680".encode()
 WRAPS = [
@@ -122,6 +125,75 @@ FLOOR = [
     ("two that meet", b"\xC3\xCC\x81\xA9", [(1, X), (3, POP)], b"\xC3\xA9", [(1, X), (1, POP)]),
 ]
 
+# Document 02, Q-7: data, its index, first byte and end of each line, line and column of each offset.
+INDEXES = [
+    ("the lines of a text", b"a\nbb\n", (0, 2, 5), [(0, 1), (2, 4), (5, 5)], [(0, 0), (0, 1), (1, 0), (1, 1), (1, 2), (2, 0)]),
+    ("no data", b"", (0,), [(0, 0)], [(0, 0)]),
+    ("a 0A", b"\n", (0, 1), [(0, 0), (1, 1)], [(0, 0), (1, 0)]),
+    ("0A only", b"\n\n", (0, 1, 2), [(0, 0), (1, 1), (2, 2)], [(0, 0), (1, 0), (2, 0)]),
+    ("no 0A", b"ab", (0,), [(0, 2)], [(0, 0), (0, 1), (0, 2)]),
+    ("0D is a byte of its line", b"a\r\nb", (0, 3), [(0, 2), (3, 4)], [(0, 0), (0, 1), (0, 2), (1, 0), (1, 1)]),
+    ("bytes and no characters", TREE + b"\n\xC3", (0, 4), [(0, 3), (4, 5)], [(0, 0), (0, 1), (0, 2), (0, 3), (1, 0), (1, 1)]),
+]
+ROWS, FAULTY = recording(b"a\nbb\n"), recording(b"a\nbb\n", (0, 0, 0, 1), b"\xFF")
+# The list before, which a refusal leaves so, and the number.
+INDEX_REFUSALS = [
+    ("too short by one", ("build_line_index", ROWS), (7, 8), 36),
+    ("none", ("build_line_index", recording(b"")), (), 36),
+    ("6 before 36", ("build_line_index", FAULTY), (), 6),
+    ("1 before 36", ("build_line_index", recording(b"a" * 1048577)), (), 1),
+    ("too short by one, extended", ("extend_line_index", ROWS, 2, 2), (0, 2), 36),
+    ("nothing used", ("extend_line_index", ROWS, 0, 0), (0, 2, 5), 36),
+    ("nothing used of no data", ("extend_line_index", recording(b""), 0, 0), (0,), 36),
+    ("more used than the list has", ("extend_line_index", ROWS, 5, 4), (0, 2, 5), 36),
+    ("more earlier data than there is", ("extend_line_index", ROWS, 6, 3), (0, 2, 5, 7), 36),
+    ("one used too few", ("extend_line_index", ROWS, 5, 2), (0, 2, 5), 36),
+    ("one used too many", ("extend_line_index", ROWS, 4, 3), (0, 2, 5), 36),
+    ("a number of the earlier index is wrong", ("extend_line_index", ROWS, 3, 2), (0, 1, 5), 36),
+    ("its first number is wrong", ("extend_line_index", ROWS, 3, 2), (1, 2, 5), 36),
+    ("2 before 36, extended", ("extend_line_index", recording(b"a", (0,)), 2, 9), (), 2),
+]
+INDEX_EXTENSIONS = [
+    ("by nothing", 5, 3, (0, 2, 5, 9)),
+    ("by a 0A", 4, 2, (0, 2, 8, 9)),
+    ("from behind a 0A", 2, 2, (0, 2, 8, 9)),
+    ("from before it", 1, 1, (0, 7, 8, 9)),
+    ("from no data", 0, 1, (0, 7, 8, 9)),
+]
+QUESTION_REFUSALS = [
+    ("line 3 of 3", ("line_at", ROWS, (0, 2, 5), 3), 37),
+    ("offset 6 of 5", ("place_of", ROWS, (0, 2, 5), 6), 37),
+    *[(f"{why}, {name}", (name, r, index, asked), refusal) for name, asked in (("line_at", 3), ("place_of", 6)) for why, r, index, refusal in [
+        ("a number wrong", ROWS, (0, 3, 5), 36), ("one too few", ROWS, (0, 2), 36), ("one too many", ROWS, (0, 2, 5, 5), 36),
+        ("not in order", ROWS, (0, 5, 2), 36), ("the first not 0", ROWS, (1, 2, 5), 36), ("none", ROWS, (), 36),
+        ("6 before 36", FAULTY, (0,), 6), ("6 before 37", FAULTY, (0, 2, 5), 6),
+        ("4 before 36", recording(b"", (1, 1, 0, 0)), (), 4), ("5 before 36", recording(b"", (), b"x" * 65537), (), 5)]],
+    ("36 though the line is there", ("line_at", ROWS, (0, 2, 5, 6), 0), 36),
+    ("36 though the offset is there", ("place_of", ROWS, (0, 2), 0), 36),
+]
+
+
+def index_cases():
+    """The names of the cases of the line index that do not come out so."""
+    wrong = []
+    for name, data, index, lines, places in INDEXES:
+        r = recording(data, (0, 0, 0, 1, len(data), 1, 0, 0), b"x")
+        answers = call("build_line_index", r, room=(0, 0, 0, len(index) + 1)), call("build_line_index", r, room=(0, 0, 0, len(index)))
+        if answers != tuple(((0, 0, 0, 0, len(index)), (b"", (), b"", index + rest)) for rest in ((0xA5A5A5A5,), ())):
+            wrong.append(name)
+        for question, expected in (("line_at", lines), ("place_of", places)):
+            if [call(question, r, index, k) for k in range(len(expected) + 1)] != [((0, *pair), ()) for pair in expected] + [((37, 0, 0), ())]:
+                wrong.append(f"{name}, {question}")
+    wrong += [name for name, inputs, held, refusal in INDEX_REFUSALS if call(*inputs, room=(3, 2, 1, held)) != ((refusal, 0, 0, 0, 0), lent(3, 2, 1, held))]
+    wrong += [name for name, earlier, used, held in INDEX_EXTENSIONS
+              if call("extend_line_index", ROWS, earlier, used, room=(3, 2, 1, held)) != ((0, 0, 0, 0, 3), lent(3, 2, 1, (0, 2, 5, 9)))]
+    return wrong + [name for name, inputs, refusal in QUESTION_REFUSALS if call(*inputs) != ((refusal, 0, 0), ())]
+
+
+def lent(data, numbers, text, lines):
+    """Buffers with A5 in every byte, and a list."""
+    return b"\xA5" * data, (0xA5A5A5A5,) * numbers, b"\xA5" * text, lines
+
 
 def entry_list(parts):
     """Entry numbers and text of entries given by place, kind and text."""
@@ -165,6 +237,7 @@ def document_cases():
         office = call("write_for_office", given, b"x", room=tuple(map(len, given)))
         if (numbers, buffers[:3], office) != ((0, *map(len, expected), 0), expected, ((0, *map(len, given), 0), given + ((),))):
             wrong.append(f"Q-6, {name}")
+    wrong += [f"Q-7, {name}" for name in index_cases()]
     if there_and_back(recording(b">a\n>\n>b"), recording(b">"), "write_unindented", "write_indented")[1].data != b">a\n\n>b":
         wrong.append("Q-3, a line that is exactly the prefix does not come back")
     return wrong
@@ -325,12 +398,17 @@ def texts_lent(inputs):
 
 def any_call(pick):
     """A call of any name, and the room that it is lent."""
-    name, text, room = pick.choice([*CALLS, *TEXT_CALLS]), random_calls.text(pick), (pick.choice((8, 400)), 80, 80, pick.choice((6, 300)))
+    name, text, room = pick.choice([*CALLS, *TEXT_CALLS, *QUESTIONS]), random_calls.text(pick), (pick.choice((8, 400)), 80, 80, pick.choice((6, 300)))
     if name in random_calls.LAYOUT:
         content = random_calls.content(pick)
         return (name, content, *random_calls.LAYOUT[name](pick, content)), room
     if name in random_calls.WITH_CONTENT:
         return (name, *random_calls.WITH_CONTENT[name](pick)), room
+    if name in indexes.WRITTEN:
+        inputs, held = indexes.WRITTEN[name](pick, lambda length: (0xA5A5A5A5,) * length)
+        return (name, *inputs), (0, 0, 0, held)
+    if name in QUESTIONS:
+        return (name, *indexes.ASKED[name](pick, name)), ()
     if name in ("truncate_end_pos", "truncate_start_pos"):
         return (name, text, random_calls.width(pick)), room
     if name == "wrap_bytes":

@@ -610,6 +610,26 @@ def without_raws_under(r, label):
     return recording(r.data, numbers, r.text)
 
 
+# ── Document 02, Q-7: a line index beside the data
+
+def line_starts(data):
+    """The index: 0, and the place after each 0A."""
+    return (0, *(place + 1 for place, byte in enumerate(data) if byte == 0x0A))
+
+
+def line_at(data, n):
+    """The first byte and the end of line n, counted from 0: the place of its 0A, or the data's end."""
+    first = line_starts(data)[n]
+    newline = data.find(b"\n", first)
+    return first, len(data) if newline < 0 else newline
+
+
+def place_of(data, offset):
+    """The line and the byte column of an offset. A 0A belongs to the line that it ends, so the lines before are those whose 0A comes before the offset."""
+    *lines_before, line = data[:offset].split(b"\n")
+    return len(lines_before), len(line)
+
+
 # ── Refusals
 
 class Refused(Exception):
@@ -734,6 +754,34 @@ def view_call(write):
     return run
 
 
+def build_index_call(content, buffers):
+    """36, the list is too short, follows the recording's checks. The index comes from the list's first place on, and its count is the number."""
+    check_recording(content)
+    *others, index = buffers
+    starts = line_starts(content.data)
+    refuse_if(len(index) < len(starts), 36)
+    return (0, 0, 0, 0, len(starts)), (*others, overwrite(index, starts))
+
+
+def extend_index_call(content, earlier, used, buffers):
+    """36 also where the first `used` numbers are not the index of the earlier data, whose length must not pass the data's. Otherwise it equals building."""
+    check_recording(content)
+    *_, index = buffers
+    refuse_if(used > len(index) or earlier > len(content.data), 36)
+    refuse_if(index[:used] != line_starts(content.data[:earlier]), 36)
+    return build_index_call(content, buffers)
+
+
+def question(answer, is_there):
+    """A question to an index: 36, it is not that of the data, after the recording's checks; 37, the line or offset is not there, last."""
+    def run(content, index, asked):
+        check_recording(content)
+        refuse_if(index != line_starts(content.data), 36)
+        refuse_if(not is_there(content.data, asked), 37)
+        return answer(content.data, asked)
+    return run
+
+
 def plain_call(work):
     def run(*inputs, buffers):
         check_plain(*[t for t in inputs if isinstance(t, bytes)])
@@ -780,6 +828,8 @@ CALLS = {
     "write_unindented": unindent_call,
     "write_for_office": view_call(write_for_office),
     "write_for_floor": view_call(write_for_floor),
+    "build_line_index": build_index_call,
+    "extend_line_index": extend_index_call,
     "elide_start": plain_call(elide_start),
     "elide_end": plain_call(elide_end),
     "complete_newline": plain_call(lambda text: (complete_newline(text), 0)),
@@ -798,6 +848,12 @@ TEXT_CALLS = {
     "zero_width_len": lambda text: (zero_width_len(text),),
 }
 
+# The questions to a line index, which lend nothing to write: two numbers behind the refusal or 0.
+QUESTIONS = {
+    "line_at": question(line_at, lambda data, n: n <= data.count(b"\n")),
+    "place_of": question(place_of, lambda data, offset: offset <= len(data)),
+}
+
 
 def lent(buffer, unwritten):
     """A buffer given by its length holds `unwritten` in every place."""
@@ -811,10 +867,16 @@ def call(name, *inputs, room=()):
 
     `room` gives the buffers before, in the same order, each by its length (then every byte is A5) or by its members; those left out have no places.
     A recording is `recording(data, numbers, text)`. The adding calls take how much of the three buffers is used, and the bytes to add.
+    A line index that is written is the last buffer; for a question, whose answer has three numbers, it is an input.
     """
     if name in TEXT_CALLS:
         results = tuple(TEXT_CALLS[name](*inputs))
         return results + (0,) * (5 - len(results)), ()
+    if name in QUESTIONS:
+        try:
+            return (0, *QUESTIONS[name](*inputs)), ()
+        except Refused as r:
+            return (r.number, 0, 0), ()
     room = tuple(room) + (0,) * (4 - len(room))
     buffers = tuple(lent(b, unwritten) for b, unwritten in zip(room, (b"\xA5", (0xA5A5A5A5,), b"\xA5", (0xA5A5A5A5,))))
     try:

@@ -10,8 +10,10 @@ import ruszvedok_model as model
 
 NAMES = ("text_width well_formed truncate_end_pos truncate_start_pos zero_width_len replay write_truncated_start write_truncated_end write_padded_start write_padded_end "
          "write_padded_centered write_indented wrap_bytes write_wrapped write_replaced elide_start elide_end complete_newline write push_label pop_label raw "
-         "char_width read_char trim_start_zero_width_chars write_tabs_expanded write_unindented write_for_office write_for_floor").split()
-KEYS = "data entries text second second_entries second_text records new added used width break code answer out out_entries out_text lines characters label".split()
+         "char_width read_char trim_start_zero_width_chars write_tabs_expanded write_unindented write_for_office write_for_floor "
+         "build_line_index extend_line_index line_at place_of").split()
+KEYS = ("data entries text second second_entries second_text records new added used width break code answer out out_entries out_text lines characters "
+        "label index at").split()
 WORDS = {"push": 0, "pop": 1, "raw": 2}
 ESCAPES = {"n": 0x0A, "t": 0x09}
 FIELD = re.compile(r'(?:[^ "]|"[^"]*")+')
@@ -99,6 +101,12 @@ class Line:
             return self.content(),
         if name in ("write_for_office", "write_for_floor"):
             return self.content(), self.bytes("label")
+        if name == "build_line_index":
+            return self.content(),
+        if name == "extend_line_index":
+            return self.content(), self.number("at"), self.number("used")
+        if name in model.QUESTIONS:
+            return self.content(), self.numbers("index"), self.number("at")
         if name in ("write_indented", "write_unindented"):
             return self.content(), self.second()
         if name.startswith(("write_truncated", "write_padded")):
@@ -119,8 +127,19 @@ class Line:
             return (len(rest), 0, 0, 0, 0), (rest,) + self.given()[1][1:]
         if self.name in ("write", "push_label", "pop_label", "raw"):
             return model.call(self.name, *self.inputs(), room=self.buffers("data", "entries", "text"))
+        if self.name in model.QUESTIONS:
+            return model.call(self.name, *self.inputs())[0] + (0, 0), self.given()[1]
+        if self.name in ("build_line_index", "extend_line_index"):
+            return model.call(self.name, *self.inputs(), room=(0, 0, 0, self.index_before()))
         numbers, after = model.call(self.name, *self.inputs(), room=tuple(map(len, self.given()[1])))
         return numbers, after or self.given()[1]
+
+    def index_before(self):
+        """The list that a line index is written in, before the call: as long as afterwards."""
+        held, length = self.numbers("index"), len(self.numbers("lines"))
+        if len(held) > length:
+            raise ValueError(f"more numbers than places: {self.fields['index'][:80]}")
+        return held + (0xA5A5A5A5,) * (length - len(held))
 
     def agrees(self):
         if self.name == "read_char":

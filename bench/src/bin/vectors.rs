@@ -37,8 +37,19 @@ const CALLS: &[(&str, Maker)] = &[
 ];
 
 /// The program's names after these calls; only the first part of the list has lines of them.
-const OTHERS: [&str; 7] =
-    ["char_width", "read_char", "trim_start_zero_width_chars", "write_tabs_expanded", "write_unindented", "write_for_office", "write_for_floor"];
+const OTHERS: [&str; 11] = [
+    "char_width",
+    "read_char",
+    "trim_start_zero_width_chars",
+    "write_tabs_expanded",
+    "write_unindented",
+    "write_for_office",
+    "write_for_floor",
+    "build_line_index",
+    "extend_line_index",
+    "line_at",
+    "place_of",
+];
 
 /// What the first line of the second part starts with.
 const MARK: &str = "# ── Made by bench/vectors";

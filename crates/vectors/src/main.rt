@@ -5,9 +5,13 @@
 // A line: a call's name, then fields `key=value` with one space between them. Which keys there are and how a value is written: the head of the file `stdin`.
 // `!` before the name marks a line that is wrong on purpose. A name or a key that is not in the tables here (in `main` and `value_in`) makes a line differ.
 // The calls go through the C names, so that the boundary is replayed too; three are the library's own, which C has not: `char_width`, `read_char`, `trim_start_zero_width_chars`.
+use capi::ruszvedok_build_line_index;
 use capi::ruszvedok_complete_newline;
 use capi::ruszvedok_elide_end;
 use capi::ruszvedok_elide_start;
+use capi::ruszvedok_extend_line_index;
+use capi::ruszvedok_line_at;
+use capi::ruszvedok_place_of;
 use capi::ruszvedok_pop_label;
 use capi::ruszvedok_push_label;
 use capi::ruszvedok_raw;
@@ -43,9 +47,9 @@ ghost use lib.ListN.{length};
 ghost use Rattle.chars.specs.Leads.{leadTable};
 
 // How many calls there are in the table of names in `main`, and how many rows are printed: one more, of the lines that are wrong on purpose.
-const CALLS: usize = 29;
+const CALLS: usize = 33;
 
-const ROWS: usize = 30;
+const ROWS: usize = 34;
 
 // What stands for a word that is no number.
 const NONE: u64 = 18446744073709551615;
@@ -91,7 +95,11 @@ const CHARACTERS: usize = 18;
 
 const LABEL: usize = 19;
 
-const KEYS: usize = 20;
+const INDEX: usize = 20;
+
+const AT: usize = 21;
+
+const KEYS: usize = 22;
 
 // ── fields
 
@@ -164,7 +172,7 @@ fn value_in(f: &[u8], key: usize) -> usize
     behind(
         f,
         part(
-            b"data entries text second second_entries second_text records new added used width break code answer out out_entries out_text lines characters label",
+            b"data entries text second second_entries second_text records new added used width break code answer out out_entries out_text lines characters label index at",
             0x20,
             key,
         ),
@@ -1158,6 +1166,89 @@ fn content_agrees(line: &[u8], call: usize, content: &[u8], entries: &[u32], tex
     )
 }
 
+// The calls that write a line index. `at` is the length of the earlier data.
+fn index_call(
+    call: usize,
+    content: &[u8],
+    entries: &[u32],
+    text: &[u8],
+    at: usize,
+    index: &mut [u32],
+    used: usize,
+    res: &mut [u64; 5],
+) {
+    match call {
+        29 => ruszvedok_build_line_index(content, entries, text, index, res),
+        _ => ruszvedok_extend_line_index(content, entries, text, at, index, used, res),
+    }
+}
+
+fn list_agrees(line: &[u8], res: &[u64; 5], list: &[u32; 264]) -> bool {
+    agrees(line, res, b"", &[], b"", list)
+}
+
+// Lends a part of a list that holds the numbers of `index`, and A5 behind them.
+fn index_agrees(line: &[u8], call: usize, content: &[u8], entries: &[u32], text: &[u8]) -> bool {
+    let mut list: [u32; 264] = [0xA5A5A5A5; 264];
+    let mut res: [u64; 5] = [0xA5; 5];
+    numbers_in(line, INDEX, &mut list);
+    let at = number_of(line, AT) as usize;
+    let used = number_of(line, USED) as usize;
+    let d = room_of(line, LINES, 256);
+    index_call(
+        call,
+        content,
+        entries,
+        text,
+        at,
+        &mut list[0..d],
+        used,
+        &mut res,
+    );
+    list_agrees(line, &res, &list)
+}
+
+// The questions to a line index. `at` is a line or an offset.
+fn question(
+    call: usize,
+    content: &[u8],
+    entries: &[u32],
+    text: &[u8],
+    index: &[u32],
+    at: usize,
+    res: &mut [u64; 3],
+) {
+    match call {
+        31 => ruszvedok_line_at(content, entries, text, index, at, res),
+        _ => ruszvedok_place_of(content, entries, text, index, at, res),
+    }
+}
+
+fn question_agrees(line: &[u8], call: usize, content: &[u8], entries: &[u32], text: &[u8]) -> bool {
+    let mut index: [u32; 264] = [0; 264];
+    let mut res: [u64; 3] = [0xA5; 3];
+    let n = numbers_in(line, INDEX, &mut index);
+    let at = number_of(line, AT) as usize;
+    question(call, content, entries, text, &index[0..n], at, &mut res);
+    let all = [res[0], res[1], res[2], 0, 0];
+    same_answer(line, &all)
+}
+
+// The calls on a recording.
+fn recording_agrees(
+    line: &[u8],
+    call: usize,
+    content: &[u8],
+    entries: &[u32],
+    text: &[u8],
+) -> bool {
+    match call {
+        29 | 30 => index_agrees(line, call, content, entries, text),
+        31 | 32 => question_agrees(line, call, content, entries, text),
+        _ => content_agrees(line, call, content, entries, text),
+    }
+}
+
 fn plain_call(
     call: usize,
     content: &[u8],
@@ -1374,7 +1465,7 @@ fn layout_line_agrees(line: &[u8], call: usize) -> bool {
     let d = bytes_in(line, DATA, &mut content);
     let e = numbers_in(line, ENTRIES, &mut entries);
     let t = bytes_in(line, TEXT, &mut text);
-    content_agrees(line, call, &content[0..d], &entries[0..e], &text[0..t])
+    recording_agrees(line, call, &content[0..d], &entries[0..e], &text[0..t])
 }
 
 // The content's buffers are lent, and hold A5 behind what is said of them.
@@ -1543,7 +1634,8 @@ fn main() {
     run(
         b"text_width well_formed truncate_end_pos truncate_start_pos zero_width_len replay write_truncated_start write_truncated_end write_padded_start write_padded_end \
         write_padded_centered write_indented wrap_bytes write_wrapped write_replaced elide_start elide_end complete_newline write push_label pop_label raw \
-        char_width read_char trim_start_zero_width_chars write_tabs_expanded write_unindented write_for_office write_for_floor wrong",
+        char_width read_char trim_start_zero_width_chars write_tabs_expanded write_unindented write_for_office write_for_floor \
+        build_line_index extend_line_index line_at place_of wrong",
         &list[..n],
     );
 }

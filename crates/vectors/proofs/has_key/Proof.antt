@@ -8,10 +8,10 @@ use Rattle.vectors.proofs.has_key.Lts as lts
 use Rattle.vectors.proofs.value_in.Reads as value-in-reads
 
 abbrev Inv-loop : tie.InvT-loop
-Inv-loop f key₀ key = key ≤ 20
+Inv-loop f key₀ key = key ≤ 22
 
 abbrev μ-loop : tie.MeasureT-loop
-μ-loop f key₀ key = 20 - key
+μ-loop f key₀ key = 22 - key
 
 loop-holds : tie.Need-loop-holds Inv-loop μ-loop
 loop-holds c = search needs
