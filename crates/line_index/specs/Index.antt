@@ -25,11 +25,13 @@ unfolding shortFault indexFault
 extendFault d earlier ix used =
     firstOf (refuseIf (ltb (length ix) used || ltb (length d) earlier) 36 ∷ indexFault (take earlier d) (take used ix) ∷ shortFault d (length ix) ∷ [])
 
--- ── then 37: the line, or the offset, is not there
+-- ── then 37
+-- the line is not there
 unfoldable pub lineFault : Bytes → List ℕ → ℕ → ℕ
 unfolding indexFault
 lineFault d ix n = firstOf (indexFault d ix ∷ refuseIf (leb (length (lineStarts d)) n) 37 ∷ [])
 
+-- the offset is not there
 unfoldable pub placeFault : Bytes → List ℕ → ℕ → ℕ
 unfolding indexFault
 placeFault d ix o = firstOf (indexFault d ix ∷ refuseIf (ltb (length d) o) 37 ∷ [])

@@ -18,11 +18,12 @@ unfoldable pub lineStarts : Bytes → List ℕ
 unfolding startsFrom
 lineStarts d = 0 ∷ startsFrom 0 d
 
--- the place of each 0A, and the data's end
+-- the place of each 0A of d, and the data's end, where d stands from `at` on
 unfoldable pub endsFrom : ℕ → Bytes → List ℕ
 endsFrom at [] = at ∷ []
 endsFrom at (b ∷ d) = cond (eqb b 0x0A) (at ∷ endsFrom (suc at) d) (endsFrom (suc at) d)
 
+-- where each line ends
 unfoldable pub lineEnds : Bytes → List ℕ
 unfolding endsFrom
 lineEnds d = endsFrom 0 d

@@ -120,9 +120,11 @@ abbrev pub Promised : Outcome → Lent → Lent → Answer → Type 0
 Promised x before after a = (answerOf a ≡ returned x) × (after ≡ lentAfter x before)
 
 -- ── a call that is lent a list of numbers alone
+-- it leaves no recording
 abbrev pub noRecording : Recording
 noRecording = record { dataBytes = []; entryNumbers = []; text = [] }
 
+-- a list of n numbers
 abbrev pub lineRoom : ℕ → Room
 lineRoom n = record { dataBytes = 0; entryNumbers = 0; text = 0; lines = n }
 
