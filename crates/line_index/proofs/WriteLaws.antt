@@ -1,5 +1,5 @@
 -- The list while the starts are written: what is in it already and what is still to come are together all of them (`Written`).
--- A byte, or a block without 0A, adds nothing or one number (`starts-byte`, `starts-block`).
+-- A 0A adds one number (`starts-newline`), any other byte none (`starts-other`), nor does a block without 0A (`starts-block`).
 use Prim.Native.Nat.{ℕ, zero, suc, _+_, _-_, _≤_, _<_}
 use native.Mathlib.Omega.{arith}
 use native.Mathlib.Numerals.{add-one}
