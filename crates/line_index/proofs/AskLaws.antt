@@ -15,17 +15,7 @@ use Rattle.recording.specs.Lists.{same}
 use Rattle.recording.proofs.Lists.{and-left, and-right, same-self, same-equal}
 use Rattle.line_index.specs.Starts.{startsFrom, lineStarts}
 use Rattle.line_index.specs.Code.{behind, standBehind}
-use Rattle.line_index.proofs.StartLaws.{left-more, left-byte, left-next}
-
--- as many starts as there are 0A
-pub count-starts : (at : ℕ) (d : List ℕ) → length (startsFrom at d) ≡ newlines d
-unfolding startsFrom
-count-starts at [] = refl
-count-starts at (b ∷ d) = go (eqb b 0x0A) (count-starts (suc at) d)
-  where
-    go : (t : Bool) → length (startsFrom (suc at) d) ≡ newlines d → length (cond t (suc at ∷ startsFrom (suc at) d) (startsFrom (suc at) d)) ≡ cond t 1 0 + newlines d
-    go true h = omega arith
-    go false h = omega arith
+use Rattle.line_index.proofs.StartLaws.{count-starts, left-more, left-byte, left-next}
 
 -- ── one number
 module _ (w : List ℕ) (last n : ℕ) where

@@ -9,7 +9,7 @@ use lib.Dec.{leb, ltb}
 use lib.ListN.{length, take, drop, length-append}
 use lib.Seq.{take-append-seam, drop-append-add, drop-drop}
 use borrow.Author.Tests.{ltb-false, leb-false, le-ltb, lt-leb}
-use Rattle.buffer.specs.Place.{over}
+use Rattle.buffer.specs.Place.{over, part}
 use Rattle.buffer.proofs.Laws.{take-over, length-over}
 use Rattle.recording.specs.Lists.{same}
 use Rattle.recording.proofs.Lists.{not-false, same-self}
@@ -20,7 +20,7 @@ use Rattle.recording.proofs.OutcomeLaws.{is-done, refusal-told, refusal-replied
 use Rattle.recording.proofs.FaultLaws.{firstOf-zero, refuseIf-zero, Granted, granted}
 use Rattle.line_index.specs.Starts.{startsFrom, lineStarts, lineAt, Place, placeOf}
 use Rattle.line_index.specs.Index.{shortFault, indexFault, extendFault, lineFault, placeFault, indexResult, buildOutcome, extendOutcome, lineReplied, placeReplied}
-use Rattle.line_index.specs.Shown.{Extending, Built, AfterAppend, Lines, EveryOffset, LineOfPlace, PlaceOfLine, Turned}
+use Rattle.line_index.specs.Shown.{Extending, Built, AfterAppend, Lines, LineReply, EveryOffset, LineOfPlace, PlaceOfLine, Turned}
 use Rattle.line_index.proofs.StartLaws.{extend-is-build, first-is, end-inner, end-last, end-le, end-newline, place-line, place-start, place-end, place-only, place-unique}
 use Rattle.line_index.proofs.LineLaws.{pieces-split, lines-joined, lines-count, line-bytes, line-clean}
 use Rattle.line_index.proofs.CallLaws.{fault-is, room-left}
@@ -137,6 +137,13 @@ module _ (r : Recording) (ix : List ℕ) where
       place-numbers : n ≤ length d → placeReplied r ix n ≡ record { refusal = 0; first = placeOf d n .line; second = placeOf d n .column }
       unfolding placeReplied placeFault indexFault replied overLimit noRoom
       place-numbers h = rw (content-done r (placeFault d ix n) (lineRoom 0) nothingLeft a (rw (s, le-ltb (length d) n h)) refl)
+
+-- ── what is replied is that line of the data
+pub line-reply : LineReply
+line-reply r ix n h =
+    let p = line-passed r ix n h in
+    let e = line-numbers r ix n (p .0) (p .1) (p .2) in
+    ap (λ (x : Replied). part (x .first) (x .second) (r .dataBytes)) e ∙ line-bytes (r .dataBytes) n (p .2)
 
 -- ── the questions answer each other
 pub line-of-place : LineOfPlace

@@ -10,6 +10,7 @@ use lib.Dec.{ltb, eqb}
 use borrow.Author.Tests.{ltb-true, ltb-false, eqb-true}
 use lib.ListN.{length, take, drop, getD, length-append, length-drop, take-append-drop, List·getD-append}
 use lib.Seq.{length-take-le, getD-append-add, drop-cons}
+use Rattle.newlines.specs.Newlines.{newlines}
 use Rattle.line_index.specs.Starts.{startsFrom, lineStarts, endsFrom, lineEnds, lineAt, lineOfOffset, placeOf}
 
 -- ── the byte at a place, of a text of which b ∷ bs is left there
@@ -25,6 +26,16 @@ module _ (at b : ℕ) (bs w : List ℕ) (e : drop at w ≡ b ∷ bs) where
 
   pub left-next : drop (suc at) w ≡ bs
   left-next = ap (λ (x : List ℕ). drop 1 x) left-is
+
+-- as many starts as there are 0A
+pub count-starts : (at : ℕ) (d : List ℕ) → length (startsFrom at d) ≡ newlines d
+unfolding startsFrom
+count-starts at [] = refl
+count-starts at (b ∷ d) = go (eqb b 0x0A) (count-starts (suc at) d)
+  where
+    go : (t : Bool) → length (startsFrom (suc at) d) ≡ newlines d → length (cond t (suc at ∷ startsFrom (suc at) d) (startsFrom (suc at) d)) ≡ cond t 1 0 + newlines d
+    go true h = omega arith
+    go false h = omega arith
 
 -- ── an append only adds, from its own place on
 pub starts-append : (at : ℕ) (a b : List ℕ) → startsFrom at (a ++ b) ≡ startsFrom at a ++ startsFrom (at + length a) b
@@ -69,7 +80,7 @@ start-le d (suc i) h = omega (arith, starts-bound 0 d i (omega arith) .1)
 module _ (d : List ℕ) (o : ℕ) (h : o ≤ length d) where
   k-is : length (lineStarts (take o d)) ≡ suc (lineOfOffset d o)
   unfolding lineStarts lineOfOffset
-  k-is = refl
+  k-is = ap suc (count-starts 0 (take o d))
 
   line-there : lineOfOffset d o < length (lineStarts d)
   line-there = omega (arith, k-is, ap length (extend-is-build o d h), length-append (lineStarts (take o d)) (startsFrom o (drop o d)))

@@ -1,17 +1,17 @@
--- The list while the starts are written: what is in it already and what is still to come are together all of them (`Written`).
--- A 0A adds one number (`starts-newline`), any other byte none (`starts-other`), nor does a block without 0A (`starts-block`).
+-- The starts while they are written (`Filled` of buffer): a 0A adds one number (`starts-newline`), any other byte none (`starts-other`), nor does a block without 0A (`starts-block`).
+-- And the whole index: its 0 and the starts (`whole-over`), or what is new behind a front that is there (`front-over`).
 use Prim.Native.Nat.{ℕ, zero, suc, _+_, _-_, _≤_, _<_}
 use native.Mathlib.Omega.{arith}
 use native.Mathlib.Numerals.{add-one}
 use mathlib.Core.Bool.{Bool, true, false, cond}
 use mathlib.Core.Path.{_≡_, refl, sym, ap, _∙_}
-use mathlib.Core.List.{List, [], _∷_, _++_, append-nil, append-assoc}
+use mathlib.Core.List.{List, [], _∷_, _++_}
 use lib.Dec.{eqb}
-use lib.ListN.{length, take, drop, getD, set, length-append, length-drop, length-set, take-append-drop}
+use lib.ListN.{length, take, drop, getD, set, length-drop, length-set, take-append-drop}
 use lib.Seq.{drop-cons, drop-drop, take-length}
 use borrow.Author.Tests.{eq-eqb, ne-eqb}
 use Rattle.buffer.specs.Place.{over, overAt, part}
-use Rattle.buffer.proofs.Laws.{over-none, over-twice, one-store, length-part}
+use Rattle.buffer.proofs.Laws.{put-over, length-part}
 use Rattle.newlines.specs.Newlines.{toBreak}
 use Rattle.line_index.specs.Starts.{startsFrom, lineStarts}
 use Rattle.line_index.proofs.StartLaws.{starts-append}
@@ -69,55 +69,6 @@ starts-past (suc n) at (b ∷ d) h = go (eqb b 0x0A) h (λ g. starts-past n (suc
 pub starts-block : (n at : ℕ) (d : List ℕ) → n ≤ toBreak (drop at d) → startsFrom at (drop at d) ≡ startsFrom (at + n) (drop (at + n) d)
 starts-block n at d h = starts-past n at (drop at d) h ∙ ap (λ (x : List ℕ). startsFrom (at + n) x) (drop-drop n at d)
 
--- ── the list: `all` is put into `old` from `first` on; it holds `now` up to k, and `rest` is still to come
-pub record Written (all rest old now : List ℕ) (first k : ℕ) : Type 0 where
-  pub new : List ℕ
-  pub holds : now ≡ overAt first new old
-  pub end : k ≡ first + length new
-  pub whole : new ++ rest ≡ all
-  pub long : length now ≡ length old
-
-pub write-start : (all old : List ℕ) (first : ℕ) → Written all all old old first first
-write-start all old first = record { new = []; holds = sym (over-none first old); end = omega arith; whole = refl; long = refl }
-
-module _ (all rest old now : List ℕ) (first k : ℕ) (S : Written all rest old now first k) (fits : first + length all ≤ length old) where
-  -- what is to come has room
-  pub write-room : k + length rest ≤ length now
-  write-room = omega (arith, S .end, S .long, fits, ap length (S .whole), length-append (S .new) rest)
-
-  -- the list stays, and the same is still to come
-  pub write-kept : (rest′ : List ℕ) → rest ≡ rest′ → (now′ : List ℕ) (k′ : ℕ) → now′ ≡ now → k′ ≡ k → Written all rest′ old now′ first k′
-  write-kept rest′ e now′ k′ w n =
-      record {
-        new = S .new;
-        holds = w ∙ S .holds;
-        end = n ∙ S .end;
-        whole = ap (λ (x : List ℕ). S .new ++ x) (sym e) ∙ S .whole;
-        long = ap length w ∙ S .long;
-      }
-
-  -- some of it is put at k
-  pub write-more : (a rest′ now′ : List ℕ) (k′ : ℕ) → rest ≡ a ++ rest′ → now′ ≡ overAt k a now → length now′ ≡ length now → k′ ≡ k + length a → Written all rest′ old now′ first k′
-  write-more a rest′ now′ k′ e w l n =
-      record {
-        new = S .new ++ a;
-        holds = w ∙ (λ i. overAt (S .end i) a (S .holds i)) ∙ over-twice first (S .new) a old (omega (arith, fits));
-        end = omega (arith, n, S .end, length-append (S .new) a);
-        whole = append-assoc (S .new) a rest′ ∙ ap (λ (x : List ℕ). S .new ++ x) (sym e) ∙ S .whole;
-        long = l ∙ S .long;
-      }
-
-  -- one number is stored
-  pub write-stored : (m : ℕ) (rest′ : List ℕ) → rest ≡ m ∷ rest′ → (now′ : List ℕ) (k′ : ℕ) → now′ ≡ set now k m → k′ ≡ k + 1 → Written all rest′ old now′ first k′
-  write-stored m rest′ e now′ k′ w n =
-      write-more (m ∷ []) rest′ now′ k′ e (w ∙ one-store now k m (omega (arith, write-room, ap length e))) (ap length w ∙ length-set now k m) n
-
-  -- nothing is left
-  pub write-end : rest ≡ [] → (now ≡ overAt first all old) × (k ≡ first + length all)
-  write-end e =
-      let q : S .new ≡ all = sym (append-nil (S .new)) ∙ ap (λ (x : List ℕ). S .new ++ x) (sym e) ∙ S .whole in
-      (S .holds ∙ ap (λ (x : List ℕ). overAt first x old) q, S .end ∙ ap (λ (x : List ℕ). first + length x) q)
-
 -- ── the whole index: its 0, then the starts
 module _ (d ix : List ℕ) (h : length (lineStarts d) ≤ length ix) where
   pub first-room : 0 < length ix
@@ -142,8 +93,7 @@ whole-count d = omega arith
 
 -- after a front that is there already
 pub front-over : (front new old : List ℕ) → take (length front) old ≡ front → overAt (length front) new old ≡ over (front ++ new) old
-unfolding overAt over
+unfolding over
 front-over front new old h =
-    (λ i. h i ++ (new ++ drop-drop (length new) (length front) old i))
-    ∙ sym (append-assoc front new (drop (length front + length new) old))
-    ∙ ap (λ (n : ℕ). (front ++ new) ++ drop n old) (sym (length-append front new))
+    let e : old ≡ over front old = sym (take-append-drop (length front) old) ∙ ap (λ (x : List ℕ). x ++ drop (length front) old) h in
+    ap (λ (x : List ℕ). overAt (length front) new x) e ∙ put-over front new old

@@ -54,7 +54,7 @@ fine = recording three [] []
 abbrev bad : Recording
 bad = recording three (0 ∷ []) []
 
--- its index
+-- the index of `three`
 abbrev ix : List ℕ
 ix = 0 ∷ 2 ∷ 5 ∷ []
 

@@ -57,6 +57,12 @@ pub record Lines (d : Bytes) : Type 0 where
   pub inner : (n : ℕ) → n + 1 < length (lineStarts d) → (getD d (lineAt d n .end) 0 ≡ 0x0A) × (lineAt d (n + 1) .first ≡ lineAt d n .end + 1)
   pub last : (n : ℕ) → n + 1 ≡ length (lineStarts d) → lineAt d n .end ≡ length d
 
+-- and so of what `line_at` replies: the bytes from the first number to the second are that line
+abbrev pub LineReply : Type 0
+LineReply =
+    (r : Recording) (ix : List ℕ) (n : ℕ) → lineReplied r ix n .refusal ≡ 0
+    → part (lineReplied r ix n .first) (lineReplied r ix n .second) (r .dataBytes) ≡ getD (splitLines (r .dataBytes)) n []
+
 -- ── "the line and byte column for an offset up to the data length": exactly one of each
 pub record Places (d : Bytes) (o : ℕ) : Type 0 where
   pub there : placeOf d o .line < length (lineStarts d)

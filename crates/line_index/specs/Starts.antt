@@ -4,7 +4,8 @@ use Prim.Native.Nat.{ℕ, suc, _-_}
 use mathlib.Core.Bool.{cond}
 use mathlib.Core.List.{List, [], _∷_}
 use lib.Dec.{eqb}
-use lib.ListN.{length, take, getD}
+use lib.ListN.{take, getD}
+use Rattle.newlines.specs.Newlines.{newlines}
 use Rattle.layout.specs.Wrap.{Line, lineOf}
 use Rattle.recording.specs.Recording.{Bytes}
 
@@ -40,8 +41,7 @@ pub record Place : Type 0 where
 
 -- the line of an offset: as many 0A as come before it
 unfoldable pub lineOfOffset : Bytes → ℕ → ℕ
-unfolding startsFrom
-lineOfOffset d o = length (startsFrom 0 (take o d))
+lineOfOffset d o = newlines (take o d)
 
 -- the line and the byte column of an offset
 unfoldable pub placeOf : Bytes → ℕ → Place

@@ -5,12 +5,12 @@ use native.Mathlib.Omega.{arith}
 use native.Mathlib.Numerals.{add-one, add-two}
 use mathlib.Core.Bool.{Bool, true, false}
 use mathlib.Core.Path.{_≡_, refl, sym, ap, _∙_}
-use mathlib.Core.List.{List, [], _∷_, _++_, append-assoc, append-nil}
+use mathlib.Core.List.{List, [], _∷_, _++_, append-assoc}
 use lib.ListN.{length, take, drop, set, length-append}
 use lib.Seq.{sets-eq, drop-drop}
 use borrow.Author.Tests.{lt-ltb, le-ltb}
 use Rattle.buffer.specs.Place.{over, overAt}
-use Rattle.buffer.proofs.Laws.{put-over}
+use Rattle.buffer.proofs.FillLaws.{Filled, fill-start, fill-room, fill-more, fill-end}
 use Rattle.recording.specs.Refusals.{dataLimit}
 use Rattle.recording.specs.Outcome.{refused, done, overLimit, noRoom, refusalOf, settle}
 use Rattle.layout.specs.Wrap.{Line, lineOf, lineWidth, lineNumbers, wrapLines}
@@ -70,59 +70,50 @@ module _ (w : ℕ) (b : Bool) (d : List ℕ) (count bytes at : ℕ) (S : Counted
   pub count-last : r .more ≡ false → (count + 1 ≡ length (wrapLines w b d)) × (bytes + (r .end - at) ≡ shownBytes (wrapLines w b d))
   count-last m = let k = end w b d at r e m in (omega (arith, S .lines, ap length k), omega (arith, S .total, ap shownBytes k))
 
--- ── writing
+-- ── writing: the numbers of the lines that are left are still to come
 pub record Written (w : ℕ) (b : Bool) (d old lines : List ℕ) (k at : ℕ) : Type 0 where
-  pub done : List ℕ
-  pub holds : lines ≡ over done old
-  pub end : k ≡ length done
-  -- the lines that are left give the rest of the numbers
-  pub rest : done ++ lineNumbers d (restLines w b at (drop at d)) ≡ lineNumbers d (wrapLines w b d)
+  pub filled : Filled (lineNumbers d (wrapLines w b d)) (lineNumbers d (restLines w b at (drop at d))) old lines 0 k
   pub within : at ≤ length d
-  pub long : length lines ≡ length old
 
 pub start : (w : ℕ) (b : Bool) (d old : List ℕ) → Written w b d old old 0 0
-unfolding over
-start w b d old = record { done = []; holds = refl; end = refl; rest = ap (lineNumbers d) (rest-all w b d); within = omega arith; long = refl }
+start w b d old =
+    record { filled = fill-start (lineNumbers d (wrapLines w b d)) (lineNumbers d (restLines w b 0 (drop 0 d))) old 0 (ap (lineNumbers d) (rest-all w b d)); within = omega arith }
 
 module _ (w : ℕ) (b : Bool) (d old lines : List ℕ) (k at : ℕ) (S : Written w b d old lines k at) (r : Next) (e : restLines w b at (drop at d) ≡ lineOf at (r .end) ∷ following w b d r)
     (v : r .width ≡ lineWidth d (lineOf at (r .end))) where
+  abbrev all : List ℕ
+  all = lineNumbers d (wrapLines w b d)
+
+  abbrev rest : List ℕ
+  rest = lineNumbers d (restLines w b at (drop at d))
+
   abbrev one : List ℕ
   one = at ∷ r .end ∷ r .width ∷ []
 
   -- there is room for one more
-  pub room : length (lineNumbers d (wrapLines w b d)) ≤ length old → k + lineSize ≤ length lines
+  pub room : length all ≤ length old → k + lineSize ≤ length lines
   room h =
-      omega (
-        arith,
-        S .end,
-        S .long,
-        ap length (S .rest),
-        length-append (S .done) (lineNumbers d (restLines w b at (drop at d))),
-        ap length (numbers-one w b d at r e v),
-        length-append one
-            (lineNumbers d (following w b d r)),
-      )
+      let n = length-append one (lineNumbers d (following w b d r)) in
+      omega (arith, fill-room all rest old lines 0 k (S .filled) (omega arith), ap length (numbers-one w b d at r e v), n)
 
-  put : (lines′ : List ℕ) → lines′ ≡ overAt k one lines → lines′ ≡ over (S .done ++ one) old
-  put lines′ q = q ∙ rw (S .holds, S .end) (put-over (S .done) one old)
-
-  more : (S .done ++ one) ++ lineNumbers d (following w b d r) ≡ lineNumbers d (wrapLines w b d)
-  more = append-assoc (S .done) one (lineNumbers d (following w b d r)) ∙ ap (λ (l : List ℕ). S .done ++ l) (sym (numbers-one w b d at r e v)) ∙ S .rest
+  -- it is put
+  more : (lines′ : List ℕ) (k′ : ℕ) → k′ ≡ k + lineSize → lines′ ≡ overAt k one lines → length lines′ ≡ length lines → Filled all (lineNumbers d (following w b d r)) old lines′ 0 k′
+  more lines′ k′ p q l = fill-more all rest old lines 0 k (S .filled) (omega arith) one (lineNumbers d (following w b d r)) lines′ k′ (numbers-one w b d at r e v) q l p
 
   pub next : (lines′ : List ℕ) (k′ : ℕ) → k′ ≡ k + lineSize → lines′ ≡ overAt k one lines → length lines′ ≡ length lines → r .more ≡ true → r .next ≤ length d → Written w b d old lines′ k′ (r .next)
   unfolding following
-  next lines′ k′ p q l m n =
-      record { done = S .done ++ one; holds = put lines′ q; end = omega (arith, p, S .end, length-append (S .done) one); rest = rw m at more; within = n; long = l ∙ S .long }
+  next lines′ k′ p q l m n = record { filled = rw m at (more lines′ k′ p q l); within = n }
 
-  whole : r .more ≡ false → S .done ++ one ≡ lineNumbers d (wrapLines w b d)
+  whole : (lines′ : List ℕ) (k′ : ℕ) → k′ ≡ k + lineSize → lines′ ≡ overAt k one lines → length lines′ ≡ length lines → r .more ≡ false → (lines′ ≡ overAt 0 all old) × (k′ ≡ 0 + length all)
   unfolding following
-  whole m = sym (append-nil (S .done ++ one)) ∙ rw m at more
+  whole lines′ k′ p q l m = fill-end all (lineNumbers d (following w b d r)) old lines′ 0 k′ (more lines′ k′ p q l) (rw m)
 
-  pub last : (lines′ : List ℕ) → lines′ ≡ overAt k one lines → r .more ≡ false → lines′ ≡ over (lineNumbers d (wrapLines w b d)) old
-  last lines′ q m = put lines′ q ∙ ap (λ (l : List ℕ). over l old) (whole m)
-
-  pub last-count : (k′ : ℕ) → k′ ≡ k + lineSize → r .more ≡ false → k′ / lineSize ≡ length (wrapLines w b d)
-  last-count k′ p m = omega (arith, p, S .end, ap length (whole m), length-append (S .done) one, numbers-length d (wrapLines w b d))
+  pub last : (lines′ : List ℕ) (k′ : ℕ) → k′ ≡ k + lineSize → lines′ ≡ overAt k one lines → length lines′ ≡ length lines → r .more ≡ false
+      → (lines′ ≡ over all old) × (k′ / lineSize ≡ length (wrapLines w b d))
+  unfolding overAt
+  last lines′ k′ p q l m =
+      let f = whole lines′ k′ p q l m in
+      (f .0, omega (arith, f .1, numbers-length d (wrapLines w b d)))
 
 -- ── the outcome: refusal 1, refusal 24, or the lines
 module _ (w : ℕ) (b : Bool) (d : List ℕ) (room : ℕ) where

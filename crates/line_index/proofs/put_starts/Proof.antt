@@ -1,12 +1,13 @@
--- What is in the list and what is still to come are together all (`Written`); a 0A adds one number, any other byte none.
+-- What is in the list and what is still to come are together all (`Filled`); a 0A adds one number, any other byte none.
 use native.Mathlib.Omega.{arith}
 use borrow.Author.Needs.{needs}
 use Prim.Native.Nat.{_+_, _-_, _≤_, _<_}
-use mathlib.Core.Path.{ap}
+use mathlib.Core.Path.{refl, ap}
 use lib.ListN.{length}
 use Rattle.buffer.specs.Place.{part}
 use Rattle.line_index.specs.Starts.{startsFrom}
-use Rattle.line_index.proofs.WriteLaws.{Written, write-start, write-room, write-kept, write-stored, write-end, starts-newline, starts-other, starts-over}
+use Rattle.buffer.proofs.FillLaws.{Filled, fill-start, fill-room, fill-kept, fill-stored, fill-end}
+use Rattle.line_index.proofs.WriteLaws.{starts-newline, starts-other, starts-over}
 use mathlib.Core.Logic.{_⊎_, ⊎-elim}
 use Rattle.line_index.proofs.put_starts.Statement.{statement}
 use Rattle.line_index.proofs.put_starts.Tie as tie
@@ -15,7 +16,7 @@ use Rattle.line_index.proofs.put_starts.Lts as lts
 
 abbrev Inv-loop : tie.InvT-loop
 Inv-loop s from to index₀ k n₀ at₀ index n at =
-    (from ≤ at) × (at ≤ to) × Written (startsFrom from (part from to s)) (startsFrom at (part at to s)) index₀ index k n
+    (from ≤ at) × (at ≤ to) × Filled (startsFrom from (part from to s)) (startsFrom at (part at to s)) index₀ index k n
 
 abbrev μ-loop : tie.MeasureT-loop
 μ-loop s from to index₀ k n₀ at₀ index n at =
@@ -28,12 +29,12 @@ room c =
     let a = l .before .args in
     omega (
       arith,
-      write-room _ _ _ _ _ _ (l .loop .inv .2) (l .before .pre .1),
+      fill-room _ _ _ _ _ _ (l .loop .inv .2) (l .before .pre .1),
       ap length (starts-newline (l .loop .at) (a .to) (a .s .now) (omega arith) (l .before .pre .0 .1) (c .if1 .taken)),
     )
 
 loop-holds : tie.Need-loop-holds Inv-loop μ-loop
-loop-holds c = (omega arith, c .pre .0 .0, write-start _ (c .args .index .now) (c .args .k))
+loop-holds c = (omega arith, c .pre .0 .0, fill-start _ _ (c .args .index .now) (c .args .k) refl)
 
 shared-slice-read-if1 : tie.Need-shared-slice-read-if1 Inv-loop μ-loop
 shared-slice-read-if1 c = search needs
@@ -68,10 +69,10 @@ loop-again c =
     let next = startsFrom (l .loop .at + 1) (part (l .loop .at + 1) (a .to) (a .s .now)) in
     let ways
     = ⊎-elim
-    (λ w. write-stored all rest (a .index .now) (l .loop .index) (a .k) (l .loop .n) (l .loop .inv .2) (l .before .pre .1) (l .loop .at + 1) next
-    (starts-newline (l .loop .at) (a .to) (a .s .now) (omega arith) (l .before .pre .0 .1) (w .0 .taken)) (c .if1 .index) (c .if1 .n) (w .1) (w .2))
-    (λ w. write-kept all rest (a .index .now) (l .loop .index) (a .k) (l .loop .n) (l .loop .inv .2) (l .before .pre .1) next
-    (starts-other (l .loop .at) (a .to) (a .s .now) (omega arith) (l .before .pre .0 .1) (w .0 .left)) (c .if1 .index) (c .if1 .n) (w .1) (w .2))
+    (λ w. fill-stored all rest (a .index .now) (l .loop .index) (a .k) (l .loop .n) (l .loop .inv .2) (l .before .pre .1) (l .loop .at + 1) next (c .if1 .index) (c .if1 .n)
+    (starts-newline (l .loop .at) (a .to) (a .s .now) (omega arith) (l .before .pre .0 .1) (w .0 .taken)) (w .1) (w .2))
+    (λ w. fill-kept all rest (a .index .now) (l .loop .index) (a .k) (l .loop .n) (l .loop .inv .2) next (c .if1 .index) (c .if1 .n)
+    (starts-other (l .loop .at) (a .to) (a .s .now) (omega arith) (l .before .pre .0 .1) (w .0 .left)) (w .1) (w .2))
     (c .if1 .came) in
     (omega (arith, l .loop .inv .0), omega arith, ways)
 
@@ -82,7 +83,7 @@ returns : tie.Need-returns Inv-loop μ-loop
 returns c =
     let l = c .before in
     let a = l .before .args in
-    write-end _ _ _ _ _ _ (l .loop .inv .2) (l .before .pre .1) (starts-over (l .loop .at) (a .to) (a .s .now) (omega arith))
+    fill-end _ _ _ _ _ _ (l .loop .inv .2) (starts-over (l .loop .at) (a .to) (a .s .now) (omega arith))
 
 pub put-starts-spec : {M : Type 1} → statement M
 put-starts-spec =

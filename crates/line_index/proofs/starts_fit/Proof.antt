@@ -9,7 +9,7 @@ use lib.ListN.{length-drop}
 use borrow.Author.Tests.{le-leb}
 use Rattle.newlines.proofs.CountLaws.{count-few}
 use Rattle.line_index.specs.Starts.{startsFrom}
-use Rattle.line_index.proofs.AskLaws.{count-starts}
+use Rattle.line_index.proofs.StartLaws.{count-starts}
 use Rattle.line_index.proofs.starts_fit.Statement.{statement}
 use Rattle.line_index.proofs.starts_fit.Tie as tie
 use Rattle.line_index.proofs.starts_fit.Reads as reads

@@ -136,7 +136,7 @@ same-length-3 c =
 same-length-4 : tie.Need-same-length-4 Inv-loop μ-loop
 same-length-4 c =
     let p = c .before .before .before .before .before .before .before .before .before .before .before .before .before .before .before .before .before .before in
-    listed p .set-line .kept .0 ∙ found p .before .loop .inv .1 .long
+    listed p .set-line .kept .0 ∙ found p .before .loop .inv .1 .filled .long
 
 returns : tie.Need-returns Inv-loop μ-loop
 returns c =
@@ -148,10 +148,7 @@ returns c =
     let m = not-true (n .result .more) (c .before .before .before .before .before .before .before .before .before .before .if1 .taken) in (
       laws.finish _ _ _ _ _ _ _ _ _ (S .0) (start (found p) .pre .1 .1 .0) (n .result) (n .ensures .0) _ _ (l .0) (l .1 .0) (l .1 .1 .0) (l .1 .1 .1) m _
           (c .before .before .before .before .before .before .skip .ensures .0),
-      (
-        lists.last _ _ _ _ _ _ _ (S .1) (n .result) (n .ensures .0) (n .ensures .1 .1 .0) _ (s .ensures .1) m,
-        lists.last-count _ _ _ _ _ _ _ (S .1) (n .result) (n .ensures .0) (n .ensures .1 .1 .0) (s .result) (s .ensures .0) m,
-      ),
+      lists.last _ _ _ _ _ _ _ (S .1) (n .result) (n .ensures .0) (n .ensures .1 .1 .0) _ (s .result) (s .ensures .0) (s .ensures .1) (s .kept .0) m,
     )
 
 pub put-wrapped-spec : {M : Type 1} → statement M

@@ -69,7 +69,7 @@ loop-again c =
 same-length : tie.Need-same-length Inv-loop μ-loop
 same-length c =
     let a = set (c .before) in
-    a .set-line .kept .0 ∙ found (a .before) .before .loop .inv .long
+    a .set-line .kept .0 ∙ found (a .before) .before .loop .inv .filled .long
 
 returns : tie.Need-returns Inv-loop μ-loop
 returns c =
@@ -78,10 +78,7 @@ returns c =
     let S = f .before .loop .inv in
     let l = f .next-line in
     let s = a .set-line in
-    let m = not-true (l .result .more) (c .if1 .taken) in (
-      laws.last _ _ _ _ _ _ _ S (l .result) (l .ensures .0) (l .ensures .1 .1 .0) _ (s .ensures .1) m,
-      laws.last-count _ _ _ _ _ _ _ S (l .result) (l .ensures .0) (l .ensures .1 .1 .0) (s .result) (s .ensures .0) m,
-    )
+    laws.last _ _ _ _ _ _ _ S (l .result) (l .ensures .0) (l .ensures .1 .1 .0) _ (s .result) (s .ensures .0) (s .ensures .1) (s .kept .0) (not-true (l .result .more) (c .if1 .taken))
 
 pub write-lines-spec : {M : Type 1} → statement M
 write-lines-spec =
