@@ -6,12 +6,15 @@ use Prim.Native.Nat.{ℕ, _+_, _*_}
 use native.Mathlib.Omega.{arith}
 use lib.ListN.{length}
 use Rattle.recording.specs.declared.TextSizes.{TextSizes}
-use Rattle.recording.specs.Recording.{Item, items, dataOf, textOf}
+use Rattle.recording.specs.Recording.{entriesOf, Item, items, dataOf}
+use Rattle.recording.specs.Share.{sumOf, rawLen, pushOf, times}
+use Rattle.recording.proofs.ShareLaws.{sum-append}
+use Rattle.share.specs.Sizes.{textSize, Stands}
 use Rattle.recording.specs.Edit.{edit}
 use Rattle.recording.proofs.SizeLaws.{entryCount, count-append}
-use Rattle.writer.proofs.Laws.{text-size, data-size}
+use Rattle.writer.proofs.Laws.{data-size}
 use Rattle.layout.specs.Layout.{indentOps, Kind, writeIndented, withSecond, resultItems, kindFault}
-use Rattle.outcomes.proofs.SecondLaws.{Given, content, second, job, BothFine, Measured}
+use Rattle.outcomes.proofs.SecondLaws.{Given, content, second, job, BothFine, Shares, Measured}
 use Rattle.indent.specs.Lines.{filledLines}
 use Rattle.indent.proofs.Laws.{sized}
 
@@ -32,13 +35,19 @@ module _ (x : Given) (n : TextSizes) (fine : BothFine x n) (k : ℕ) (e : k ≡ 
   all-entries : length (x .ns) + k * length (x .gs) ≡ 4 * entryCount (edit (indentOps prefix true (x .ds)) is)
   all-entries = (λ i. fine .0 .entry-size i + e i * fine .1 .entry-size i) ∙ sym (sized (λ (y : List Item). 4 * entryCount y) numbers-len prefix true (x .ds) is)
 
-  all-text : n .content + k * n .second ≡ length (textOf (edit (indentOps prefix true (x .ds)) is))
-  all-text = (λ i. fine .0 .text-size i + e i * fine .1 .text-size i) ∙ sym (sized (λ (y : List Item). length (textOf y)) text-size prefix true (x .ds) is)
+  -- raw sequences and labels: the content's, and the prefix's k times
+  shares : Shares (edit (indentOps prefix true (x .ds)) is) is prefix k
+  shares =
+      record {
+        raws = sized (sumOf rawLen) (sum-append rawLen) prefix true (x .ds) is ∙ ap (λ (j : ℕ). sumOf rawLen is + j * sumOf rawLen prefix) (sym e);
+        labels = λ l. sized (times l) (sum-append (pushOf l)) prefix true (x .ds) is ∙ ap (λ (j : ℕ). times l is + j * times l prefix) (sym e);
+      }
 
   leaves : x .kind ≡ writeIndented → resultItems (job x) (content x) ≡ edit (indentOps prefix true (x .ds)) is
   unfolding resultItems
   leaves q = ap (λ (j : Kind). resultItems (withSecond j (x .width) (second x)) (content x)) q
 
-  pub indented-measured : x .kind ≡ writeIndented
-      → Measured x (edit (indentOps prefix true (x .ds)) is) (length (x .ds) + k * length (x .fs)) (length (x .ns) + k * length (x .gs)) (n .content + k * n .second)
-  indented-measured q = record { own = ap (λ (j : Kind). kindFault j (x .fs) (x .ds)) q; leaves = leaves q; data-size = all-data; entry-size = all-entries; text-size = all-text }
+  pub indented-measured : x .kind ≡ writeIndented → (t : ℕ) → Stands (length (x .ot)) (textSize (x .ts) (entriesOf (x .ns)) (x .us) (entriesOf (x .gs)) k) t
+      → Measured x k (edit (indentOps prefix true (x .ds)) is) (length (x .ds) + k * length (x .fs)) (length (x .ns) + k * length (x .gs)) t
+  indented-measured q t h =
+      record { own = ap (λ (j : Kind). kindFault j (x .fs) (x .ds)) q; leaves = leaves q; data-size = all-data; entry-size = all-entries; shares = shares; text-size = h }

@@ -5,6 +5,7 @@ use newlines::has_break;
 use recording::Answer;
 use recording::CheckedBoth;
 use recording_check::check_both;
+use share::text_size;
 use writer::Cursor;
 use writer::Settled;
 use writer::keep;
@@ -171,10 +172,19 @@ pub fn write_indented(
         CheckedBoth::Fine(n) => n,
     };
     let count = filled_lines(content);
+    let shared = text_size(
+        sizes.content + count * sizes.second,
+        texts.len(),
+        entries,
+        text,
+        prefix_entries,
+        prefix_text,
+        count,
+    );
     let verdict = settle(
         content.len() + count * prefix.len(),
         entries.len() + count * prefix_entries.len(),
-        sizes.content + count * sizes.second,
+        shared,
         0,
         bytes.len(),
         numbers.len(),

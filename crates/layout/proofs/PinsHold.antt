@@ -7,7 +7,7 @@ use Rattle.chars.specs.Utf8.{table37, rowOf, tailLen, complete}
 use Rattle.chars.specs.Width.{ranges, charWidth}
 use Rattle.chars.specs.Chars.{charAt, chars, textWidth, wellFormed}
 use Rattle.chars.specs.Cut.{truncateEndPos, truncateEndWidth, truncateStartPos, truncateStartWidth, zeroWidthLen}
-use Rattle.recording.specs.Recording.{Bytes, recording, items, encode, strip}
+use Rattle.recording.specs.Recording.{Bytes, recording, items, pushedIn, startIn, encode, strip}
 use Rattle.recording.specs.Coloured.{coloured, balanced, noneInside}
 use Rattle.recording.specs.Refusals.{badShape, entryFault, recordingFault}
 use Rattle.recording.specs.Outcome.{Room, refused, overLimit, noRoom, refusalOf, settle}
@@ -20,7 +20,7 @@ use Rattle.layout.proofs.Demand3.{demand3}
 use Rattle.layout.specs.Pins.{pins, asked, due, c16, ticket}
 
 pub pins-hold : asked pins ≡ due pins
-unfolding pins table37 rowOf tailLen complete ranges charWidth charAt chars textWidth wellFormed truncateEndPos truncateEndWidth truncateStartPos truncateStartWidth zeroWidthLen items encode badShape entryFault recordingFault overLimit noRoom refusalOf settle splitWordsAtWidth firstFit wrappedLine wrapLines trimmedStartPos fillCount resultItems linesLeft number resultOf secondFault prefixFault ownFault faultsOf outcome refusal after step toldOf coloured strip
+unfolding pins table37 rowOf tailLen complete ranges charWidth charAt chars textWidth wellFormed truncateEndPos truncateEndWidth truncateStartPos truncateStartWidth zeroWidthLen items pushedIn startIn encode badShape entryFault recordingFault overLimit noRoom refusalOf settle splitWordsAtWidth firstFit wrappedLine wrapLines trimmedStartPos fillCount resultItems linesLeft number resultOf secondFault prefixFault ownFault faultsOf outcome refusal after step toldOf coloured strip
 pins-hold = refl
 
 -- 1: one byte over the limit, and no fault at it

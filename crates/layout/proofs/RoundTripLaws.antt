@@ -9,7 +9,7 @@ use mathlib.Core.Logic.{_≢_, _⊎_, inl, inr}
 use lib.Dec.{eqb, ltb}
 use lib.ListN.{length, take, drop, length-append, length-drop, take-append-drop}
 use borrow.Author.Tests.{eq-eqb, eqb-true, ltb-false, le-ltb}
-use Rattle.recording.specs.Recording.{Bytes, Recording, Item, items, dataOf, textOf, entriesFrom, numbersOf, encode, isNil}
+use Rattle.recording.specs.Recording.{Bytes, Recording, Item, items, dataOf, entriesFrom, textFrom, numbersOf, encode, isNil}
 use Rattle.recording.specs.Coloured.{Coloured, coloured, balanced, values}
 use Rattle.recording.specs.Edit.{Op, keep, skip, put, under, edit, editColoured, editData}
 use Rattle.recording.specs.Refusals.{firstOf, refuseIf}
@@ -19,7 +19,7 @@ use Rattle.recording.proofs.FaultLaws.{in-limits}
 use Rattle.recording.proofs.ItemsLaws.{values-of, values-append, values-under, values-edit, data-items, items-encode}
 use Rattle.recording.proofs.Lists.{and-left, and-right, or-left, or-right}
 use Rattle.recording.proofs.OutcomeLaws.{stops-sizes, first-on, first-one}
-use Rattle.recording.proofs.SizeLaws.{count-numbers, edit-count, edit-text}
+use Rattle.recording.proofs.SizeLaws.{count-numbers, edit-count}
 use Rattle.layout.specs.Layout.{indentOps, Job, indent, unindent, resultItems, secondFault, ownFault, faultsOf, resultOf, Call, refusal, after}
 use Rattle.layout.specs.Plain.{indented, unindented, step, toldOf}
 use Rattle.layout.specs.RoundTrips.{indentCall, unindentCall, NoLineIs, IndentRoundTrips, TwoCalls, leftBy, RunningRoundTrips}
@@ -32,7 +32,7 @@ use Rattle.layout.proofs.LineLaws.{some-lines, linesAt, later-lines, be
 use Rattle.layout.proofs.ListLaws.{granted-call, after-done, bal-after, one-call}
 use Rattle.layout.proofs.PutLaws.{puts-unindent}
 use Rattle.layout.proofs.StepLaws.{length-values, indent-law}
-use Rattle.layout.proofs.StripLaws.{Bare, BarePuts, no-puts}
+use Rattle.layout.proofs.StripLaws.{Bare, BarePuts, no-puts, text-kept}
 use Rattle.layout.proofs.UnindentLaws.{byteOps, by-bytes, unindent-law, begin-long, no-prefix-fault, prefix-fits}
 use Rattle.layout.proofs.WordLaws.{wrap-ordered}
 
@@ -278,9 +278,9 @@ within-limits ops is h g z =
     let e : length (dataOf (edit ops is)) ≡ length (editData ops (dataOf is)) = ap length (edit-data ops is) in
     rw (
       le-ltb 1048576 (length (dataOf (edit ops is))) (omega (arith, d, e, ltb-false 1048576 (length (dataOf is)) (l .dataBytes))),
-      le-ltb 16384 (length (numbersOf (entriesFrom 0 0 (edit ops is))))
-          (omega (arith, count-numbers (edit ops is) 0 0, count-numbers is 0 0, edit-count ops is, none .0, ltb-false 16384 (length (numbersOf (entriesFrom 0 0 is))) (l .entryNumbers))),
-      le-ltb 65536 (length (textOf (edit ops is))) (omega (arith, edit-text ops is, none .1, ltb-false 65536 (length (textOf is)) (l .text))),
+      le-ltb 16384 (length (numbersOf (entriesFrom 0 [] [] (edit ops is))))
+          (omega (arith, count-numbers (edit ops is) 0 [] [], count-numbers is 0 [] [], edit-count ops is, none, ltb-false 16384 (length (numbersOf (entriesFrom 0 [] [] is))) (l .entryNumbers))),
+      le-ltb 65536 (length (textFrom 0 [] [] (edit ops is))) (omega (arith, text-kept ops is g, ltb-false 65536 (length (textFrom 0 [] [] is)) (l .text))),
     )
 
 -- refusals for want of room are 21 to 24

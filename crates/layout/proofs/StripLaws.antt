@@ -12,12 +12,14 @@ use Rattle.chars.specs.Cut.{truncateEndPos, zeroWidthLen}
 use Rattle.recording.specs.Coloured.{balancedFrom, balanced, noneInside}
 use Rattle.recording.specs.Edit.{Op, keep, skip, put, front, back, entriesOnly, edit, editData}
 use Rattle.recording.specs.Outcome.{Room, overLimit, noRoom, Result}
-use Rattle.recording.specs.Recording.{Bytes, Recording, Item, byte, push, pop, raw, byteItems, items, dataOf, textOf, entriesFrom, encode, strip, numbersOf}
+use Rattle.recording.specs.Recording.{Bytes, Recording, Item, byte, push, pop, raw, byteItems, items, dataOf, entriesFrom, textFrom, encode, strip, numbersOf}
 use Rattle.recording.specs.Refusals.{recordingFault}
 use Rattle.recording.proofs.EditLaws.{AllPuts, data-append, edit-data}
 use Rattle.recording.proofs.FaultLaws.{no-fault, in-limits, Roomy, roomy}
 use Rattle.recording.proofs.ItemsLaws.{data-items, data-bytes}
-use Rattle.recording.proofs.SizeLaws.{entryCount, putCount, putText}
+use Rattle.recording.proofs.SizeLaws.{entryCount, putCount}
+use Rattle.recording.specs.Share.{sumOf, rawLen, pushOf, times}
+use Rattle.recording.proofs.ShareLaws.{putSum, edit-sum, text-by-sums}
 use Rattle.layout.specs.Layout.{trimmedStartPos, cutEnd, cutStart, copies, repeatPieces, padding, fillCount, indentOps, Kind, writeTruncatedStart}
 use Rattle.layout.specs.Layout.{writeTruncatedEnd, writePaddedStart, writePaddedEnd, writePaddedCentered, writeIndented, writeUnindented, Single, Job, withSecond}
 use Rattle.layout.specs.Layout.{alone, singleOps, Call, resultItems, linesLeft, secondFault, refusal, after, run, ownFault, faultsOf, resultOf}
@@ -251,33 +253,55 @@ bare-result (withSecond writeUnindented m p) r h =
     bare-edit (unindentOps n (splitLines (r .dataBytes))) (items r) (puts-unindent Bare n (splitLines (r .dataBytes))) h
 bare-result (alone s) r h = bare-edit (singleOps s (r .dataBytes)) (items r) (bare-single s (r .dataBytes)) h
 
-bare-entries : (at used : ℕ) (is : List Item) → Bare is → entriesFrom at used is ≡ []
-bare-entries at used [] h = refl
-bare-entries at used (byte b ∷ is) h = bare-entries (suc at) used is h
-bare-entries at used (push l ∷ a) h = absurd h
-bare-entries at used (pop ∷ a) h = absurd h
-bare-entries at used (raw t ∷ a) h = absurd h
+bare-entries : (at : ℕ) (is : List Item) → Bare is → entriesFrom at [] [] is ≡ []
+bare-entries at [] h = refl
+bare-entries at (byte b ∷ is) h = bare-entries (suc at) is h
+bare-entries at (push l ∷ a) h = absurd h
+bare-entries at (pop ∷ a) h = absurd h
+bare-entries at (raw t ∷ a) h = absurd h
 
-bare-text : (is : List Item) → Bare is → textOf is ≡ []
-bare-text [] h = refl
-bare-text (byte b ∷ is) h = bare-text is h
-bare-text (push l ∷ a) h = absurd h
-bare-text (pop ∷ a) h = absurd h
-bare-text (raw t ∷ a) h = absurd h
+bare-text : (at : ℕ) (is : List Item) → Bare is → textFrom at [] [] is ≡ []
+bare-text at [] h = refl
+bare-text at (byte b ∷ is) h = bare-text (suc at) is h
+bare-text at (push l ∷ a) h = absurd h
+bare-text at (pop ∷ a) h = absurd h
+bare-text at (raw t ∷ a) h = absurd h
 
--- ── bytes alone are put in: no entry, no text
-bare-count : (is : List Item) → Bare is → (entryCount is ≡ 0) × (length (textOf is) ≡ 0)
-bare-count [] h = (refl, refl)
+-- ── bytes alone are put in: no entry, and the text is as long as it was
+bare-count : (is : List Item) → Bare is → entryCount is ≡ 0
+bare-count [] h = refl
 bare-count (byte b ∷ is) h = bare-count is h
 bare-count (push l ∷ is) h = absurd h
 bare-count (pop ∷ is) h = absurd h
 bare-count (raw t ∷ is) h = absurd h
 
-pub no-puts : (ops : List Op) → BarePuts ops → (putCount ops ≡ 0) × (putText ops ≡ 0)
-no-puts [] h = (refl, refl)
+pub no-puts : (ops : List Op) → BarePuts ops → putCount ops ≡ 0
+no-puts [] h = refl
 no-puts (keep n ∷ ops) h = no-puts ops h
 no-puts (skip n ∷ ops) h = no-puts ops h
-no-puts (put p ∷ ops) h = (omega (arith, bare-count p (h .0) .0, no-puts ops (h .1) .0), omega (arith, bare-count p (h .0) .1, no-puts ops (h .1) .1))
+no-puts (put p ∷ ops) h = omega (arith, bare-count p (h .0), no-puts ops (h .1))
+
+module _ (m : Item → ℕ) (none : (b : ℕ) → m (byte b) ≡ 0) where
+  bare-sum : (is : List Item) → Bare is → sumOf m is ≡ 0
+  bare-sum [] h = refl
+  bare-sum (byte b ∷ is) h = omega (arith, none b, bare-sum is h)
+  bare-sum (push l ∷ is) h = absurd h
+  bare-sum (pop ∷ is) h = absurd h
+  bare-sum (raw t ∷ is) h = absurd h
+
+  put-none : (ops : List Op) → BarePuts ops → putSum m ops ≡ 0
+  put-none [] h = refl
+  put-none (keep n ∷ ops) h = put-none ops h
+  put-none (skip n ∷ ops) h = put-none ops h
+  put-none (put p ∷ ops) h = omega (arith, bare-sum p (h .0), put-none ops (h .1))
+
+  pub sum-kept : (ops : List Op) (is : List Item) → BarePuts ops → sumOf m (edit ops is) ≡ sumOf m is
+  sum-kept ops is h = omega (arith, edit-sum m none ops is, put-none ops h)
+
+pub text-kept : (ops : List Op) (is : List Item) → BarePuts ops → length (encode (edit ops is) .text) ≡ length (encode is .text)
+text-kept ops is h =
+    text-by-sums (edit ops is) is (sum-kept rawLen (λ b. refl) ops is h) (λ l p. omega (arith, p, sum-kept (pushOf l) (λ b. refl) ops is h))
+    (λ l p. omega (arith, p, sum-kept (pushOf l) (λ b. refl) ops is h))
 
 -- ── the stripped content beside the content
 pub record Shadow (r r′ : Recording) : Type 0 where
@@ -333,8 +357,8 @@ module _ (c : Call) (r r′ : Recording) (s : Shadow r r′) (g : SecondOk (c .j
       let bare = bare-result (c .job) r′ (bare-items r′ (s .entryNumbers)) in
       record {
         dataBytes = same-data (c .job) r r′ g (s .dataBytes);
-        entryNumbers = ap numbersOf (bare-entries 0 0 (resultItems (strippedJob (c .job)) r′) bare);
-        text = bare-text
+        entryNumbers = ap numbersOf (bare-entries 0 (resultItems (strippedJob (c .job)) r′) bare);
+        text = bare-text 0
             (resultItems (strippedJob (c .job)) r′) bare;
       }
 

@@ -318,13 +318,13 @@ pins =
     -- unindent: no data
     row (call (unindent (recording (0x3E ∷ 0x20 ∷ []) [] [])) roomy (recording [] (0 ∷ 2 ∷ 0 ∷ 1 ∷ []) (0x1B ∷ [])))
     (outcomeOf (done (record { recording = recording [] (0 ∷ 2 ∷ 0 ∷ 1 ∷ []) (0x1B ∷ []); lines = []; number = 0 }))) ∷
-    -- unindent: entries at the first byte, inside the prefix, at its end and behind it stay in order
+    -- unindent: entries at the first byte, inside the prefix, at its end and behind it stay in order; the label x, pushed twice, has one part
     row (call (unindent (recording (0x3E ∷ 0x20 ∷ []) [] [])) roomy
     (recording (0x3E ∷ 0x20 ∷ 0x61 ∷ 0x0A ∷ 0x3E ∷ 0x20 ∷ 0x62 ∷ [])
     (0 ∷ 0 ∷ 0 ∷ 1 ∷ 1 ∷ 2 ∷ 1 ∷ 1 ∷ 2 ∷ 1 ∷ 0 ∷ 0 ∷ 3 ∷ 0 ∷ 2 ∷ 1 ∷ 4 ∷ 1 ∷ 0 ∷ 0 ∷ 5 ∷ 0 ∷ 0 ∷ 1 ∷ 6 ∷ 1 ∷ 0 ∷ 0 ∷ []) (0x78 ∷ 0x79 ∷ 0x7A ∷ [])))
     (outcomeOf (done (record {
-      recording = recording (0x61 ∷ 0x0A ∷ 0x62 ∷ []) (0 ∷ 0 ∷ 0 ∷ 1 ∷ 0 ∷ 2 ∷ 1 ∷ 1 ∷ 0 ∷ 1 ∷ 0 ∷ 0 ∷ 1 ∷ 0 ∷ 2 ∷ 1 ∷ 2 ∷ 1 ∷ 0 ∷ 0 ∷ 2 ∷ 0 ∷ 3 ∷ 1 ∷ 2 ∷ 1 ∷ 0 ∷ 0 ∷ [])
-          (0x78 ∷ 0x79 ∷ 0x7A ∷ 0x78 ∷ []);
+      recording = recording (0x61 ∷ 0x0A ∷ 0x62 ∷ []) (0 ∷ 0 ∷ 0 ∷ 1 ∷ 0 ∷ 2 ∷ 1 ∷ 1 ∷ 0 ∷ 1 ∷ 0 ∷ 0 ∷ 1 ∷ 0 ∷ 2 ∷ 1 ∷ 2 ∷ 1 ∷ 0 ∷ 0 ∷ 2 ∷ 0 ∷ 0 ∷ 1 ∷ 2 ∷ 1 ∷ 0 ∷ 0 ∷ [])
+          (0x78 ∷ 0x79 ∷ 0x7A ∷ []);
       lines = [];
       number = 0;
     }))) ∷
@@ -482,6 +482,13 @@ pins =
     row (call (unindent (recording (0x3E ∷ 0x20 ∷ []) [] [])) (room 0 0 0 0) (recording (0x3E ∷ 0x20 ∷ 0x61 ∷ []) [] [])) (outcomeOf (refused 21)) ∷
     -- 9: 9 before 21
     row (call (truncateEnd 0 (recording [] (fill4 4096) [])) (room 0 0 0 0) (recording (0x61 ∷ []) (fill4 1) [])) (outcomeOf (refused 9)) ∷
+    -- equal labels share the part of the first push, empty ones too; a raw sequence keeps its own; the text is exactly full
+    row (call (replace [] []) (room 1 24 3 0) (recording (0x61 ∷ []) (0 ∷ 0 ∷ 0 ∷ 1 ∷ 0 ∷ 2 ∷ 1 ∷ 1 ∷ 0 ∷ 0 ∷ 2 ∷ 1 ∷ 1 ∷ 0 ∷ 3 ∷ 1 ∷ 1 ∷ 0 ∷ 0 ∷ 0 ∷ 1 ∷ 0 ∷ 4 ∷ 0 ∷ []) (0x78 ∷ 0x78 ∷ 0x79 ∷ 0x78 ∷ []))) (outcomeOf (done (record { recording = recording (0x61 ∷ []) (0 ∷ 0 ∷ 0 ∷ 1 ∷ 0 ∷ 2 ∷ 1 ∷ 1 ∷ 0 ∷ 0 ∷ 2 ∷ 1 ∷ 1 ∷ 0 ∷ 0 ∷ 1 ∷ 1 ∷ 0 ∷ 3 ∷ 0 ∷ 1 ∷ 0 ∷ 3 ∷ 0 ∷ []) (0x78 ∷ 0x78 ∷ 0x79 ∷ []); lines = []; number = 0 }))) ∷
+    -- 23: one byte less
+    row (call (replace [] []) (room 1 24 2 0) (recording (0x61 ∷ []) (0 ∷ 0 ∷ 0 ∷ 1 ∷ 0 ∷ 2 ∷ 1 ∷ 1 ∷ 0 ∷ 0 ∷ 2 ∷ 1 ∷ 1 ∷ 0 ∷ 3 ∷ 1 ∷ 1 ∷ 0 ∷ 0 ∷ 0 ∷ 1 ∷ 0 ∷ 4 ∷ 0 ∷ []) (0x78 ∷ 0x78 ∷ 0x79 ∷ 0x78 ∷ []))) (outcomeOf (refused 23)) ∷
+    -- a label of the second recording that the content has: at its first push, which the fill has
+    row (call (padStart 2 (recording (0x2D ∷ []) (0 ∷ 0 ∷ 0 ∷ 1 ∷ 1 ∷ 1 ∷ 0 ∷ 0 ∷ []) (0x79 ∷ []))) (room 2 20 2 0) (recording (0x61 ∷ []) (0 ∷ 0 ∷ 0 ∷ 1 ∷ 0 ∷ 0 ∷ 1 ∷ 1 ∷ 1 ∷ 1 ∷ 0 ∷ 0 ∷ []) (0x78 ∷ 0x79 ∷ [])))
+    (outcomeOf (done (record { recording = recording (0x2D ∷ 0x61 ∷ []) (0 ∷ 0 ∷ 0 ∷ 1 ∷ 1 ∷ 1 ∷ 0 ∷ 0 ∷ 1 ∷ 0 ∷ 1 ∷ 1 ∷ 1 ∷ 0 ∷ 0 ∷ 1 ∷ 2 ∷ 1 ∷ 0 ∷ 0 ∷ []) (0x79 ∷ 0x78 ∷ []); lines = []; number = 0 }))) ∷
     -- C16: the 0A at 2 has no label
     row (colouredRun (record { job = wrap 2 false; room = roomy } ∷ []) c16)
     (colours (under 0x61 ((0x78 ∷ []) ∷ []) ∷ under 0x62 ((0x78 ∷ []) ∷ []) ∷ under 0x0A [] ∷ under 0x63 [] ∷ under 0x64 [] ∷ [])) ∷

@@ -1,7 +1,7 @@
 -- A call on a content alone: what its check found, and the sizes of what it leaves. It is one edit that puts bytes in and nothing else, so the entry numbers and the text are the content's.
-use mathlib.Core.Path.{_≡_, refl, sym, ap, _∙_}
+use mathlib.Core.Path.{_≡_, refl, sym, ap, subst, _∙_}
 use mathlib.Core.List.{List, [], _∷_}
-use Prim.Native.Nat.{ℕ}
+use Prim.Native.Nat.{ℕ, _≤_}
 use native.Mathlib.Omega.{arith}
 use lib.ListN.{length}
 use Rattle.buffer.specs.Place.{over}
@@ -9,7 +9,7 @@ use Rattle.recording.specs.declared.Refusal.{Refusal}
 use Rattle.recording.specs.declared.Answer.the-variants.{Refused, Done}
 use Rattle.recording.specs.declared.Checked.{Checked}
 use Rattle.recording.specs.declared.Checked.the-variants as C
-use Rattle.recording.specs.Recording.{Bytes, Recording, recording, Item, items, textOf}
+use Rattle.recording.specs.Recording.{Bytes, Recording, recording, entriesOf, Item, items, textOf, encode}
 use Rattle.recording.specs.Edit.{edit, editData}
 use Rattle.recording.specs.Refusals.{numberOf, recordingFault}
 use Rattle.recording.specs.Check.{faultOf, Counted, Within}
@@ -17,7 +17,9 @@ use Rattle.recording.proofs.CheckLaws.{refused-number, fine-zero, fine-count, f
 use Rattle.recording.proofs.EditLaws.{edit-data}
 use Rattle.recording.proofs.ItemsLaws.{data-items}
 use Rattle.recording.proofs.OutcomeLaws.{number-pos, first-hit}
-use Rattle.recording.proofs.SizeLaws.{count-numbers, edit-count, edit-text}
+use Rattle.recording.proofs.SizeLaws.{count-numbers, edit-count}
+use Rattle.share.specs.Sizes.{ownSize, Stands}
+use Rattle.share.proofs.SizeLaws.{own-of-items, own-less}
 use Rattle.writer.specs.declared.Cursor.{Cursor}
 use Rattle.writer.specs.declared.Settled.{Settled}
 use Rattle.writer.specs.declared.Settled.the-variants as S
@@ -28,7 +30,7 @@ use Rattle.layout.specs.Wrap.{lineNumbers}
 use Rattle.layout.specs.Layout.{Single, alone, singleOps, singleLines, singleFault, resultItems, linesLeft, number, secondFault, ownFault}
 use Rattle.recording.specs.Outcome.{Lent, roomIn}
 use Rattle.layout.specs.Lent.{lentLined, Leaves}
-use Rattle.layout.proofs.StripLaws.{bare-single, no-puts}
+use Rattle.layout.proofs.StripLaws.{bare-single, no-puts, text-kept}
 use Rattle.outcomes.proofs.OutcomeLaws as outcomes
 use Rattle.outcomes.proofs.OutcomeLaws.{Accepted, Sized}
 use Rattle.outcomes.proofs.SecondLaws.{Fine, checked-fine}
@@ -49,19 +51,24 @@ module _ (s : Single) (ds ns ts : List ℕ) (b : Lent) where
   pub content-fine : (k : Checked) → faultOf k ≡ recordingFault content → Counted k (length (textOf (items content))) → Within k 268435456 → (n : ℕ) → k ≡ C.Fine n → Fine ds ns ts n
   content-fine k e c w n q = checked-fine ds ns ts n (sym e ∙ fine-zero k n q) (fine-count k n (length (textOf (items content))) q c) (fine-within k n 268435456 q w)
 
-  -- the check found nothing, and n is the length of the entries' texts
-  module _ (n : ℕ) (passed : recordingFault content ≡ 0) (counted : n ≡ length (textOf (items content))) where
+  -- the check found nothing
+  module _ (passed : recordingFault content ≡ 0) where
     pub own-refused : (f : Refusal) → singleFault s ds ≡ numberOf f → Leaves (alone s) content b b (Refused f)
     unfolding secondFault ownFault
     own-refused f e = outcomes.own-refused (alone s) content b passed refl f e
 
-    module _ (own : singleFault s ds ≡ 0) (d l : ℕ) (ed : d ≡ length (editData (singleOps s ds) ds)) (el : l ≡ length (lineNumbers ds (singleLines s ds)))
-        (v : Settled) (g : settledFault v ≡ sizesFault d (length ns) n l (roomIn b)) where
+    -- a data of d bytes, a text for which t stands, and l numbers in the line list
+    module _ (own : singleFault s ds ≡ 0) (d t l : ℕ) (ed : d ≡ length (editData (singleOps s ds) ds)) (et : Stands (length (b .text)) (ownSize ts (entriesOf ns)) t)
+        (el : l ≡ length (lineNumbers ds (singleLines s ds))) (v : Settled) (g : settledFault v ≡ sizesFault d (length ns) t l (roomIn b)) where
       accepted : Accepted (alone s) content
       unfolding secondFault ownFault
       accepted = record { content = passed; second = refl; own = own }
 
-      sized : Sized (alone s) content result d (length ns) n l
+      stands : Stands (length (b .text)) (length (encode result .text)) t
+      stands =
+          subst (λ (k : ℕ). Stands (length (b .text)) k t) (own-of-items ds ns ts passed ∙ sym (text-kept (singleOps s ds) (items content) (bare-single s ds))) et
+
+      sized : Sized (alone s) content (length (b .text)) result d (length ns) t l
       unfolding resultItems linesLeft
       sized =
           record {
@@ -70,23 +77,23 @@ module _ (s : Single) (ds ns ts : List ℕ) (b : Lent) where
             entry-size =
                 omega (
                   arith,
-                  count-numbers (items content) 0 0,
+                  count-numbers (items content) 0 [] [],
                   numbers-items ds ns ts (quads-of ds ns ts passed),
                   edit-count (singleOps s ds) (items content),
                   no-puts
-                      (singleOps s ds) (bare-single s ds) .0,
+                      (singleOps s ds) (bare-single s ds),
                 );
-            text-size = omega (arith, counted, edit-text (singleOps s ds) (items content), no-puts (singleOps s ds) (bare-single s ds) .1);
+            text-size = stands;
             line-size = el;
           }
 
       pub sizes-refused : (f : Refusal) → v ≡ S.Refused f → Leaves (alone s) content b b (Refused f)
-      sizes-refused f q = outcomes.sizes-refused (alone s) content b accepted result d (length ns) n l sized v g f q
+      sizes-refused f q = outcomes.sizes-refused (alone s) content b accepted result d (length ns) t l sized v g f q
 
       pub has-room : v ≡ S.Room → Fits result (blank (b .dataBytes) (b .entryNumbers) (b .text))
-      has-room q = outcomes.has-room (alone s) content b accepted result d (length ns) n l sized v g q
+      has-room q = outcomes.has-room (alone s) content b accepted result d (length ns) t l sized v g q
 
       pub written : v ≡ S.Room → (w : ℕ) (od oe ot ol : List ℕ) (k : Cursor) → number (alone s) content ≡ w → out od oe ot k ≡ add result (blank (b .dataBytes) (b .entryNumbers) (b .text))
           → ol ≡ over (lineNumbers ds (singleLines s ds)) (b .lines) → Leaves (alone s) content b (lentLined od oe ot ol) (Done (k .d) (k .e) (k .t) w)
       unfolding linesLeft
-      written q w od oe ot ol k en wrote listed = outcomes.written (alone s) content b accepted result d (length ns) n l sized v g q w od oe ot ol k en wrote listed
+      written q w od oe ot ol k en wrote listed = outcomes.written (alone s) content b accepted result d (length ns) t l sized v g q w od oe ot ol k en wrote listed

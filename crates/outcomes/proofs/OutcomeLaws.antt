@@ -8,7 +8,7 @@ use lib.ListN.{length}
 use Rattle.buffer.specs.Place.{over}
 use Rattle.recording.specs.declared.Refusal.{Refusal}
 use Rattle.recording.specs.declared.Answer.the-variants.{Refused, Done}
-use Rattle.recording.specs.Recording.{Recording, Item, numbersOf, dataOf, textOf, entriesFrom, encode}
+use Rattle.recording.specs.Recording.{Recording, Item, numbersOf, dataOf, entriesFrom, encode}
 use Rattle.recording.specs.Refusals.{numberOf, firstOf, recordingFault}
 use Rattle.recording.specs.Outcome.{Outcome, refused, done, overLimit, noRoom, refusalOf, Lent, roomIn, lentAfter, returned, answerOf}
 use Rattle.recording.proofs.OutcomeLaws.{number-pos, first-hit, first-on, first-one, stops-content, stops-second, stops-own, stops-sizes, is-refused, is-done, promise-refused}
@@ -19,7 +19,8 @@ use Rattle.writer.specs.declared.Settled.{Settled}
 use Rattle.writer.specs.declared.Settled.the-variants as S
 use Rattle.writer.specs.Write.{out, add, Fits, blank}
 use Rattle.writer.specs.Sizes.{sizesFault, settledFault}
-use Rattle.writer.proofs.Sizes.{size-refused, size-granted, fits-blank}
+use Rattle.writer.proofs.Sizes.{same-verdict, size-refused, size-granted, fits-blank}
+use Rattle.share.specs.Sizes.{Stands}
 use Rattle.writer.proofs.Steps.{from-start}
 use Rattle.layout.specs.Wrap.{lineNumbers}
 use Rattle.layout.specs.Layout.{Job, resultItems, linesLeft, number, resultOf, secondFault, ownFault, faultsOf, outcome}
@@ -31,12 +32,12 @@ pub record Accepted (j : Job) (r : Recording) : Type 0 where
   pub second : secondFault j ≡ 0
   pub own : ownFault j r ≡ 0
 
--- the call leaves the items `is`; they have d data bytes, e entry numbers and t text bytes, and l numbers go into the line list
-pub record Sized (j : Job) (r : Recording) (is : List Item) (d e t l : ℕ) : Type 0 where
+-- the call leaves the items `is`; they have d data bytes, e entry numbers and a text for which t stands in this room, and l numbers go into the line list
+pub record Sized (j : Job) (r : Recording) (room : ℕ) (is : List Item) (d e t l : ℕ) : Type 0 where
   pub leaves : resultItems j r ≡ is
   pub data-size : d ≡ length (dataOf is)
   pub entry-size : e ≡ 4 * entryCount is
-  pub text-size : t ≡ length (textOf is)
+  pub text-size : Stands room (length (encode is .text)) t
   pub line-size : l ≡ length (lineNumbers (r .dataBytes) (linesLeft j r))
 
 module _ (j : Job) (r : Recording) (b : Lent) where
@@ -67,18 +68,22 @@ module _ (j : Job) (r : Recording) (b : Lent) where
       stopped f (is-refused (faultsOf j r) (roomIn b) (resultOf j r) f (stops-own (faultsOf j r) (roomIn b) (resultOf j r) refl a c refl refl (omega (arith, e, number-pos f)) ∙ e))
 
   -- ── only the result is left to be judged
-  module _ (A : Accepted j r) (is : List Item) (d e t l : ℕ) (z : Sized j r is d e t l) (v : Settled) (g : settledFault v ≡ sizesFault d e t l (roomIn b)) where
+  module _ (A : Accepted j r) (is : List Item) (d e t l : ℕ) (z : Sized j r (length (b .text)) is d e t l) (v : Settled) (g : settledFault v ≡ sizesFault d e t l (roomIn b)) where
     data-is : d ≡ length (resultOf j r .recording .dataBytes)
     unfolding resultOf encode
     data-is = z .data-size ∙ ap (λ (x : List Item). length (dataOf x)) (sym (z .leaves))
 
     entries-are : e ≡ length (resultOf j r .recording .entryNumbers)
     unfolding resultOf encode
-    entries-are = z .entry-size ∙ sym (count-numbers is 0 0) ∙ ap (λ (x : List Item). length (numbersOf (entriesFrom 0 0 x))) (sym (z .leaves))
+    entries-are = z .entry-size ∙ sym (count-numbers is 0 [] []) ∙ ap (λ (x : List Item). length (numbersOf (entriesFrom 0 [] [] x))) (sym (z .leaves))
 
-    text-is : t ≡ length (resultOf j r .recording .text)
-    unfolding resultOf encode
-    text-is = z .text-size ∙ ap (λ (x : List Item). length (textOf x)) (sym (z .leaves))
+    text-is : length (encode is .text) ≡ length (resultOf j r .recording .text)
+    unfolding resultOf
+    text-is = ap (λ (x : List Item). length (encode x .text)) (sym (z .leaves))
+
+    -- the text's own size would settle it alike
+    verdict : settledFault v ≡ sizesFault d e (length (encode is .text)) l (roomIn b)
+    verdict = g ∙ same-verdict d e (length (encode is .text)) t l (roomIn b) (z .text-size)
 
     lines-are : l ≡ length (resultOf j r .lines)
     unfolding resultOf
@@ -91,12 +96,12 @@ module _ (j : Job) (r : Recording) (b : Lent) where
     pub sizes-refused : (f : Refusal) → v ≡ S.Refused f → Leaves j r b b (Refused f)
     unfolding outcome
     sizes-refused f q =
-        stopped f (is-refused (faultsOf j r) (roomIn b) (resultOf j r) f (judged ∙ size-refused (resultOf j r) (roomIn b) v f d e t l g q data-is entries-are text-is lines-are))
+        stopped f (is-refused (faultsOf j r) (roomIn b) (resultOf j r) f (judged ∙ size-refused (resultOf j r) (roomIn b) v f d e (length (encode is .text)) l verdict q data-is entries-are text-is lines-are))
 
     -- ── and it has room
     module _ (q : v ≡ S.Room) where
       fit : firstOf (overLimit (resultOf j r .recording) ∷ noRoom (roomIn b) (resultOf j r) ∷ []) ≡ 0
-      fit = size-granted (resultOf j r) (roomIn b) v d e t l g q data-is entries-are text-is lines-are
+      fit = size-granted (resultOf j r) (roomIn b) v d e (length (encode is .text)) l verdict q data-is entries-are text-is lines-are
 
       is-result : told ≡ done (resultOf j r)
       unfolding outcome

@@ -3,22 +3,22 @@
 use Prim.Native.Nat.{ℕ, zero, suc, _+_, _-_, _*_, _%_, _≤_}
 use native.Mathlib.Omega.{arith}
 use mathlib.Core.Bool.{Bool, true, false, cond, _&&_, _||_, not, false≢true}
-use mathlib.Core.Path.{_≡_, refl, sym, _∙_}
-use mathlib.Core.List.{List, [], _∷_, _++_, append-assoc}
+use mathlib.Core.Path.{_≡_, refl, sym, ap, _∙_}
+use mathlib.Core.List.{List, [], _∷_, _++_, append-assoc, append-nil}
 use lib.Dec.{ltb, eqb, eqb·suc-zero}
-use lib.ListN.{length, take, drop, length-append}
+use lib.ListN.{length, take, drop, length-append, length-take}
 use borrow.Author.Tests.{eqb-true, eqb-false, eq-eqb, ltb-false, le-ltb}
 use Rattle.chars.specs.Chars.{wellFormed}
 use Rattle.buffer.proofs.Laws.{take-over}
 use Rattle.recording.specs.Lists.{AllOf}
 use Rattle.recording.specs.declared.Entry.{Entry}
-use Rattle.recording.specs.Recording.{Bytes, Recording, isNil, entriesOf, numbersOf, partOf, Item, byte, push, pop, raw, byteItems, itemOf, itemsFrom, items, dataOf, textOf, entriesFrom, encode}
+use Rattle.recording.specs.Recording.{Bytes, Recording, isNil, entriesOf, numbersOf, partOf, Item, byte, push, pop, raw, byteItems, itemOf, itemsFrom, items, dataOf, entry, isPush, pushedIn, startIn, pushAt, newText, entriesFrom, textFrom, encode}
 use Rattle.recording.specs.Edit.{Op, keep, skip, put, front, back, entriesOnly, edit}
 use Rattle.recording.specs.Refusals.{firstOf, refuseIf, badShape, entryFault, entriesFault, recordingFault, dataLimit, entryLimit, textLimit}
 use Rattle.recording.specs.Outcome.{Room, Result, Faults, Outcome, done, overLimit, noRoom, refusalOf, Lent, lentAfter, returned, readBack}
 use Rattle.recording.proofs.EditLaws.{AllPuts}
 use Rattle.recording.proofs.Lists.{all-append, or-left, or-right, not-false}
-use Rattle.recording.proofs.ItemsLaws.{part-at, entries-numbers}
+use Rattle.recording.proofs.ItemsLaws.{part-at, push-part, placed-at, entries-numbers}
 use Rattle.recording.proofs.SizeLaws.{entryCount, count-numbers}
 
 -- ── the first of some tests
@@ -245,31 +245,56 @@ some : (x : Bytes) → isNil x ≡ false → eqb (length x) 0 ≡ false
 some [] z = absurd (false≢true (sym z))
 some (b ∷ x) z = eqb·suc-zero (length x)
 
-written : (is : List Item) (last at used : ℕ) (d pre : Bytes) → last ≤ at → at + length (dataOf is) ≤ length d → length pre ≡ used → Ok is
-    → entriesFault last d (pre ++ textOf is) (entriesFrom at used is) ≡ 0
+-- the entries before have their parts in the text
+abbrev pub Inside : Bytes → List Entry → Type 0
+Inside t es = AllOf (λ (e : Entry). e .start + e .len ≤ length t) es
+
+pub inside-more : (t x : Bytes) (es : List Entry) → Inside t es → Inside (t ++ x) es
+inside-more t x [] h = tt
+inside-more t x (e ∷ es) h = (omega (arith, h .0, length-append t x), inside-more t x es (h .1))
+
+-- one entry more, with its part in the longer text
+pub inside-next : (t x : Bytes) (es : List Entry) (e : Entry) → Inside t es → e .start + e .len ≤ length (t ++ x) → Inside (t ++ x) (es ++ (e ∷ []))
+inside-next t x es e h g = all-append (λ (e : Entry). e .start + e .len ≤ length (t ++ x)) es (e ∷ []) (inside-more t x es h) (g, tt)
+
+-- a push has its part in the text
+pub start-inside : (l t : Bytes) (es : List Entry) → Inside t es → startIn l t (length t) es + length l ≤ length (t ++ newText l t es)
+unfolding startIn pushedIn
+start-inside l t [] h = omega (arith, length-append t l)
+start-inside l t (e ∷ es) h = go (isPush l t e) refl (start-inside l t es (h .1))
+  where
+    go : (b : Bool) → isPush l t e ≡ b → startIn l t (length t) es + length l ≤ length (t ++ newText l t es)
+        → cond b (e .start) (startIn l t (length t) es) + length l ≤ length (t ++ cond (b || pushedIn l t es) [] l)
+    go true q r =
+        let m : partOf t e ≡ l = push-part l t e q in
+        omega (arith, h .0, ap length m, length-take (e .len) (drop (e .start) t), length-append t [])
+    go false q r = r
+
+written : (is : List Item) (last at : ℕ) (d t : Bytes) (es : List Entry) → last ≤ at → at + length (dataOf is) ≤ length d → Inside t es → Ok is
+    → entriesFault last d (t ++ textFrom at t es is) (entriesFrom at t es is) ≡ 0
 unfolding badShape entryFault
-written [] last at used d pre l h e o = refl
-written (byte b ∷ is) last at used d pre l h e o = written is last (suc at) used d pre (omega arith) (omega arith) e (o .1)
-written (push t ∷ is) last at used d pre l h e o =
-    let k : used + length t ≤ length (pre ++ (t ++ textOf is)) = omega (arith, length-append pre (t ++ textOf is), length-append t (textOf is)) in
-    let ih = written is at at (used + length t) d (pre ++ t) (omega arith) h (length-append pre t ∙ rw e) (o .1) in
-    rw (
-      le-ltb at last l,
-      le-ltb (length d) at (omega arith),
-      le-ltb (length (pre ++ (t ++ textOf is))) (used + length t) k,
-      part-at pre t (textOf is) used e,
-      o .0,
-      ← append-assoc
-          pre t (textOf is),
-      ih,
-    )
-written (pop ∷ is) last at used d pre l h e o =
-    let ih = written is at at used d pre (omega arith) h e (o .1) in
-    rw (le-ltb at last l, le-ltb (length d) at (omega arith), le-ltb (length (pre ++ textOf is)) (0 + 0) (omega arith), ih)
-written (raw t ∷ is) last at used d pre l h e o =
-    let k : used + length t ≤ length (pre ++ (t ++ textOf is)) = omega (arith, length-append pre (t ++ textOf is), length-append t (textOf is)) in
-    let ih = written is at at (used + length t) d (pre ++ t) (omega arith) h (length-append pre t ∙ rw e) (o .1) in
-    rw (some t (o .0), le-ltb at last l, le-ltb (length d) at (omega arith), le-ltb (length (pre ++ (t ++ textOf is))) (used + length t) k, ← append-assoc pre t (textOf is), ih)
+written [] last at d t es l h i o = refl
+written (byte b ∷ is) last at d t es l h i o = written is last (suc at) d t es (omega arith) (omega arith) i (o .1)
+written (push x ∷ is) last at d t es l h i o =
+    let n : Bytes = newText x t es in
+    let e : Entry = pushAt at t es x in
+    let r : Bytes = textFrom at (t ++ n) (es ++ (e ∷ [])) is in
+    let s : startIn x t (length t) es + length x ≤ length (t ++ n) = start-inside x t es i in
+    let k : startIn x t (length t) es + length x ≤ length (t ++ (n ++ r)) = omega (arith, s, length-append t n, length-append t (n ++ r), length-append n r) in
+    let ih = written is at at d (t ++ n) (es ++ (e ∷ [])) (omega arith) h (inside-next t n es e i s) (o .1) in
+    rw (le-ltb at last l, le-ltb (length d) at (omega arith), le-ltb (length (t ++ (n ++ r))) (startIn x t (length t) es + length x) k, placed-at x t es r, o .0, ← append-assoc t n r, ih)
+written (pop ∷ is) last at d t es l h i o =
+    let e : Entry = entry at 1 0 0 in
+    let g : Inside t (es ++ (e ∷ [])) = rw (append-nil t) at (inside-next t [] es e i (omega arith)) in
+    let ih = written is at at d t (es ++ (e ∷ [])) (omega arith) h g (o .1) in
+    rw (le-ltb at last l, le-ltb (length d) at (omega arith), le-ltb (length (t ++ textFrom at t (es ++ (e ∷ [])) is)) (0 + 0) (omega arith), ih)
+written (raw x ∷ is) last at d t es l h i o =
+    let e : Entry = entry at 2 (length t) (length x) in
+    let r : Bytes = textFrom at (t ++ x) (es ++ (e ∷ [])) is in
+    let s : length t + length x ≤ length (t ++ x) = omega (arith, length-append t x) in
+    let k : length t + length x ≤ length (t ++ (x ++ r)) = omega (arith, length-append t (x ++ r), length-append x r) in
+    let ih = written is at at d (t ++ x) (es ++ (e ∷ [])) (omega arith) h (inside-next t x es e i s) (o .1) in
+    rw (some x (o .0), le-ltb at last l, le-ltb (length d) at (omega arith), le-ltb (length (t ++ (x ++ r))) (length t + length x) k, ← append-assoc t x r, ih)
 
 quads : (n m : ℕ) → n ≡ 4 * m → n % 4 ≡ 0
 quads n m e = omega arith
@@ -288,10 +313,10 @@ encoded is o h = fault-free (encode is) (parts (in-limits (encode is) h))
         }
       where
         four : eqb (length (encode is .entryNumbers) % 4) 0 ≡ true
-        four = unfold encode in eq-eqb (length (numbersOf (entriesFrom 0 0 is)) % 4) 0 (quads (length (numbersOf (entriesFrom 0 0 is))) (entryCount is) (count-numbers is 0 0))
+        four = unfold encode in eq-eqb (length (numbersOf (entriesFrom 0 [] [] is)) % 4) 0 (quads (length (numbersOf (entriesFrom 0 [] [] is))) (entryCount is) (count-numbers is 0 [] []))
 
         in-order : entriesFault 0 (encode is .dataBytes) (encode is .text) (entriesOf (encode is .entryNumbers)) ≡ 0
-        in-order = unfold encode in rw (entries-numbers (entriesFrom 0 0 is)) (written is 0 0 0 (dataOf is) [] (omega arith) (omega arith) refl o)
+        in-order = unfold encode in rw (entries-numbers (entriesFrom 0 [] [] is)) (written is 0 0 (dataOf is) [] [] (omega arith) (omega arith) tt o)
 
 -- ── the lent buffers up to the returned lengths are the recording of the outcome
 pub read-back : (x : Result) (b : Lent) → readBack (done x) b ≡ x .recording

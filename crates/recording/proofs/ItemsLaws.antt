@@ -1,16 +1,21 @@
 -- What is encoded is read back as the same items (`items-encode`); the data of a recording's items, and of its coloured bytes, is its data.
--- The idea: `itemsFrom` is run on what `entriesFrom` wrote, with the bytes since the last entry (`q`) and the texts written so far (`pre`) as arguments.
+-- The idea: `itemsFrom` is run on what `entriesFrom` wrote, with the bytes since the last entry (`q`) as an argument; the part that a push takes has its text (`placed-at`).
 use Prim.Native.Nat.{ℕ, zero, suc, _+_, _-_}
 use native.Mathlib.Nat.{add-zero, add-suc}
 use native.Mathlib.Omega.{arith}
+use mathlib.Core.Bool.{Bool, true, false, cond, _&&_, _||_, false≢true}
 use mathlib.Core.Path.{_≡_, refl, sym, ap, _∙_}
 use mathlib.Core.List.{List, [], _∷_, _++_, tail, append-assoc, append-nil}
+use lib.Dec.{eqb}
 use lib.ListN.{length, take, drop, length-append, take-append-drop}
+use borrow.Author.Tests.{eqb-true}
 use lib.Seq.{take-append-seam, drop-append-seam, drop-at}
 use Rattle.recording.specs.declared.Entry.{Entry}
-use Rattle.recording.specs.Recording.{Bytes, Recording, entriesOf, numbersOf, partOf, Item, byte, push, pop, raw, byteItems, itemOf, itemsFrom, items, dataOf, textOf, entriesFrom, encode}
+use Rattle.recording.specs.Lists.{same}
+use Rattle.recording.specs.Recording.{Bytes, Recording, entriesOf, numbersOf, partOf, Item, byte, push, pop, raw, byteItems, itemOf, itemsFrom, items, dataOf, entry, isPush, pushedIn, startIn, pushAt, newText, entriesFrom, textFrom, encode}
 use Rattle.recording.specs.Coloured.{Coloured, colouredFrom, coloured, values}
 use Rattle.recording.specs.Edit.{Op, keep, skip, put, edit, labelsAt, under, editColoured, editData}
+use Rattle.recording.proofs.Lists.{and-left, and-right, same-equal}
 use Rattle.recording.proofs.EditLaws.{data-append, edit-data}
 
 pub bytes-append : (a b : Bytes) → byteItems (a ++ b) ≡ byteItems a ++ byteItems b
@@ -36,27 +41,52 @@ part-at pre t post used e = rw (drop-at pre (t ++ post) used e) (take-append-sea
 less : (at : ℕ) (q : Bytes) → (at + length q) - at ≡ length q
 less at q = omega arith
 
-used-more : (pre t : Bytes) (used : ℕ) → length pre ≡ used → length (pre ++ t) ≡ used + length t
-used-more pre t used e = rw (length-append pre t, e)
+-- a part of the text stays where it is when more comes behind
+pub part-in : (s n : ℕ) (t x l : Bytes) → take n (drop s t) ≡ l → take (length l) (drop s (t ++ x)) ≡ l
+part-in s n t x l e = ap (λ (m : Bytes). take (length m) (drop s (t ++ x))) (sym e) ∙ go s n t ∙ e
+  where
+    go : (s n : ℕ) (t : Bytes) → take (length (take n (drop s t))) (drop s (t ++ x)) ≡ take n (drop s t)
+    go zero zero t = refl
+    go zero (suc n) [] = refl
+    go zero (suc n) (b ∷ t) = ap (λ (m : Bytes). b ∷ m) (go zero n t)
+    go (suc s) zero [] = refl
+    go (suc s) (suc n) [] = refl
+    go (suc s) n (b ∷ t) = go s n t
+
+pub push-part : (l t : Bytes) (e : Entry) → isPush l t e ≡ true → partOf t e ≡ l
+push-part l t e q = same-equal (partOf t e) l (and-right (eqb (e .len) (length l)) (same (partOf t e) l) (and-right (eqb (e .kind) 0) (eqb (e .len) (length l) && same (partOf t e) l) q))
+
+-- the first push with an equal text, or the new text at the end: the part is l, whatever comes behind
+pub placed-at : (l t : Bytes) (es : List Entry) (post : Bytes) → take (length l) (drop (startIn l t (length t) es) (t ++ (newText l t es ++ post))) ≡ l
+unfolding startIn pushedIn
+placed-at l t [] post = part-at t l post (length t) refl
+placed-at l t (e ∷ es) post = go (isPush l t e) refl (placed-at l t es post)
+  where
+    go : (b : Bool) → isPush l t e ≡ b → take (length l) (drop (startIn l t (length t) es) (t ++ (newText l t es ++ post))) ≡ l
+        → take (length l) (drop (cond b (e .start) (startIn l t (length t) es)) (t ++ (cond (b || pushedIn l t es) [] l ++ post))) ≡ l
+    go true q h = part-in (e .start) (e .len) t post l (push-part l t e q)
+    go false q h = h
 
 module _ where
-  pub decoded : (is : List Item) (at used : ℕ) (q pre : Bytes) → length pre ≡ used
-      → itemsFrom at (pre ++ textOf is) (q ++ dataOf is) (entriesFrom (at + length q) used is) ≡ byteItems q ++ is
-  decoded [] at used q pre e = rw (append-nil q) (sym (append-nil (byteItems q)))
-  decoded (byte b ∷ is) at used q pre e =
-      rw (← snoc-items q b is, ← snoc-append q b (dataOf is), ← add-suc at (length q), ← length-snoc q b) (decoded is at used (q ++ (b ∷ [])) pre e)
-  decoded (push l ∷ is) at used q pre e =
-      rw (less at q, take-append-seam q (dataOf is), drop-append-seam q (dataOf is), part-at pre l (textOf is) used e, ← append-assoc pre l (textOf is))
+  pub decoded : (is : List Item) (at : ℕ) (q t : Bytes) (es : List Entry)
+      → itemsFrom at (t ++ textFrom (at + length q) t es is) (q ++ dataOf is) (entriesFrom (at + length q) t es is) ≡ byteItems q ++ is
+  decoded [] at q t es = rw (append-nil q) (sym (append-nil (byteItems q)))
+  decoded (byte b ∷ is) at q t es =
+      rw (← snoc-items q b is, ← snoc-append q b (dataOf is), ← add-suc at (length q), ← length-snoc q b) (decoded is at (q ++ (b ∷ [])) t es)
+  decoded (push l ∷ is) at q t es =
+      let e : Entry = pushAt (at + length q) t es l in
+      rw (less at q, take-append-seam q (dataOf is), drop-append-seam q (dataOf is), placed-at l t es (textFrom (at + length q) (t ++ newText l t es) (es ++ (e ∷ [])) is), ← append-assoc t (newText l t es) (textFrom (at + length q) (t ++ newText l t es) (es ++ (e ∷ [])) is))
       (ap (λ (r : List Item). byteItems q ++ push l ∷ r)
-      (rw (add-zero (at + length q)) at (decoded is (at + length q) (used + length l) [] (pre ++ l) (used-more pre l used e))))
-  decoded (pop ∷ is) at used q pre e =
+      (rw (add-zero (at + length q)) at (decoded is (at + length q) [] (t ++ newText l t es) (es ++ (e ∷ [])))))
+  decoded (pop ∷ is) at q t es =
       rw (less at q, take-append-seam q (dataOf is), drop-append-seam q (dataOf is))
       (ap (λ (r : List Item). byteItems q ++ pop ∷ r)
-      (rw (add-zero (at + length q)) at (decoded is (at + length q) used [] pre e)))
-  decoded (raw l ∷ is) at used q pre e =
-      rw (less at q, take-append-seam q (dataOf is), drop-append-seam q (dataOf is), part-at pre l (textOf is) used e, ← append-assoc pre l (textOf is))
-      (ap (λ (r : List Item). byteItems q ++ raw l ∷ r)
-      (rw (add-zero (at + length q)) at (decoded is (at + length q) (used + length l) [] (pre ++ l) (used-more pre l used e))))
+      (rw (add-zero (at + length q)) at (decoded is (at + length q) [] t (es ++ (entry (at + length q) 1 0 0 ∷ [])))))
+  decoded (raw x ∷ is) at q t es =
+      let e : Entry = entry (at + length q) 2 (length t) (length x) in
+      rw (less at q, take-append-seam q (dataOf is), drop-append-seam q (dataOf is), part-at t x (textFrom (at + length q) (t ++ x) (es ++ (e ∷ [])) is) (length t) refl, ← append-assoc t x (textFrom (at + length q) (t ++ x) (es ++ (e ∷ [])) is))
+      (ap (λ (r : List Item). byteItems q ++ raw x ∷ r)
+      (rw (add-zero (at + length q)) at (decoded is (at + length q) [] (t ++ x) (es ++ (e ∷ [])))))
 
 -- the numbers of entries are read as those entries
 pub entries-numbers : (es : List Entry) → entriesOf (numbersOf es) ≡ es
@@ -65,7 +95,11 @@ entries-numbers (e ∷ es) = ap (λ (l : List Entry). e ∷ l) (entries-numbers 
 
 pub items-encode : (is : List Item) → items (encode is) ≡ is
 unfolding items encode
-items-encode is = rw (entries-numbers (entriesFrom 0 0 is)) (decoded is 0 0 [] [] refl)
+items-encode is = rw (entries-numbers (entriesFrom 0 [] [] is)) (decoded is 0 [] [] [])
+
+-- what was written is written again as it stands
+pub encode-again : (is : List Item) → encode (items (encode is)) ≡ encode is
+encode-again is = ap encode (items-encode is)
 
 pub data-bytes : (d : Bytes) → dataOf (byteItems d) ≡ d
 data-bytes [] = refl

@@ -7,3 +7,4 @@ pub mod EntryLaws
 pub mod OutcomeLaws
 pub mod CheckLaws
 pub mod PinsHold
+pub mod ShareLaws

@@ -1,15 +1,18 @@
--- What is written adds at the ends (`entries-append`, `text-append`), and how much an edit writes: the content's entries and texts and those put in.
+-- What is written adds at the ends (`entries-append`, `text-after`), and how much an edit writes: the content's entries and texts and those put in.
 -- Also the steps of a loop over content: an entry here, or bytes up to the next entry.
 use Prim.Native.Nat.{ℕ, zero, suc, _+_, _-_, _*_, _≤_}
 use native.Mathlib.Omega.{arith}
 use mathlib.Core.Path.{_≡_, refl, sym, ap, _∙_}
-use mathlib.Core.List.{List, [], _∷_, _++_, append-assoc}
+use mathlib.Core.List.{List, [], _∷_, _++_, append-assoc, append-nil}
 use lib.ListN.{length, take, drop, length-append, take-append-drop}
 use lib.Seq.{take-add, drop-drop}
 use Rattle.recording.proofs.ItemsLaws.{bytes-append}
 use Rattle.recording.specs.declared.Entry.{Entry}
-use Rattle.recording.specs.Recording.{Bytes, entry, numbersOf, partOf, Item, byte, push, pop, raw, byteItems, dataOf, textOf, entriesFrom, itemOf, itemsFrom}
+use Rattle.recording.specs.Recording.{Bytes, entry, numbersOf, partOf, Item, byte, push, pop, raw, byteItems, dataOf, textOf, pushAt, newText, entriesFrom, textFrom, itemOf, itemsFrom}
 use Rattle.recording.specs.Edit.{Op, keep, skip, put, front, back, entriesOnly, edit}
+
+pub append-cons : (es : List Entry) (e : Entry) (r : List Entry) → (es ++ (e ∷ [])) ++ r ≡ es ++ e ∷ r
+append-cons es e r = append-assoc es (e ∷ []) r
 
 pub text-append : (a b : List Item) → textOf (a ++ b) ≡ textOf a ++ textOf b
 text-append [] b = refl
@@ -18,18 +21,43 @@ text-append (push l ∷ a) b = rw (text-append a b) (sym (append-assoc l (textOf
 text-append (pop ∷ a) b = text-append a b
 text-append (raw l ∷ a) b = rw (text-append a b) (sym (append-assoc l (textOf a) (textOf b)))
 
--- what comes after some items is written at the ends that they leave
-pub entries-append : (a b : List Item) (at used : ℕ) → entriesFrom at used (a ++ b) ≡ entriesFrom at used a ++ entriesFrom (at + length (dataOf a)) (used + length (textOf a)) b
-entries-append [] b at used = let e : at + 0 ≡ at = omega arith in let f : used + 0 ≡ used = omega arith in rw (e, f)
-entries-append (byte x ∷ a) b at used =
-    let e : at + suc (length (dataOf a)) ≡ suc at + length (dataOf a) = omega arith in rw e (entries-append a b (suc at) used)
-entries-append (push l ∷ a) b at used =
-    let e : used + length (l ++ textOf a) ≡ (used + length l) + length (textOf a) = omega (arith, length-append l (textOf a)) in
-    rw e (ap (λ (r : List Entry). entry at 0 used (length l) ∷ r) (entries-append a b at (used + length l)))
-entries-append (pop ∷ a) b at used = ap (λ (r : List Entry). entry at 1 0 0 ∷ r) (entries-append a b at used)
-entries-append (raw l ∷ a) b at used =
-    let e : used + length (l ++ textOf a) ≡ (used + length l) + length (textOf a) = omega (arith, length-append l (textOf a)) in
-    rw e (ap (λ (r : List Entry). entry at 2 used (length l) ∷ r) (entries-append a b at (used + length l)))
+-- what comes after some items is written behind what they leave
+module _ (b : List Item) where
+  pub entries-append : (a : List Item) (at : ℕ) (t : Bytes) (es : List Entry)
+      → entriesFrom at t es (a ++ b) ≡ entriesFrom at t es a ++ entriesFrom (at + length (dataOf a)) (t ++ textFrom at t es a) (es ++ entriesFrom at t es a) b
+  entries-append [] at t es = let e : at + 0 ≡ at = omega arith in rw (e, append-nil t, append-nil es)
+  entries-append (byte x ∷ a) at t es =
+      let e : at + suc (length (dataOf a)) ≡ suc at + length (dataOf a) = omega arith in rw e (entries-append a (suc at) t es)
+  entries-append (push l ∷ a) at t es =
+      let e : Entry = pushAt at t es l in
+      let n : Bytes = newText l t es in
+      rw (← append-assoc t n (textFrom at (t ++ n) (es ++ (e ∷ [])) a), ← append-cons es e (entriesFrom at (t ++ n) (es ++ (e ∷ [])) a))
+      (ap (λ (r : List Entry). e ∷ r) (entries-append a at (t ++ n) (es ++ (e ∷ []))))
+  entries-append (pop ∷ a) at t es =
+      let e : Entry = entry at 1 0 0 in
+      rw (← append-cons es e (entriesFrom at t (es ++ (e ∷ [])) a)) (ap (λ (r : List Entry). e ∷ r) (entries-append a at t (es ++ (e ∷ []))))
+  entries-append (raw x ∷ a) at t es =
+      let e : Entry = entry at 2 (length t) (length x) in
+      rw (← append-assoc t x (textFrom at (t ++ x) (es ++ (e ∷ [])) a), ← append-cons es e (entriesFrom at (t ++ x) (es ++ (e ∷ [])) a))
+      (ap (λ (r : List Entry). e ∷ r) (entries-append a at (t ++ x) (es ++ (e ∷ []))))
+
+  pub text-after : (a : List Item) (at : ℕ) (t : Bytes) (es : List Entry)
+      → textFrom at t es (a ++ b) ≡ textFrom at t es a ++ textFrom (at + length (dataOf a)) (t ++ textFrom at t es a) (es ++ entriesFrom at t es a) b
+  text-after [] at t es = let e : at + 0 ≡ at = omega arith in rw (e, append-nil t, append-nil es)
+  text-after (byte x ∷ a) at t es =
+      let e : at + suc (length (dataOf a)) ≡ suc at + length (dataOf a) = omega arith in rw e (text-after a (suc at) t es)
+  text-after (push l ∷ a) at t es =
+      let e : Entry = pushAt at t es l in
+      let n : Bytes = newText l t es in
+      rw (← append-assoc t n (textFrom at (t ++ n) (es ++ (e ∷ [])) a), ← append-cons es e (entriesFrom at (t ++ n) (es ++ (e ∷ [])) a), append-assoc n (textFrom at (t ++ n) (es ++ (e ∷ [])) a))
+      (ap (λ (r : Bytes). n ++ r) (text-after a at (t ++ n) (es ++ (e ∷ []))))
+  text-after (pop ∷ a) at t es =
+      let e : Entry = entry at 1 0 0 in
+      rw (← append-cons es e (entriesFrom at t (es ++ (e ∷ [])) a)) (text-after a at t (es ++ (e ∷ [])))
+  text-after (raw x ∷ a) at t es =
+      let e : Entry = entry at 2 (length t) (length x) in
+      rw (← append-assoc t x (textFrom at (t ++ x) (es ++ (e ∷ [])) a), ← append-cons es e (entriesFrom at (t ++ x) (es ++ (e ∷ [])) a), append-assoc x (textFrom at (t ++ x) (es ++ (e ∷ [])) a))
+      (ap (λ (r : Bytes). x ++ r) (text-after a at (t ++ x) (es ++ (e ∷ []))))
 
 -- ── sizes: no entry is dropped, so the entries and the text of an edit are those of the content and of what is put in
 abbrev pub entryCount : List Item → ℕ
@@ -39,12 +67,12 @@ entryCount (push l ∷ is) = suc (entryCount is)
 entryCount (pop ∷ is) = suc (entryCount is)
 entryCount (raw t ∷ is) = suc (entryCount is)
 
-pub length-entries : (is : List Item) (at used : ℕ) → length (entriesFrom at used is) ≡ entryCount is
-length-entries [] at used = refl
-length-entries (byte b ∷ is) at used = length-entries is (suc at) used
-length-entries (push l ∷ is) at used = ap suc (length-entries is at (used + length l))
-length-entries (pop ∷ is) at used = ap suc (length-entries is at used)
-length-entries (raw l ∷ is) at used = ap suc (length-entries is at (used + length l))
+pub length-entries : (is : List Item) (at : ℕ) (t : Bytes) (es : List Entry) → length (entriesFrom at t es is) ≡ entryCount is
+length-entries [] at t es = refl
+length-entries (byte b ∷ is) at t es = length-entries is (suc at) t es
+length-entries (push l ∷ is) at t es = ap suc (length-entries is at (t ++ newText l t es) (es ++ (pushAt at t es l ∷ [])))
+length-entries (pop ∷ is) at t es = ap suc (length-entries is at t (es ++ (entry at 1 0 0 ∷ [])))
+length-entries (raw x ∷ is) at t es = ap suc (length-entries is at (t ++ x) (es ++ (entry at 2 (length t) (length x) ∷ [])))
 
 pub length-numbers : (es : List Entry) → length (numbersOf es) ≡ 4 * length es
 length-numbers [] = refl
@@ -55,8 +83,8 @@ numbers-append [] b = refl
 numbers-append (e ∷ a) b = ap (λ (r : List ℕ). e .position ∷ e .kind ∷ e .start ∷ e .len ∷ r) (numbers-append a b)
 
 -- the entry numbers that items take
-pub count-numbers : (is : List Item) (at used : ℕ) → length (numbersOf (entriesFrom at used is)) ≡ 4 * entryCount is
-count-numbers is at used = length-numbers (entriesFrom at used is) ∙ ap (λ (n : ℕ). 4 * n) (length-entries is at used)
+pub count-numbers : (is : List Item) (at : ℕ) (t : Bytes) (es : List Entry) → length (numbersOf (entriesFrom at t es is)) ≡ 4 * entryCount is
+count-numbers is at t es = length-numbers (entriesFrom at t es is) ∙ ap (λ (n : ℕ). 4 * n) (length-entries is at t es)
 
 abbrev pub textLen : List Item → ℕ
 textLen is = length (textOf is)

@@ -6,3 +6,4 @@ pub mod Refusals
 pub mod Outcome
 pub mod Check
 pub mod Pins
+pub mod Share

@@ -1,9 +1,11 @@
 -- A recording (document 01, "The recording"), read as one list of items in order, and written back.
 use Prim.Native.Nat.{ℕ, zero, suc, _+_, _-_}
-use mathlib.Core.Bool.{Bool, true, false, cond}
+use mathlib.Core.Bool.{Bool, true, false, cond, _&&_, _||_}
 use mathlib.Core.List.{List, [], _∷_, _++_}
+use lib.Dec.{eqb}
 use lib.ListN.{length, take, drop}
 use Rattle.recording.specs.declared.Entry.{Entry}
+use Rattle.recording.specs.Lists.{same}
 
 abbrev pub Bytes : Type 0
 Bytes = List ℕ
@@ -70,7 +72,7 @@ dataOf (push l ∷ is) = dataOf is
 dataOf (pop ∷ is) = dataOf is
 dataOf (raw t ∷ is) = dataOf is
 
--- each entry's text is copied, in entry order, one after another
+-- the texts of all entries, in entry order, one after another
 abbrev pub textOf : List Item → Bytes
 textOf [] = []
 textOf (byte b ∷ is) = textOf is
@@ -78,16 +80,44 @@ textOf (push l ∷ is) = l ++ textOf is
 textOf (pop ∷ is) = textOf is
 textOf (raw t ∷ is) = t ++ textOf is
 
--- each entry at the number of bytes before it; its text starts after the `used` bytes of the texts before it; a pop has 0 and 0 there
-abbrev pub entriesFrom : ℕ → ℕ → List Item → List Entry
-entriesFrom at used [] = []
-entriesFrom at used (byte b ∷ is) = entriesFrom (suc at) used is
-entriesFrom at used (push l ∷ is) = entry at 0 used (length l) ∷ entriesFrom at (used + length l) is
-entriesFrom at used (pop ∷ is) = entry at 1 0 0 ∷ entriesFrom at used is
-entriesFrom at used (raw t ∷ is) = entry at 2 used (length t) ∷ entriesFrom at (used + length t) is
+-- ── a label that was pushed before: equal texts of pushes share one part; `es` are the entries before, t is their text
+abbrev pub isPush : Bytes → Bytes → Entry → Bool
+isPush l t e = eqb (e .kind) 0 && (eqb (e .len) (length l) && same (partOf t e) l)
+
+unfoldable pub pushedIn : Bytes → Bytes → List Entry → Bool
+pushedIn l t [] = false
+pushedIn l t (e ∷ es) = isPush l t e || pushedIn l t es
+
+-- where the first push of l has its text; `new` if there is none
+unfoldable pub startIn : Bytes → Bytes → ℕ → List Entry → ℕ
+startIn l t new [] = new
+startIn l t new (e ∷ es) = cond (isPush l t e) (e .start) (startIn l t new es)
+
+-- a push of l, which takes the part of the first push with an equal text; a new text goes to the text's end
+abbrev pub pushAt : ℕ → Bytes → List Entry → Bytes → Entry
+pushAt at t es l = entry at 0 (startIn l t (length t) es) (length l)
+
+abbrev pub newText : Bytes → Bytes → List Entry → Bytes
+newText l t es = cond (pushedIn l t es) [] l
+
+-- ── the entries that are written for items, behind `es` with the text t, and what comes to the text
+-- each entry at the number of bytes before it; a raw sequence has its text at the text's end, a pop has 0 and 0 there
+abbrev pub entriesFrom : ℕ → Bytes → List Entry → List Item → List Entry
+entriesFrom at t es [] = []
+entriesFrom at t es (byte b ∷ is) = entriesFrom (suc at) t es is
+entriesFrom at t es (push l ∷ is) = pushAt at t es l ∷ entriesFrom at (t ++ newText l t es) (es ++ (pushAt at t es l ∷ [])) is
+entriesFrom at t es (pop ∷ is) = entry at 1 0 0 ∷ entriesFrom at t (es ++ (entry at 1 0 0 ∷ [])) is
+entriesFrom at t es (raw x ∷ is) = entry at 2 (length t) (length x) ∷ entriesFrom at (t ++ x) (es ++ (entry at 2 (length t) (length x) ∷ [])) is
+
+abbrev pub textFrom : ℕ → Bytes → List Entry → List Item → Bytes
+textFrom at t es [] = []
+textFrom at t es (byte b ∷ is) = textFrom (suc at) t es is
+textFrom at t es (push l ∷ is) = newText l t es ++ textFrom at (t ++ newText l t es) (es ++ (pushAt at t es l ∷ [])) is
+textFrom at t es (pop ∷ is) = textFrom at t (es ++ (entry at 1 0 0 ∷ [])) is
+textFrom at t es (raw x ∷ is) = x ++ textFrom at (t ++ x) (es ++ (entry at 2 (length t) (length x) ∷ [])) is
 
 unfoldable pub encode : List Item → Recording
-encode is = record { dataBytes = dataOf is; entryNumbers = numbersOf (entriesFrom 0 0 is); text = textOf is }
+encode is = record { dataBytes = dataOf is; entryNumbers = numbersOf (entriesFrom 0 [] [] is); text = textFrom 0 [] [] is }
 
 -- stripping keeps the data and drops every entry
 unfoldable pub strip : Recording → Recording

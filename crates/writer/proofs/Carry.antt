@@ -1,7 +1,8 @@
 -- Carrying items of a content on, by a loop over its entries: one turn writes the bytes up to the next entry and the entry, the end writes the bytes up to n.
 -- The idea: `State` says what is done and that the rest of the plan is the plan for what is left; `sel` is what of the items is written (all, or the entries alone).
 use mathlib.Core.Path.{_≡_, refl, sym, ap, _∙_}
-use mathlib.Core.Bool.{false}
+use mathlib.Core.Bool.{true, false}
+use Rattle.share.specs.Placed.{placedFrom}
 use mathlib.Core.List.{List, [], _∷_, _++_, append-assoc, append-nil}
 use Prim.Native.Nat.{ℕ, zero, suc, _+_, _-_, _≤_, _<_}
 use native.Mathlib.Omega.{arith}
@@ -10,16 +11,15 @@ use lib.Seq.{drop-cons, drop-drop}
 use Rattle.buffer.specs.Place.{over, overAt, part}
 use Rattle.buffer.proofs.Laws.{over-none, length-part}
 use Rattle.recording.specs.declared.Entry.{Entry}
-use Rattle.recording.specs.Recording.{entriesOf, numbersOf, partOf, Item, byte, push, pop, raw, itemOf, byteItems, itemsFrom, dataOf, textOf, entriesFrom}
+use Rattle.recording.specs.Recording.{entriesOf, numbersOf, partOf, Item, byte, push, pop, raw, itemOf, byteItems, itemsFrom, dataOf, entriesFrom, textFrom}
 use Rattle.recording.specs.Edit.{front, back, entriesOnly}
 use Rattle.recording.specs.Refusals.{badShape}
 use Rattle.recording.proofs.EditLaws.{data-append}
 use Rattle.recording.proofs.ItemsLaws.{data-bytes, data-entry}
 use Rattle.recording.proofs.SizeLaws.{entryCount, IsEntry, front-entry, back-entry, front-bytes, back-bytes, cursor-bytes, cursor-end}
-use Rattle.recording.proofs.CheckLaws.{text-bytes, text-none}
 use Rattle.writer.specs.declared.Cursor.{Cursor}
-use Rattle.writer.specs.Write.{Out, out, add, Fits, Valid, Ready, left, placeOf, itemAt}
-use Rattle.writer.proofs.Laws.{text-of-entry, numbers-size, fits-left, fits-right, add-append, add-long, Long, same-out}
+use Rattle.writer.specs.Write.{Out, out, add, Fits, numbersFor, textFor, Valid, Ready, left, placeOf, itemAt}
+use Rattle.writer.proofs.Laws.{numbers-size, fits-left, fits-right, add-append, add-long, Long, same-out}
 
 -- ── what validity says of the next entry
 pub valid-in : (at d t : ℕ) (es : List Entry) → Valid at d t es → at ≤ d
@@ -43,10 +43,9 @@ whole-entry k ns h = go (drop k ns) (length-drop k ns) h
     go (a ∷ b ∷ c ∷ d ∷ l) q p = omega (arith, q)
 
 -- ── an entry as an item
-pub record EntryItem (x : Item) (m : ℕ) : Type 0 where
+pub record EntryItem (x : Item) : Type 0 where
   pub none : dataOf (x ∷ []) ≡ []
   pub one : entryCount (x ∷ []) ≡ 1
-  pub size : length (textOf (x ∷ [])) ≡ m
   pub kind : IsEntry x
 
 pub one-entry : (k : ℕ) (p : List ℕ) → entryCount (itemOf k p ∷ []) ≡ 1
@@ -59,28 +58,30 @@ kind-entry zero p = tt
 kind-entry (suc zero) p = tt
 kind-entry (suc (suc k)) p = tt
 
-pub is-entry : (t : List ℕ) (e : Entry) → badShape (e .kind) (e .start) (e .len) ≡ false → e .start + e .len ≤ length t → EntryItem (itemAt t e) (e .len)
+pub is-entry : (t : List ℕ) (e : Entry) → EntryItem (itemAt t e)
 unfolding itemAt
-is-entry t e b h =
-    record {
-      none = data-entry (e .kind) (partOf t e) [];
-      one = one-entry (e .kind) (partOf t e);
-      size = ap length (text-of-entry t e b) ∙ (simp (length-take, length-drop) (omega arith));
-      kind = kind-entry (e .kind) (partOf t e);
-    }
+is-entry t e = record { none = data-entry (e .kind) (partOf t e) []; one = one-entry (e .kind) (partOf t e); kind = kind-entry (e .kind) (partOf t e) }
 
 -- ── bytes have neither entries nor text
-entries-bytes : (p : List ℕ) (d t : ℕ) (is : List Item) → entriesFrom d t (byteItems p ++ is) ≡ entriesFrom (d + length p) t is
-entries-bytes [] d t is = let e : d + 0 ≡ d = omega arith in rw e
-entries-bytes (b ∷ p) d t is = let e : d + suc (length p) ≡ suc d + length p = omega arith in rw e (entries-bytes p (suc d) t is)
+entries-bytes : (p : List ℕ) (d : ℕ) (t : List ℕ) (es : List Entry) (is : List Item) → entriesFrom d t es (byteItems p ++ is) ≡ entriesFrom (d + length p) t es is
+entries-bytes [] d t es is = let e : d + 0 ≡ d = omega arith in rw e
+entries-bytes (b ∷ p) d t es is = let e : d + suc (length p) ≡ suc d + length p = omega arith in rw e (entries-bytes p (suc d) t es is)
+
+text-behind : (p : List ℕ) (d : ℕ) (t : List ℕ) (es : List Entry) (is : List Item) → textFrom d t es (byteItems p ++ is) ≡ textFrom (d + length p) t es is
+text-behind [] d t es is = let e : d + 0 ≡ d = omega arith in rw e
+text-behind (b ∷ p) d t es is = let e : d + suc (length p) ≡ suc d + length p = omega arith in rw e (text-behind p (suc d) t es is)
 
 pub count-bytes : (p : List ℕ) (is : List Item) → entryCount (byteItems p ++ is) ≡ entryCount is
 count-bytes [] is = refl
 count-bytes (b ∷ p) is = count-bytes p is
 
-entries-none : (p : List ℕ) (d t : ℕ) → entriesFrom d t (byteItems p) ≡ []
-entries-none [] d t = refl
-entries-none (b ∷ p) d t = entries-none p (suc d) t
+entries-none : (p : List ℕ) (d : ℕ) (t : List ℕ) (es : List Entry) → entriesFrom d t es (byteItems p) ≡ []
+entries-none [] d t es = refl
+entries-none (b ∷ p) d t es = entries-none p (suc d) t es
+
+text-none : (p : List ℕ) (d : ℕ) (t : List ℕ) (es : List Entry) → textFrom d t es (byteItems p) ≡ []
+text-none [] d t es = refl
+text-none (b ∷ p) d t es = text-none p (suc d) t es
 
 pub count-none : (p : List ℕ) → entryCount (byteItems p) ≡ 0
 count-none [] = refl
@@ -99,30 +100,42 @@ unfolding out add
 bytes-wrote od od′ oe ot p c c₁ ed d₁ e₁ t₁ =
     same-out (out od′ oe ot c₁) (add (byteItems p) (out od oe ot c))
     (ed ∙ ap (λ (l : List ℕ). overAt (c .d) l od) (sym (data-bytes p)))
-    (sym (over-none (c .e) oe) ∙ ap (λ (l : List Entry). overAt (c .e) (numbersOf l) oe) (sym (entries-none p (c .d) (c .t))))
-    (sym (over-none (c .t) ot) ∙ ap (λ (l : List ℕ). overAt (c .t) l ot) (sym (text-none p)))
+    (sym (over-none (c .e) oe) ∙ ap (λ (l : List Entry). overAt (c .e) (numbersOf l) oe) (sym (entries-none p (c .d) (take (c .t) ot) (entriesOf (take (c .e) oe)))))
+    (sym (over-none (c .t) ot) ∙ ap (λ (l : List ℕ). overAt (c .t) l ot) (sym (text-none p (c .d) (take (c .t) ot) (entriesOf (take (c .e) oe)))))
     (d₁ ∙ ap (λ (l : List ℕ). c .d + length l) (sym (data-bytes p)))
-    (omega (arith, e₁, ap (λ (l : List Entry). length (numbersOf l)) (entries-none p (c .d) (c .t))))
-    (omega (arith, t₁, ap length (text-none p)))
+    (omega (arith, e₁, ap (λ (l : List Entry). length (numbersOf l)) (entries-none p (c .d) (take (c .t) ot) (entriesOf (take (c .e) oe)))))
+    (omega (arith, t₁, ap length (text-none p (c .d) (take (c .t) ot) (entriesOf (take (c .e) oe)))))
 
 -- bytes and an entry
-module _ (od od′ oe oe′ ot ot′ p : List ℕ) (c c₁ c₂ : Cursor) (x : Item) (m : ℕ) (is : EntryItem x m)
+module _ (od od′ oe oe′ ot ot′ p : List ℕ) (c c₁ c₂ : Cursor) (x : Item) (is : EntryItem x)
     (ed : od′ ≡ overAt (c .d) p od) (d₁ : c₁ .d ≡ c .d + length p) (e₁ : c₁ .e ≡ c .e) (t₁ : c₁ .t ≡ c .t)
-    (ee : oe′ ≡ overAt (c₁ .e) (numbersOf (entriesFrom (c₁ .d) (c₁ .t) (x ∷ []))) oe) (et : ot′ ≡ overAt (c₁ .t) (textOf (x ∷ [])) ot)
-    (d₂ : c₂ .d ≡ c₁ .d) (e₂ : c₂ .e ≡ c₁ .e + 4) (t₂ : c₂ .t ≡ c₁ .t + m) where
+    (ee : oe′ ≡ overAt (c₁ .e) (numbersFor (c₁ .d) oe ot c₁ x) oe) (et : ot′ ≡ overAt (c₁ .t) (textFor (c₁ .d) oe ot c₁ x) ot)
+    (d₂ : c₂ .d ≡ c₁ .d) (e₂ : c₂ .e ≡ c₁ .e + 4) (t₂ : c₂ .t ≡ c₁ .t + length (textFor (c₁ .d) oe ot c₁ x)) where
   data-of : dataOf (byteItems p ++ (x ∷ [])) ≡ p
   data-of = data-append (byteItems p) (x ∷ []) ∙ (rw (data-bytes p, is .none) (append-nil p))
+
+  numbers-of : numbersFor (c₁ .d) oe ot c₁ x ≡ numbersOf (entriesFrom (c .d) (take (c .t) ot) (entriesOf (take (c .e) oe)) (byteItems p ++ (x ∷ [])))
+  unfolding numbersFor
+  numbers-of =
+      (λ i. numbersOf (entriesFrom (d₁ i) (take (t₁ i) ot) (entriesOf (take (e₁ i) oe)) (x ∷ [])))
+      ∙ ap numbersOf (sym (entries-bytes p (c .d) (take (c .t) ot) (entriesOf (take (c .e) oe)) (x ∷ [])))
+
+  text-of : textFor (c₁ .d) oe ot c₁ x ≡ textFrom (c .d) (take (c .t) ot) (entriesOf (take (c .e) oe)) (byteItems p ++ (x ∷ []))
+  unfolding textFor
+  text-of =
+      (λ i. textFrom (d₁ i) (take (t₁ i) ot) (entriesOf (take (e₁ i) oe)) (x ∷ []))
+      ∙ sym (text-behind p (c .d) (take (c .t) ot) (entriesOf (take (c .e) oe)) (x ∷ []))
 
   pub turn-wrote : out od′ oe′ ot′ c₂ ≡ add (byteItems p ++ (x ∷ [])) (out od oe ot c)
   unfolding out add
   turn-wrote =
       same-out (out od′ oe′ ot′ c₂) (add (byteItems p ++ (x ∷ [])) (out od oe ot c))
       (ed ∙ ap (λ (l : List ℕ). overAt (c .d) l od) (sym data-of))
-      (ee ∙ (λ i. overAt (e₁ i) (numbersOf (entriesFrom (d₁ i) (t₁ i) (x ∷ []))) oe) ∙ ap (λ (l : List Entry). overAt (c .e) (numbersOf l) oe) (sym (entries-bytes p (c .d) (c .t) (x ∷ []))))
-      (et ∙ (λ i. overAt (t₁ i) (textOf (x ∷ [])) ot) ∙ ap (λ (l : List ℕ). overAt (c .t) l ot) (sym (text-bytes p (x ∷ []))))
+      (ee ∙ (λ i. overAt (e₁ i) (numbers-of i) oe))
+      (et ∙ (λ i. overAt (t₁ i) (text-of i) ot))
       (d₂ ∙ d₁ ∙ ap (λ (l : List ℕ). c .d + length l) (sym data-of))
       (omega (arith, e₁, e₂, count-bytes p (x ∷ []), is .one, numbers-size (byteItems p ++ (x ∷ [])) (out od oe ot c)))
-      (omega (arith, t₁, t₂, is .size, ap length (text-bytes p (x ∷ []))))
+      (omega (arith, t₁, t₂, ap length text-of))
 
 -- the room that a turn needs, in numbers
 pub record TurnRoom (od oe ot : List ℕ) (c : Cursor) (a m : ℕ) : Type 0 where
@@ -131,13 +144,15 @@ pub record TurnRoom (od oe ot : List ℕ) (c : Cursor) (a m : ℕ) : Type 0 wher
   pub text : c .t + m ≤ length ot
   pub data-limit : c .d + a ≤ 1048576
   pub text-limit : c .t + m ≤ 65536
+  pub placed : placedFrom 0 [] (entriesOf (take (c .e) oe)) ≡ true
 
-pub room-turn : (od oe ot p : List ℕ) (c : Cursor) (x : Item) (m : ℕ) → EntryItem x m → Fits (byteItems p ++ (x ∷ [])) (out od oe ot c) → TurnRoom od oe ot c (length p) m
-unfolding out
-room-turn od oe ot p c x m is f =
+pub room-turn : (od oe ot p : List ℕ) (c : Cursor) (x : Item) → EntryItem x → Fits (byteItems p ++ (x ∷ [])) (out od oe ot c)
+    → TurnRoom od oe ot c (length p) (length (textFor (c .d + length p) oe ot c x))
+unfolding out textFor
+room-turn od oe ot p c x is f =
     let g : dataOf (byteItems p ++ (x ∷ [])) ≡ p = data-append (byteItems p) (x ∷ []) ∙ (rw (data-bytes p, is .none) (append-nil p)) in
     let d : length (dataOf (byteItems p ++ (x ∷ []))) ≡ length p = ap length g in
-    let t : length (textOf (byteItems p ++ (x ∷ []))) ≡ m = ap length (text-bytes p (x ∷ [])) ∙ is .size in
+    let t = ap length (text-behind p (c .d) (take (c .t) ot) (entriesOf (take (c .e) oe)) (x ∷ [])) in
     let e : entryCount (byteItems p ++ (x ∷ [])) ≡ 1 = count-bytes p (x ∷ []) ∙ is .one in
     record {
       dataBytes = omega (arith, d, f .dataBytes);
@@ -145,7 +160,13 @@ room-turn od oe ot p c x m is f =
       text = omega (arith, t, f .text);
       data-limit = omega (arith, d, f .data-limit);
       text-limit = omega (arith, t, f .text-limit);
+      placed = f .placed;
     }
+
+-- what an entry's text adds is the same after bytes were written
+pub same-room : (oe ot : List ℕ) (c c₁ : Cursor) (d : ℕ) (x : Item) → c₁ .d ≡ d → c₁ .e ≡ c .e → c₁ .t ≡ c .t → length (textFor (c₁ .d) oe ot c₁ x) ≡ length (textFor d oe ot c x)
+unfolding textFor
+same-room oe ot c c₁ d x a b e = λ i. length (textFrom (a i) (take (e i) ot) (entriesOf (take (b i) oe)) (x ∷ []))
 
 -- ── the items of one turn
 abbrev pub turnItems : List ℕ → List ℕ → ℕ → Entry → List Item
@@ -294,8 +315,8 @@ module _ (sel : List Item → List Item) (sel-append : (a b : List Item) → sel
       pub ok : (c .at ≤ e .position) × (badShape (e .kind) (e .start) (e .len) ≡ false) × (e .start + e .len ≤ length ts) × Valid (e .position) (length ds) (length ts) (entriesOf (drop (c .k + 4) ns))
       ok = valid-parts (c .at) (length ds) (length ts) e (entriesOf (drop (c .k + 4) ns)) (rw q at (s .ready .valid))
 
-      pub entry-is : EntryItem (itemAt ts e) (e .len)
-      entry-is = is-entry ts e (ok .1) (ok .2)
+      pub entry-is : EntryItem (itemAt ts e)
+      entry-is = is-entry ts e
 
       pub near : e .position ≤ n
       near = omega (arith, entry-place)

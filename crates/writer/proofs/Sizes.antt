@@ -6,7 +6,10 @@ use mathlib.Core.List.{List, [], _∷_}
 use Prim.Native.Nat.{ℕ, _-_, _*_, _%_, _≤_, _<_}
 use native.Mathlib.Omega.{arith}
 use lib.Dec.{ltb}
+use mathlib.Core.Logic.{⊎-elim}
 use lib.ListN.{length, take, drop}
+use Rattle.share.specs.Sizes.{Stands}
+use Rattle.share.proofs.PlacedLaws.{parts-none, places-none}
 use borrow.Author.Tests.{ltb-false, lt-ltb, le-ltb, eqb-true}
 use Rattle.recording.specs.declared.Refusal.{Refusal}
 use Rattle.recording.specs.declared.Entry.{Entry}
@@ -79,6 +82,14 @@ pub size-granted : (x : Result) (o : Room) (v : Settled) (d e t l : ℕ) → set
 unfolding settledFault
 size-granted x o v d e t l s q ed ee et el = same-fault x o d e t l ed ee et el ∙ sym s ∙ ap settledFault q
 
+-- a text size that stands for another gives the same verdict
+pub same-verdict : (d e t r l : ℕ) (o : Room) → Stands (o .text) t r → sizesFault d e r l o ≡ sizesFault d e t l o
+unfolding sizesFault Stands
+same-verdict d e t r l o s =
+    ⊎-elim (λ q. rw q)
+    (λ h. rw (le-ltb 65536 r (h .1), le-ltb 65536 t (omega (arith, h .0, h .1)), le-ltb (o .text) r (h .2), le-ltb (o .text) t (omega (arith, h .0, h .2))))
+    s
+
 -- room for a result that is not refused
 pub record Fitting (x : Result) (o : Room) : Type 0 where
   pub data-limit : length (x .recording .dataBytes) ≤ 1048576
@@ -116,6 +127,9 @@ fits-blank is ls m od oe ot o ed ee et h =
       text = omega (arith, et, f .text-room);
       data-limit = omega (arith, f .data-limit);
       text-limit = omega (arith, f .text-limit);
+      fours = refl;
+      parts = parts-none;
+      placed = places-none;
     }
 
 -- ── four numbers an entry
@@ -134,10 +148,10 @@ length-entriesOf (p ∷ k ∷ s ∷ []) h = absurd (omega (arith, h))
 length-entriesOf (p ∷ k ∷ s ∷ n ∷ ns) h = omega (arith, length-entriesOf ns (omega (arith, h)))
 
 -- the entry numbers of a content's items are as many as the content has
-pub numbers-items : (ds ns ts : List ℕ) → length ns % 4 ≡ 0 → length (numbersOf (entriesFrom 0 0 (items (recording ds ns ts)))) ≡ length ns
+pub numbers-items : (ds ns ts : List ℕ) → length ns % 4 ≡ 0 → length (numbersOf (entriesFrom 0 [] [] (items (recording ds ns ts)))) ≡ length ns
 unfolding items
 numbers-items ds ns ts h =
-    omega (arith, count-numbers (itemsFrom 0 ts ds (entriesOf ns)) 0 0, count-entries 0 ts ds (entriesOf ns), length-entriesOf ns h)
+    omega (arith, count-numbers (itemsFrom 0 ts ds (entriesOf ns)) 0 [] [], count-entries 0 ts ds (entriesOf ns), length-entriesOf ns h)
 
 pub quads-of : (ds ns ts : List ℕ) → recordingFault (recording ds ns ts) ≡ 0 → length ns % 4 ≡ 0
 quads-of ds ns ts h = eqb-true (length ns % 4) 0 (no-fault (recording ds ns ts) h .quads)

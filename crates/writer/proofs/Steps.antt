@@ -7,7 +7,7 @@ use lib.ListN.{length}
 use borrow.Author.Tests.{ltb-false}
 use Rattle.buffer.specs.Place.{over, overAt}
 use Rattle.recording.specs.declared.Entry.{Entry}
-use Rattle.recording.specs.Recording.{recording, entriesOf, numbersOf, Item, byte, push, pop, raw, items, dataOf, textOf, entriesFrom}
+use Rattle.recording.specs.Recording.{recording, entriesOf, numbersOf, Item, byte, push, pop, raw, items, dataOf, entriesFrom, textFrom}
 use Rattle.recording.specs.Edit.{front, back}
 use Rattle.recording.specs.Refusals.{entryFault, entriesFault, recordingFault}
 use Rattle.recording.proofs.ItemsLaws.{data-items}
@@ -82,8 +82,8 @@ sound ds ns ts h =
 
 -- ── a result from the first place on
 pub from-start : (is : List Item) (od oe ot od′ oe′ ot′ : List ℕ) (c : Cursor) → out od′ oe′ ot′ c ≡ add is (blank od oe ot)
-    → (od′ ≡ over (dataOf is) od) × (oe′ ≡ over (numbersOf (entriesFrom 0 0 is)) oe) × (ot′ ≡ over (textOf is) ot)
-    × (c .d ≡ length (dataOf is)) × (c .e ≡ length (numbersOf (entriesFrom 0 0 is))) × (c .t ≡ length (textOf is))
+    → (od′ ≡ over (dataOf is) od) × (oe′ ≡ over (numbersOf (entriesFrom 0 [] [] is)) oe) × (ot′ ≡ over (textFrom 0 [] [] is) ot)
+    × (c .d ≡ length (dataOf is)) × (c .e ≡ length (numbersOf (entriesFrom 0 [] [] is))) × (c .t ≡ length (textFrom 0 [] [] is))
 unfolding add overAt out
 from-start is od oe ot od′ oe′ ot′ c e = (
   ap (λ (o : Out). o .dataBytes) e,

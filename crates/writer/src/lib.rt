@@ -7,17 +7,20 @@ use buffer::put;
 use recording::Entry;
 use recording::Refusal;
 use recording::entry_at;
+use share::Place;
+use share::place_in_result;
 ghost use mathlib.Core.Path.{_≡_};
-ghost use mathlib.Core.Bool.{false};
+ghost use mathlib.Core.Bool.{true, false};
+ghost use Rattle.share.specs.Placed.{placedFrom};
 ghost use Prim.Native.Nat.{_+_, _-_, _≤_, _<_};
 ghost use mathlib.Core.List.{[], _∷_};
-ghost use lib.ListN.{length, drop};
+ghost use lib.ListN.{length, take, drop};
 ghost use Rattle.buffer.specs.Place.{overAt, part};
 ghost use Rattle.buffer.specs.Held.{RunHeld};
-ghost use Rattle.recording.specs.Recording.{recording, entriesOf, numbersOf, items, textOf, entriesFrom};
+ghost use Rattle.recording.specs.Recording.{recording, entriesOf, numbersOf, items};
 ghost use Rattle.recording.specs.Edit.{front, back, entriesOnly};
 ghost use Rattle.recording.specs.Refusals.{badShape, dataLimit, textLimit};
-ghost use Rattle.writer.specs.Write.{out, add, Fits, Ready, Sound, left, placeOf, startOf, itemAt};
+ghost use Rattle.writer.specs.Write.{out, add, Fits, numbersFor, textFor, Ready, Sound, left, placeOf, startFor, addFor, itemAt};
 ghost use Rattle.writer.specs.Sizes.{sizesFault, roomOf, settledFault};
 
 // A place in a content (data offset, index of the next entry's first number), and how far the three buffers are written.
@@ -57,14 +60,26 @@ pub fn set_entry(numbers: &mut [u32], k: usize, e: Entry)
     numbers[k + 3] = e.len;
 }
 
-// Where an entry's text goes in a result: a pop has none, any other goes after the texts before it.
-fn start_of(kind: u32, used: u32) -> u32
-    ensures { λ r. ⌜ r ≡ startOf kind used ⌝ }
+// Where an entry's text goes, behind the entries and the text that are written: a pop has none, a raw sequence goes to the text's end,
+// a label to the part of the first push that has it.
+pub fn place_of(kind: u32, numbers: &[u32], texts: &[u8], part: &[u8]) -> Place
+    requires { ⌜ length (now texts) ≤ textLimit ⌝ }
+    requires { ⌜ placedFrom 0 [] (entriesOf (now numbers)) ≡ true ⌝ }
+    ensures { λ r. ⌜ (r .start ≡ startFor kind (now (part .entry)) (now (texts .entry)) (entriesOf (now (numbers .entry)))) × (r .add ≡ addFor kind (now (part .entry)) (now (texts .entry)) (entriesOf (now (numbers .entry)))) ⌝ }
 {
-    if kind == 1 {
-        return 0;
+    if kind == 0 {
+        return place_in_result(numbers, texts, part);
     }
-    used
+    if kind == 1 {
+        return Place {
+            start: 0,
+            add: 0,
+        };
+    }
+    Place {
+        start: texts.len() as u32,
+        add: part.len(),
+    }
 }
 
 // Writes the bytes of `from` from a up to b at the data's end.
@@ -84,29 +99,33 @@ pub fn put_bytes(bytes: &mut [u8], from: &[u8], a: usize, b: usize, c: Cursor) -
     }
 }
 
-// Writes an entry, with its part of the text, at the ends, and passes it.
+// Writes an entry at the ends, with what its text adds to the text, and passes it.
 pub fn put_entry(numbers: &mut [u32], texts: &mut [u8], text: &[u8], e: Entry, c: Cursor) -> Cursor
     requires { ⌜ badShape (e .kind) (e .start) (e .len) ≡ false ⌝ }
     requires { ⌜ e .start + e .len ≤ length (now text) ⌝ }
-    requires { ⌜ (c .e + 4 ≤ length (now numbers)) × (c .t + e .len ≤ length (now texts)) ⌝ }
+    requires { ⌜ (c .e + 4 ≤ length (now numbers)) × (c .t + length (textFor (c .d) (now numbers) (now texts) c (itemAt (now text) e)) ≤ length (now texts)) ⌝ }
     requires { ⌜ (c .d ≤ dataLimit) × (c .t ≤ textLimit) × (c .k + 4 ≤ 18446744073709551615) ⌝ }
-    ensures { λ r. ⌜ (r .at ≡ e .position) × (r .k ≡ c .k + 4) × (r .d ≡ c .d) × (r .e ≡ c .e + 4) × (r .t ≡ c .t + e .len) ⌝ }
-    ensures { λ r. ⌜ now (numbers .exit) ≡ overAt (c .e) (numbersOf (entriesFrom (c .d) (c .t) (itemAt (now (text .entry)) e ∷ []))) (now (numbers .entry)) ⌝ }
-    ensures { λ r. ⌜ now (texts .exit) ≡ overAt (c .t) (textOf (itemAt (now (text .entry)) e ∷ [])) (now (texts .entry)) ⌝ }
+    requires { ⌜ placedFrom 0 [] (entriesOf (take (c .e) (now numbers))) ≡ true ⌝ }
+    ensures { λ r. ⌜ (r .at ≡ e .position) × (r .k ≡ c .k + 4) × (r .d ≡ c .d) × (r .e ≡ c .e + 4) × (r .t ≡ c .t + length (textFor (c .d) (now (numbers .entry)) (now (texts .entry)) c (itemAt (now (text .entry)) e))) ⌝ }
+    ensures { λ r. ⌜ now (numbers .exit) ≡ overAt (c .e) (numbersFor (c .d) (now (numbers .entry)) (now (texts .entry)) c (itemAt (now (text .entry)) e)) (now (numbers .entry)) ⌝ }
+    ensures { λ r. ⌜ now (texts .exit) ≡ overAt (c .t) (textFor (c .d) (now (numbers .entry)) (now (texts .entry)) c (itemAt (now (text .entry)) e)) (now (texts .entry)) ⌝ }
 {
     let start = e.start as usize;
     let end = start + e.len as usize;
+    let k = c.e;
+    let used = c.t;
+    let p = place_of(e.kind, &numbers[0..k], &texts[0..used], &text[start..end]);
     set_entry(
         numbers,
         c.e,
         Entry {
             position: c.d as u32,
             kind: e.kind,
-            start: start_of(e.kind, c.t as u32),
+            start: p.start,
             len: e.len,
         },
     );
-    let t = put(texts, c.t, text, start, end);
+    let t = put(texts, c.t, text, start, start + p.add);
     Cursor {
         at: e.position as usize,
         k: c.k + 4,

@@ -11,7 +11,7 @@ use Rattle.recording.specs.declared.TextSizes.{TextSizes}
 use Rattle.recording.specs.Recording.{Recording, Item, items}
 use Rattle.recording.specs.Edit.{edit}
 use Rattle.layout.specs.Layout.{indentOps, indent, number, writeIndented}
-use Rattle.outcomes.proofs.SecondLaws.{Given, content, second, BothFine, Measured, both-refused, both-fine, sizes-refused, has-room, written}
+use Rattle.outcomes.proofs.SecondLaws.{Given, content, second, BothFine, Measured, both-refused, both-fine, texts-less, sizes-refused, has-room, written}
 use Rattle.indent.proofs.Sizes.{indented-measured}
 use Rattle.indent.proofs.write_indented.Statement.{statement}
 use Rattle.indent.proofs.write_indented.Tie as tie
@@ -20,6 +20,7 @@ use Rattle.indent.proofs.write_indented.Lts as lts
 use Rattle.indent.proofs.filled_lines.Reads as filled-lines-reads
 use Rattle.indent.proofs.put_indented.Reads as put-indented-reads
 use Rattle.recording_check.proofs.check_both.Reads as check-both-reads
+use Rattle.share.proofs.text_size.Reads as text-size-reads
 use Rattle.writer.proofs.settle.Reads as settle-reads
 
 -- the call returns no number
@@ -82,14 +83,16 @@ entry-product c = mul-le-mul (few c) (fine (checked c) .1 .entries-short)
 text-product : (c : tie.After-filled-lines) → count c * sizes (checked c) .second ≤ 281474976710656
 text-product c = mul-le-mul (few c) (fine (checked c) .1 .text-short)
 
-measured : (c : tie.After-filled-lines)
-    → Measured (call c) (result c) (length (call c .ds) + count c * length (call c .fs)) (length (call c .ns) + count c * length (call c .gs))
-    (sizes (checked c) .content + count c * sizes (checked c) .second)
-measured c = indented-measured (call c) (sizes (checked c)) (fine (checked c)) (count c) (c .filled-lines .ensures .0) refl
-
--- once the sizes are settled
-abbrev counted : tie.After-settle → tie.After-filled-lines
+-- once the text is measured
+abbrev counted : tie.After-text-size → tie.After-filled-lines
 counted c = c .before .before .before
+
+measured : (c : tie.After-text-size)
+    → let n = counted c in
+    Measured (call n) (count n) (result n) (length (call n .ds) + count n * length (call n .fs)) (length (call n .ns) + count n * length (call n .gs)) (c .text-size .result)
+measured c =
+    let n = counted c in
+    indented-measured (call n) (sizes (checked n)) (fine (checked n)) (count n) (n .filled-lines .ensures .0) refl (c .text-size .result) (c .text-size .ensures)
 
 -- ── what is asked on the way
 check-both-requires : tie.Need-check-both-requires
@@ -110,25 +113,34 @@ enum-known-checked-2 c = search needs
 filled-lines-requires : tie.Need-filled-lines-requires
 filled-lines-requires c κs = search needs
 
-mul-settle : tie.Need-mul-settle
-mul-settle c = omega (arith, data-product c)
+mul-text-size : tie.Need-mul-text-size
+mul-text-size c = omega (arith, text-product (c .before))
 
-add-settle : tie.Need-add-settle
-add-settle c = omega (arith, fine (checked c) .0 .data-short, data-product c)
-
-mul-settle-2 : tie.Need-mul-settle-2
-mul-settle-2 c = omega (arith, entry-product c)
-
-add-settle-2 : tie.Need-add-settle-2
-add-settle-2 c = omega (arith, fine (checked c) .0 .entries-short, entry-product c)
-
-mul-settle-3 : tie.Need-mul-settle-3
-mul-settle-3 c = omega (arith, text-product (c .before))
-
-add-settle-3 : tie.Need-add-settle-3
-add-settle-3 c =
+add-text-size : tie.Need-add-text-size
+add-text-size c =
     let n = c .before .before in
     omega (arith, fine (checked n) .0 .text-short, text-product n)
+
+text-size-requires : tie.Need-text-size-requires
+text-size-requires c κs =
+    let n = c .before .before in
+    let f = fine (checked n) in
+    (
+      (f .0 .entries-short, f .0 .own-short, f .0 .parts),
+      ((f .1 .entries-short, f .1 .own-short, f .1 .parts, few n), texts-less (call n) (sizes (checked n)) (count n) f),
+    )
+
+mul-settle : tie.Need-mul-settle
+mul-settle c = omega (arith, data-product (counted c))
+
+add-settle : tie.Need-add-settle
+add-settle c = omega (arith, fine (checked (counted c)) .0 .data-short, data-product (counted c))
+
+mul-settle-2 : tie.Need-mul-settle-2
+mul-settle-2 c = omega (arith, entry-product (counted c))
+
+add-settle-2 : tie.Need-add-settle-2
+add-settle-2 c = omega (arith, fine (checked (counted c)) .0 .entries-short, entry-product (counted c))
 
 settle-requires : tie.Need-settle-requires
 settle-requires c κs = search needs
@@ -139,8 +151,8 @@ enum-known-verdict c = search needs
 returns-2 : tie.Need-returns-2
 returns-2 c =
     let p = c .before .before .before in
-    let n = counted p in
-    sizes-refused (call n) (sizes (checked n)) (fine (checked n)) (result n) _ _ _ (measured n) (p .settle .result) (p .settle .ensures)
+    let n = counted (p .before) in
+    sizes-refused (call n) (sizes (checked n)) (fine (checked n)) (count n) (result n) _ _ _ (measured (p .before)) (p .settle .result) (p .settle .ensures)
     (c .before .verdict .given .0 .0) (c .before .verdict .given .1)
 
 enum-told : tie.Need-enum-told
@@ -150,9 +162,9 @@ put-indented-requires : tie.Need-put-indented-requires
 put-indented-requires c κs =
     let told = c .before .before .before in
     let p = told .before .before in
-    let n = counted p in
+    let n = counted (p .before) in
     let f = fine (checked n) in
-    ((f .0 .whole, f .1 .whole), has-room (call n) (sizes (checked n)) f (result n) _ _ _ (measured n) (p .settle .result) (p .settle .ensures) (told .enum-told .given .1))
+    ((f .0 .whole, f .1 .whole), has-room (call n) (sizes (checked n)) f (count n) (result n) _ _ _ (measured (p .before)) (p .settle .result) (p .settle .ensures) (told .enum-told .given .1))
 
 same-length : tie.Need-same-length
 same-length c = search needs
@@ -168,8 +180,8 @@ returns-3 c =
     let w = c .before .before .before .before .before .before in
     let told = w .before .before .before .before in
     let p = told .before .before in
-    let n = counted p in
-    written (call n) (sizes (checked n)) (fine (checked n)) (result n) _ _ _ (measured n) (p .settle .result) (p .settle .ensures) (told .enum-told .given .1)
+    let n = counted (p .before) in
+    written (call n) (sizes (checked n)) (fine (checked n)) (count n) (result n) _ _ _ (measured (p .before)) (p .settle .result) (p .settle .ensures) (told .enum-told .given .1)
     0 _ _ _ (w .put-indented .result) (number-of (second (call n)) (content (call n))) (w .put-indented .ensures)
 
 pub write-indented-spec : {M : Type 1} → statement M
@@ -181,12 +193,13 @@ write-indented-spec =
     returns
     enum-known-checked-2
     filled-lines-requires
+    mul-text-size
+    add-text-size
+    text-size-requires
     mul-settle
     add-settle
     mul-settle-2
     add-settle-2
-    mul-settle-3
-    add-settle-3
     settle-requires
     enum-known-verdict
     returns-2

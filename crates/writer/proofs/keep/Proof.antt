@@ -1,23 +1,24 @@
 -- `keep`: the loop's state is `State` of Carry with all items written; a turn is `step`, the end is `finish`.
 use native.Mathlib.Omega.{arith}
 use borrow.Author.Needs.{needs}
-use Rattle.writer.proofs.Carry.{State, TurnRoom, room-turn, turn-wrote, bytes-wrote, add-nil, fits-now, long-now, whole, entry-place, ok, entry-is, fits-turn, step, front-last, finish}
+use Rattle.writer.proofs.Carry.{State, TurnRoom, room-turn, same-room, turn-wrote, bytes-wrote, add-nil, fits-now, long-now, whole, entry-place, ok, entry-is, fits-turn, step, front-last, finish}
 use Rattle.writer.proofs.HeldLaws.{added-held, data-left}
 use Rattle.recording.proofs.ItemsLaws.{data-bytes}
 use Rattle.buffer.proofs.Laws.{length-part}
-use Rattle.writer.specs.Write.{out, add, Fits, Ready, left, placeOf, itemAt}
+use Rattle.writer.specs.Write.{out, add, Fits, numbersFor, textFor, Ready, left, placeOf, itemAt}
 use Rattle.writer.specs.declared.Cursor.{Cursor}
 use Rattle.recording.specs.Refusals.{badShape}
 use Rattle.recording.specs.Edit.{front, back}
-use Rattle.recording.specs.Recording.{Item, byteItems, numbersOf, entriesOf, textOf, entriesFrom}
+use Rattle.recording.specs.Recording.{Item, byteItems, entriesOf}
 use Rattle.recording.specs.declared.Entry.{Entry}
 use Rattle.buffer.specs.Place.{overAt, part}
 use Rattle.buffer.specs.Held.{RunHeld}
 use Rattle.buffer.specs.LendsOn.{LendsOn, ownArrays, acts, touches, loops, calls, Threads, onlyBy}
-use lib.ListN.{length, drop}
+use lib.ListN.{length, take, drop}
 use mathlib.Core.Path.{_≡_, refl, ap, _∙_}
 use mathlib.Core.List.{List, [], _∷_}
-use mathlib.Core.Bool.{false}
+use mathlib.Core.Bool.{true, false}
+use Rattle.share.specs.Placed.{placedFrom}
 use Prim.Native.Nat.{ℕ, _+_, _-_, _≤_, _<_}
 use Rattle.writer.proofs.keep.Code.Mir as code
 use Rattle.writer.proofs.keep.Statement.{statement}
@@ -53,38 +54,42 @@ module _ (ds ns ts : List ℕ) (n : ℕ) (c₀ : Cursor) (od₀ oe₀ ot₀ od o
       size : length (part (c .at) (e .position) ds) ≡ p - c .at
       size = length-part (c .at) (e .position) ds (omega (arith, fine .3)) ∙ (omega (arith, fine .3))
 
-      roomy : TurnRoom od oe ot c (p - c .at) (e .len)
+      roomy : TurnRoom od oe ot c (p - c .at) (length (textFor (c .d + (p - c .at)) oe ot c (itemAt ts e)))
       roomy =
           rw size at
-          (room-turn od oe ot (part (c .at) (e .position) ds) c (itemAt ts e) (e .len)
+          (room-turn od oe ot (part (c .at) (e .position) ds) c (itemAt ts e)
           (entry-is same (λ a b. refl) ds ns ts n (out od₀ oe₀ ot₀ c₀) (out od oe ot c) c₀ c p s l room more e q)
           (fits-turn same (λ a b. refl) ds ns ts n (out od₀ oe₀ ot₀ c₀) (out od oe ot c) c₀ c p s l room more e q))
 
       asked : (c₁ : Cursor) → (c₁ .at ≡ c .at) × (c₁ .k ≡ c .k) × (c₁ .d ≡ c .d + (p - c .at)) × (c₁ .e ≡ c .e) × (c₁ .t ≡ c .t) → length ns ≤ 18446744073709551615
           → (badShape (e .kind) (e .start) (e .len) ≡ false) × ((e .start + e .len ≤ length ts)
-          × (((c₁ .e + 4 ≤ length oe) × (c₁ .t + e .len ≤ length ot)) × ((c₁ .d ≤ 1048576) × (c₁ .t ≤ 65536) × (c₁ .k + 4 ≤ 18446744073709551615))))
+          × (((c₁ .e + 4 ≤ length oe) × (c₁ .t + length (textFor (c₁ .d) oe ot c₁ (itemAt ts e)) ≤ length ot)) × (((c₁ .d ≤ 1048576) × (c₁ .t ≤ 65536) × (c₁ .k + 4 ≤ 18446744073709551615)) × (placedFrom 0 [] (entriesOf (take (c₁ .e) oe)) ≡ true))))
       asked c₁ f big =
-          let r = roomy in (
+          let r = roomy in
+          let m = same-room oe ot c c₁ (c .d + (p - c .at)) (itemAt ts e) (f .2) (f .3) (f .4) in (
             fine .1,
             (
               fine .2,
               (
-                (omega (arith, f .3, r .entryNumbers), omega (arith, f .4, r .text)),
-                (omega (arith, f .2, r .data-limit), omega (arith, f .4, r .text-limit), omega (arith, f .1, entire, big)),
+                (omega (arith, f .3, r .entryNumbers), omega (arith, f .4, r .text, m)),
+                (
+                  (omega (arith, f .2, r .data-limit), omega (arith, f .4, r .text-limit), omega (arith, f .1, entire, big)),
+                  ap (λ (m : ℕ). placedFrom 0 [] (entriesOf (take m oe))) (f .3) ∙ r .placed,
+                ),
               ),
             ),
           )
 
       turned : (od′ oe′ ot′ : List ℕ) (c₁ c₂ : Cursor) (p′ : ℕ)
           → od′ ≡ overAt (c .d) (part (c .at) p ds) od → (c₁ .at ≡ c .at) × (c₁ .k ≡ c .k) × (c₁ .d ≡ c .d + (p - c .at)) × (c₁ .e ≡ c .e) × (c₁ .t ≡ c .t)
-          → (c₂ .at ≡ e .position) × (c₂ .k ≡ c₁ .k + 4) × (c₂ .d ≡ c₁ .d) × (c₂ .e ≡ c₁ .e + 4) × (c₂ .t ≡ c₁ .t + e .len)
-          → oe′ ≡ overAt (c₁ .e) (numbersOf (entriesFrom (c₁ .d) (c₁ .t) (itemAt ts e ∷ []))) oe
-          → ot′ ≡ overAt (c₁ .t) (textOf (itemAt ts e ∷ [])) ot
+          → (c₂ .at ≡ e .position) × (c₂ .k ≡ c₁ .k + 4) × (c₂ .d ≡ c₁ .d) × (c₂ .e ≡ c₁ .e + 4) × (c₂ .t ≡ c₁ .t + length (textFor (c₁ .d) oe ot c₁ (itemAt ts e)))
+          → oe′ ≡ overAt (c₁ .e) (numbersFor (c₁ .d) oe ot c₁ (itemAt ts e)) oe
+          → ot′ ≡ overAt (c₁ .t) (textFor (c₁ .d) oe ot c₁ (itemAt ts e)) ot
           → p′ ≡ placeOf (entriesOf (drop (c₂ .k) ns))
           → State same ds ns ts n (out od₀ oe₀ ot₀ c₀) c₀ (out od′ oe′ ot′ c₂) c₂ p′
       turned od′ oe′ ot′ c₁ c₂ p′ ed q₁ q₂ ee et ep =
           step same (λ a b. refl) ds ns ts n (out od₀ oe₀ ot₀ c₀) (out od oe ot c) c₀ c p s l room more e q (out od′ oe′ ot′ c₂) c₂ p′
-          (turn-wrote od od′ oe oe′ ot ot′ (part (c .at) (e .position) ds) c c₁ c₂ (itemAt ts e) (e .len)
+          (turn-wrote od od′ oe oe′ ot ot′ (part (c .at) (e .position) ds) c c₁ c₂ (itemAt ts e)
           (entry-is same (λ a b. refl) ds ns ts n (out od₀ oe₀ ot₀ c₀) (out od oe ot c) c₀ c p s l room more e q)
           (ed ∙ ap (λ (m : ℕ). overAt (c .d) (part (c .at) m ds) od) (fine .3)) (omega (arith, size, q₁ .2)) (q₁ .3) (q₁ .4) ee et (q₂ .2) (q₂ .3) (q₂ .4))
           (q₂ .0) (q₂ .1 ∙ ap (λ (m : ℕ). m + 4) (q₁ .1)) ep

@@ -1,21 +1,22 @@
 -- `skip`: as `keep`, with the entries alone written (`entriesOnly`).
 use native.Mathlib.Omega.{arith}
 use borrow.Author.Needs.{needs}
-use Rattle.writer.proofs.Carry.{State, TurnRoom, room-turn, turnItems, turn-wrote, bytes-wrote, add-nil, long-now, whole, ok, entry-is, fits-turn, step, finish}
+use Rattle.writer.proofs.Carry.{State, TurnRoom, room-turn, same-room, turnItems, turn-wrote, bytes-wrote, add-nil, long-now, whole, ok, entry-is, fits-turn, step, finish}
 use Rattle.writer.proofs.Carry.{only-append, only-bytes, only-none, only-entry}
-use Rattle.writer.specs.Write.{out, add, Fits, Ready, left, placeOf, itemAt}
+use Rattle.writer.specs.Write.{out, add, Fits, numbersFor, textFor, Ready, left, placeOf, itemAt}
 use Rattle.writer.specs.declared.Cursor.{Cursor}
 use Rattle.recording.specs.Refusals.{badShape}
 use Rattle.recording.specs.Edit.{front, back, entriesOnly}
-use Rattle.recording.specs.Recording.{Item, numbersOf, entriesOf, textOf, entriesFrom}
+use Rattle.recording.specs.Recording.{Item, entriesOf}
 use Rattle.recording.specs.declared.Entry.{Entry}
 use Rattle.buffer.specs.Place.{overAt, part}
 use Rattle.buffer.proofs.Laws.{over-none}
 use Rattle.buffer.specs.LendsOn.{LendsOn, ownArrays, acts, touches, loops, calls}
-use lib.ListN.{length, drop}
+use lib.ListN.{length, take, drop}
 use mathlib.Core.Path.{_≡_, refl, sym, ap, _∙_}
 use mathlib.Core.List.{List, [], _∷_}
-use mathlib.Core.Bool.{false}
+use mathlib.Core.Bool.{true, false}
+use Rattle.share.specs.Placed.{placedFrom}
 use Prim.Native.Nat.{ℕ, _+_, _-_, _≤_, _<_}
 use Rattle.writer.proofs.skip.Code.Mir as code
 use Rattle.writer.proofs.skip.Statement.{statement}
@@ -44,29 +45,30 @@ module _ (ds ns ts : List ℕ) (n : ℕ) (c₀ : Cursor) (od oe₀ ot₀ oe ot :
           only-bytes (part (c .at) (e .position) ds) (itemAt ts e ∷ [])
           ∙ only-entry (itemAt ts e) (entry-is entriesOnly only-append ds ns ts n (out od oe₀ ot₀ c₀) (out od oe ot c) c₀ c p s l room more e q .kind)
 
-      roomy : TurnRoom od oe ot c 0 (e .len)
+      roomy : TurnRoom od oe ot c 0 (length (textFor (c .d + 0) oe ot c (itemAt ts e)))
       roomy =
-          room-turn od oe ot [] c (itemAt ts e) (e .len)
+          room-turn od oe ot [] c (itemAt ts e)
           (entry-is entriesOnly only-append ds ns ts n (out od oe₀ ot₀ c₀) (out od oe ot c) c₀ c p s l room more e q)
           (rw turn-only at (fits-turn entriesOnly only-append ds ns ts n (out od oe₀ ot₀ c₀) (out od oe ot c) c₀ c p s l room more e q))
 
       asked : length ns ≤ 18446744073709551615
           → (badShape (e .kind) (e .start) (e .len) ≡ false) × ((e .start + e .len ≤ length ts)
-          × (((c .e + 4 ≤ length oe) × (c .t + e .len ≤ length ot)) × ((c .d ≤ 1048576) × (c .t ≤ 65536) × (c .k + 4 ≤ 18446744073709551615))))
+          × (((c .e + 4 ≤ length oe) × (c .t + length (textFor (c .d) oe ot c (itemAt ts e)) ≤ length ot)) × (((c .d ≤ 1048576) × (c .t ≤ 65536) × (c .k + 4 ≤ 18446744073709551615)) × (placedFrom 0 [] (entriesOf (take (c .e) oe)) ≡ true))))
       asked big =
           let o = ok entriesOnly only-append ds ns ts n (out od oe₀ ot₀ c₀) (out od oe ot c) c₀ c p s l room more e q in
           let r = roomy in
-          (o .1, (o .2, ((r .entryNumbers, r .text), (omega (arith, r .data-limit), omega (arith, r .text-limit), omega (arith, entire, big)))))
+          let m = same-room oe ot c c (c .d + 0) (itemAt ts e) (omega arith) refl refl in
+          (o .1, (o .2, ((r .entryNumbers, omega (arith, r .text, m)), ((omega (arith, r .data-limit), omega (arith, r .text-limit), omega (arith, entire, big)), r .placed))))
 
       turned : (oe′ ot′ : List ℕ) (c₂ : Cursor) (p′ : ℕ)
-          → (c₂ .at ≡ e .position) × (c₂ .k ≡ c .k + 4) × (c₂ .d ≡ c .d) × (c₂ .e ≡ c .e + 4) × (c₂ .t ≡ c .t + e .len)
-          → oe′ ≡ overAt (c .e) (numbersOf (entriesFrom (c .d) (c .t) (itemAt ts e ∷ []))) oe
-          → ot′ ≡ overAt (c .t) (textOf (itemAt ts e ∷ [])) ot
+          → (c₂ .at ≡ e .position) × (c₂ .k ≡ c .k + 4) × (c₂ .d ≡ c .d) × (c₂ .e ≡ c .e + 4) × (c₂ .t ≡ c .t + length (textFor (c .d) oe ot c (itemAt ts e)))
+          → oe′ ≡ overAt (c .e) (numbersFor (c .d) oe ot c (itemAt ts e)) oe
+          → ot′ ≡ overAt (c .t) (textFor (c .d) oe ot c (itemAt ts e)) ot
           → p′ ≡ placeOf (entriesOf (drop (c₂ .k) ns))
           → State entriesOnly ds ns ts n (out od oe₀ ot₀ c₀) c₀ (out od oe′ ot′ c₂) c₂ p′
       turned oe′ ot′ c₂ p′ q₂ ee et ep =
           step entriesOnly only-append ds ns ts n (out od oe₀ ot₀ c₀) (out od oe ot c) c₀ c p s l room more e q (out od oe′ ot′ c₂) c₂ p′
-          (turn-wrote od od oe oe′ ot ot′ [] c c c₂ (itemAt ts e) (e .len)
+          (turn-wrote od od oe oe′ ot ot′ [] c c c₂ (itemAt ts e)
           (entry-is entriesOnly only-append ds ns ts n (out od oe₀ ot₀ c₀) (out od oe ot c) c₀ c p s l room more e q)
           (sym (over-none (c .d) od)) (omega arith) refl refl ee et (q₂ .2) (q₂ .3) (q₂ .4)
           ∙ ap (λ (x : List Item). add x (out od oe ot c)) (sym turn-only))
