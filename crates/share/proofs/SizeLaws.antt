@@ -340,6 +340,11 @@ size-of-items ds ns ts fs gs us n p q = go n
         rw (eqb·suc-zero n) (omega (arith, raws-items (entriesOf ns) 0 0 ds ds ts f, r, first .long, then .long, labels-append a b []))
 
 -- ── a content alone
+-- a second recording of which nothing is written
+pub size-none : (t u : Bytes) (es fs : List Entry) → ownSize t es ≡ textSize t es u fs 0
+unfolding textSize
+size-none t u es fs = omega (arith, zero-mul (rawsIn fs), zero-mul (rawsIn []))
+
 pub own-of-items : (ds ns ts : List ℕ) → recordingFault (recording ds ns ts) ≡ 0 → ownSize ts (entriesOf ns) ≡ length (encode (items (recording ds ns ts)) .text)
 unfolding recordingFault
 own-of-items ds ns ts p =

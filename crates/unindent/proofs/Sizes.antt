@@ -1,24 +1,28 @@
--- How much is left once the indent is taken off: nothing is put in, so the entry numbers and the text are the content's; and that this is what the call leaves (`unindented-measured`).
-use mathlib.Core.Path.{_≡_, sym, ap, _∙_}
+-- How much is left once the indent is taken off: nothing is put in, so the entry numbers, the raw sequences and the labels are the content's; and that this is what the call leaves (`unindented-measured`).
+use mathlib.Core.Path.{_≡_, refl, sym, ap, subst, _∙_}
 use mathlib.Core.Bool.{true}
 use mathlib.Core.List.{List}
 use Prim.Native.Nat.{ℕ}
 use native.Mathlib.Omega.{arith}
+use native.Mathlib.Nat.{zero-mul}
 use lib.ListN.{length}
 use Rattle.recording.specs.declared.Refusal.the-variants.{PrefixNewline}
 use Rattle.recording.specs.declared.TextSizes.{TextSizes}
-use Rattle.recording.specs.Recording.{Bytes, Item, items}
+use Rattle.recording.specs.Recording.{Bytes, entriesOf, Item, items}
+use Rattle.recording.specs.Share.{sumOf, rawLen, pushOf, times}
 use Rattle.recording.specs.Edit.{Op, edit, editData}
 use Rattle.recording.specs.Refusals.{numberOf}
 use Rattle.recording.proofs.EditLaws.{edit-data}
 use Rattle.recording.proofs.ItemsLaws.{data-items}
-use Rattle.recording.proofs.SizeLaws.{edit-count, edit-text}
+use Rattle.recording.proofs.SizeLaws.{edit-count}
+use Rattle.share.specs.Sizes.{ownSize, Stands}
+use Rattle.share.proofs.SizeLaws.{size-none}
 use Rattle.layout.specs.Wrap.{splitLines}
 use Rattle.layout.specs.Unindent.{unindentOps, hasNewline, prefixFault}
 use Rattle.layout.specs.Layout.{Kind, writeUnindented, withSecond, resultItems, kindFault}
 use Rattle.layout.proofs.PutLaws.{puts-unindent}
-use Rattle.layout.proofs.StripLaws.{Bare, no-puts}
-use Rattle.outcomes.proofs.SecondLaws.{Given, content, second, job, BothFine, Measured}
+use Rattle.layout.proofs.StripLaws.{Bare, BarePuts, no-puts, sum-kept}
+use Rattle.outcomes.proofs.SecondLaws.{Given, content, second, job, BothFine, Shares, Measured}
 
 -- a 0A in the prefix comes first
 pub newline-refused : (p d : Bytes) → hasNewline p ≡ true → prefixFault p d ≡ numberOf PrefixNewline
@@ -37,13 +41,25 @@ module _ (x : Given) (n : TextSizes) (fine : BothFine x n) (size : ℕ) where
   unfolding resultItems
   leaves q = ap (λ (j : Kind). resultItems (withSecond j (x .width) (second x)) (content x)) q
 
-  pub unindented-measured : x .kind ≡ writeUnindented → prefixFault (x .fs) (x .ds) ≡ 0 → size ≡ length (editData ops (x .ds)) → Measured x result size (length (x .ns)) (n .content)
-  unindented-measured q z e =
-      let none = no-puts ops (puts-unindent Bare (length (x .fs)) (splitLines (x .ds))) in
+  bare : BarePuts ops
+  bare = puts-unindent Bare (length (x .fs)) (splitLines (x .ds))
+
+  -- the prefix's entries are not written
+  shares : Shares result (items (content x)) (items (second x)) 0
+  shares =
+      record {
+        raws = omega (arith, sum-kept rawLen (λ b. refl) ops (items (content x)) bare, zero-mul (sumOf rawLen (items (second x))));
+        labels = λ l. omega (arith, sum-kept (pushOf l) (λ b. refl) ops (items (content x)) bare, zero-mul (times l (items (second x))));
+      }
+
+  pub unindented-measured : x .kind ≡ writeUnindented → prefixFault (x .fs) (x .ds) ≡ 0 → size ≡ length (editData ops (x .ds))
+      → (t : ℕ) → Stands (length (x .ot)) (ownSize (x .ts) (entriesOf (x .ns))) t → Measured x 0 result size (length (x .ns)) t
+  unindented-measured q z e t h =
       record {
         own = ap (λ (j : Kind). kindFault j (x .fs) (x .ds)) q ∙ z;
         leaves = leaves q;
         data-size = e ∙ sym (ap length (edit-data ops (items (content x))) ∙ ap (λ (d : Bytes). length (editData ops d)) (data-items (content x)));
-        entry-size = omega (arith, fine .0 .entry-size, edit-count ops (items (content x)), none .0);
-        text-size = omega (arith, fine .0 .text-size, edit-text ops (items (content x)), none .1);
+        entry-size = omega (arith, fine .0 .entry-size, edit-count ops (items (content x)), no-puts ops bare);
+        shares = shares;
+        text-size = subst (λ (k : ℕ). Stands (length (x .ot)) k t) (size-none (x .ts) (x .us) (entriesOf (x .ns)) (entriesOf (x .gs))) h;
       }

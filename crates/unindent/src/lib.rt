@@ -7,6 +7,7 @@ use recording::Checked;
 use recording::CheckedBoth;
 use recording::Refusal;
 use recording_check::check_both;
+use share::own_size;
 use writer::Cursor;
 use writer::Settled;
 use writer::keep;
@@ -150,10 +151,11 @@ pub fn write_unindented(
         }
         Checked::Fine(n) => n,
     };
+    let shared = own_size(sizes.content, texts.len(), entries, text);
     let verdict = settle(
         size,
         entries.len(),
-        sizes.content,
+        shared,
         0,
         bytes.len(),
         numbers.len(),

@@ -11,6 +11,7 @@ use Rattle.recording.proofs.CheckLaws.{refused-number, fine-zero, fine-count}
 use Rattle.layout.specs.Unindent.{prefixFault}
 use Rattle.layout.specs.Layout.{unindent, number, writeUnindented}
 use Rattle.outcomes.proofs.SecondLaws.{Given, content, second, BothFine, Measured, both-refused, both-fine, own-refused, sizes-refused, has-room, written}
+use Rattle.share.proofs.SizeLaws.{own-less}
 use Rattle.unindent.proofs.Sizes as sizes
 use Rattle.unindent.proofs.Sizes.{newline-refused, unindented-measured}
 use Rattle.unindent.proofs.write_unindented.Statement.{statement}
@@ -21,6 +22,7 @@ use Rattle.recording_check.proofs.check_both.Reads as check-both-reads
 use Rattle.unindent.proofs.has_newline.Reads as has-newline-reads
 use Rattle.unindent.proofs.left_len.Reads as left-len-reads
 use Rattle.unindent.proofs.put_unindented.Reads as put-unindented-reads
+use Rattle.share.proofs.own_size.Reads as own-size-reads
 use Rattle.writer.proofs.settle.Reads as settle-reads
 
 -- the call returns no number
@@ -79,15 +81,19 @@ no-fault c =
     let r = scanned c .left-len in
     sym (r .ensures .0) ∙ fine-zero (r .result) (size c) (c .n .given .1)
 
-measured : (c : tie.After-n) → Measured (call (scanned c)) (result c) (size c) (length (call (scanned c) .ns)) (lengths (checked (scanned c)) .content)
-measured c =
-    let r = scanned c .left-len in
-    let k = checked (scanned c) in
-    unindented-measured (call (scanned c)) (lengths k) (fine k) (size c) refl (no-fault c) (fine-count (r .result) (size c) _ (c .n .given .1) (r .ensures .1))
-
--- once the sizes are settled
-abbrev sized : tie.After-settle → tie.After-n
+-- once the text is measured
+abbrev sized : tie.After-own-size → tie.After-n
 sized c = c .before .before
+
+measured : (c : tie.After-own-size)
+    → let n = sized c in
+    Measured (call (scanned n)) 0 (result n) (size n) (length (call (scanned n) .ns)) (c .own-size .result)
+measured c =
+    let n = sized c in
+    let r = scanned n .left-len in
+    let k = checked (scanned n) in
+    unindented-measured (call (scanned n)) (lengths k) (fine k) (size n) refl (no-fault n) (fine-count (r .result) (size n) _ (n .n .given .1) (r .ensures .1))
+    (c .own-size .result) (c .own-size .ensures)
 
 -- ── what is asked on the way
 check-both-requires : tie.Need-check-both-requires
@@ -130,6 +136,13 @@ returns-3 c =
 enum-known-n : tie.Need-enum-known-n
 enum-known-n c = search needs
 
+own-size-requires : tie.Need-own-size-requires
+own-size-requires c κs =
+    let k = checked (scanned (c .before)) in
+    let x = call (scanned (c .before)) in
+    let f = fine k .0 in
+    ((f .entries-short, f .own-short, f .parts), rw (f .text-size) (own-less (x .ds) (x .ns) (x .ts) (f .passed)))
+
 settle-requires : tie.Need-settle-requires
 settle-requires c κs = search needs
 
@@ -139,9 +152,9 @@ enum-known-verdict c = search needs
 returns-4 : tie.Need-returns-4
 returns-4 c =
     let p = c .before .before .before in
-    let n = sized p in
+    let n = sized (p .before) in
     let k = checked (scanned n) in
-    sizes-refused (call (scanned n)) (lengths k) (fine k) (result n) _ _ _ (measured n) (p .settle .result) (p .settle .ensures) (c .before .verdict .given .0 .0) (c .before .verdict .given .1)
+    sizes-refused (call (scanned n)) (lengths k) (fine k) 0 (result n) _ _ _ (measured (p .before)) (p .settle .result) (p .settle .ensures) (c .before .verdict .given .0 .0) (c .before .verdict .given .1)
 
 enum-told : tie.Need-enum-told
 enum-told c = search needs
@@ -150,9 +163,9 @@ put-unindented-requires : tie.Need-put-unindented-requires
 put-unindented-requires c κs =
     let told = c .before .before .before in
     let p = told .before .before in
-    let n = sized p in
+    let n = sized (p .before) in
     let k = checked (scanned n) in
-    ((fine k .0 .whole, no-fault n), has-room (call (scanned n)) (lengths k) (fine k) (result n) _ _ _ (measured n) (p .settle .result) (p .settle .ensures) (told .enum-told .given .1))
+    ((fine k .0 .whole, no-fault n), has-room (call (scanned n)) (lengths k) (fine k) 0 (result n) _ _ _ (measured (p .before)) (p .settle .result) (p .settle .ensures) (told .enum-told .given .1))
 
 same-length : tie.Need-same-length
 same-length c = search needs
@@ -168,10 +181,10 @@ returns-5 c =
     let w = c .before .before .before .before .before .before in
     let told = w .before .before .before .before in
     let p = told .before .before in
-    let n = sized p in
+    let n = sized (p .before) in
     let k = checked (scanned n) in
     let x = call (scanned n) in
-    written x (lengths k) (fine k) (result n) _ _ _ (measured n) (p .settle .result) (p .settle .ensures) (told .enum-told .given .1)
+    written x (lengths k) (fine k) 0 (result n) _ _ _ (measured (p .before)) (p .settle .result) (p .settle .ensures) (told .enum-told .given .1)
     0 _ _ _ (w .put-unindented .result) (number-of (second x) (content x)) (w .put-unindented .ensures)
 
 pub write-unindented-spec : {M : Type 1} → statement M
@@ -188,6 +201,7 @@ write-unindented-spec =
     enum-known-f
     returns-3
     enum-known-n
+    own-size-requires
     settle-requires
     enum-known-verdict
     returns-4
