@@ -3,19 +3,20 @@
 use mathlib.Core.Path.{_≡_, refl, sym, ap, _∙_}
 use mathlib.Core.Bool.{true, false, not}
 use mathlib.Core.List.{List, [], _∷_, _++_, append-nil}
-use Prim.Native.Nat.{ℕ, zero, suc, _+_, _-_, _%_, _≤_}
+use Prim.Native.Nat.{ℕ, _+_, _%_, _≤_}
 use native.Mathlib.Omega.{arith}
 use lib.Dec.{eqb}
 use lib.ListN.{length, take, drop, length-append}
-use lib.Seq.{drop-append-seam, take-length}
 use borrow.Author.Tests.{eqb-true, eq-eqb, le-ltb}
 use Rattle.chars.specs.Chars.{wellFormed}
 use Rattle.recording.specs.declared.Entry.{Entry}
-use Rattle.recording.specs.Recording.{Bytes, Recording, recording, entry, entriesOf, numbersOf, partOf}
+use Rattle.recording.specs.Recording.{Bytes, Recording, recording, entry, entriesOf, numbersOf, partOf, startIn, newText, pushAt}
 use Rattle.recording.specs.Refusals.{refuseIf, badShape, entryFault, entriesFault, recordingFault}
 use Rattle.recording.specs.Outcome.{Result, done, overLimit, Lent, roomIn}
 use Rattle.recording.proofs.Lists.{not-false}
-use Rattle.recording.proofs.FaultLaws.{firstOf-zero, refuseIf-zero, NoFault, no-fault, fault-free, InLimits, in-limits, NoEntryFault, no-entry-fault, granted}
+use Rattle.recording.proofs.ItemsLaws.{placed-at}
+use Rattle.recording.proofs.ShareLaws.{part-more}
+use Rattle.recording.proofs.FaultLaws.{Inside, parts-inside, start-inside, firstOf-zero, refuseIf-zero, NoFault, no-fault, fault-free, InLimits, in-limits, NoEntryFault, no-entry-fault, granted}
 use Rattle.recording.proofs.OutcomeLaws.{done-only}
 use Rattle.recorder.specs.Recorder.{leaves, usedOf, addFaults, withData, withEntry, withLabel, withPop, withRaw, written, pushed, popped, rawAdded}
 
@@ -26,13 +27,6 @@ entry-clean at d t e f =
     rw (f .shape, le-ltb (e .position) at (f .low), le-ltb (length d) (e .position) (f .high), le-ltb (length t) (e .start + e .len) (f .part), f .label)
 
 -- ── the entries that were there
-part-more : (s n : ℕ) (t x : Bytes) → s + n ≤ length t → take n (drop s (t ++ x)) ≡ take n (drop s t)
-part-more zero zero t x h = refl
-part-more zero (suc n) [] x h = absurd (omega arith)
-part-more zero (suc n) (b ∷ t) x h = ap (λ (l : Bytes). b ∷ l) (part-more zero n t x (omega arith))
-part-more (suc s) n [] x h = absurd (omega arith)
-part-more (suc s) n (b ∷ t) x h = part-more s n t x (omega arith)
-
 entries-more : (es : List Entry) (at : ℕ) (d d′ t x : Bytes) → length d ≤ length d′ → entriesFault at d t es ≡ 0 → entriesFault at d′ (t ++ x) es ≡ 0
 entries-more [] at d d′ t x l h = refl
 entries-more (e ∷ es) at d d′ t x l h =
@@ -79,26 +73,26 @@ data-clean x r h l = fault-free (withData x r) (parts (no-fault r h) (in-limits 
             ap (λ (t : Bytes). entriesFault 0 (r .dataBytes ++ x) t (entriesOf (r .entryNumbers))) (sym (append-nil (r .text)))
             ∙ entries-more (entriesOf (r .entryNumbers)) 0 (r .dataBytes) (r .dataBytes ++ x) (r .text) [] (omega (arith, length-append (r .dataBytes) x)) (f .entries)
 
-entry-clean-of : (kind start : ℕ) (x : Bytes) (r : Recording) → recordingFault r ≡ 0 → overLimit (withEntry kind start x r) ≡ 0
-    → ((p : ℕ) → p ≤ length (r .dataBytes) → entryFault p (r .dataBytes) (r .text ++ x) (entry (length (r .dataBytes)) kind start (length x)) ≡ 0)
-    → recordingFault (withEntry kind start x r) ≡ 0
-entry-clean-of kind start x r h l new = fault-free (withEntry kind start x r) (parts (no-fault r h) (in-limits (withEntry kind start x r) l))
+entry-clean-of : (kind start n : ℕ) (x : Bytes) (r : Recording) → recordingFault r ≡ 0 → overLimit (withEntry kind start n x r) ≡ 0
+    → ((p : ℕ) → p ≤ length (r .dataBytes) → entryFault p (r .dataBytes) (r .text ++ x) (entry (length (r .dataBytes)) kind start n) ≡ 0)
+    → recordingFault (withEntry kind start n x r) ≡ 0
+entry-clean-of kind start n x r h l new = fault-free (withEntry kind start n x r) (parts (no-fault r h) (in-limits (withEntry kind start n x r) l))
   where
-    parts : NoFault r → InLimits (withEntry kind start x r) → NoFault (withEntry kind start x r)
+    parts : NoFault r → InLimits (withEntry kind start n x r) → NoFault (withEntry kind start n x r)
     parts f g = record { dataBytes = g .dataBytes; quads = fours; entryNumbers = g .entryNumbers; text = g .text; entries = kept }
       where
         e : Entry
-        e = entry (length (r .dataBytes)) kind start (length x)
+        e = entry (length (r .dataBytes)) kind start n
 
         four : length (r .entryNumbers) % 4 ≡ 0
         four = eqb-true (length (r .entryNumbers) % 4) 0 (f .quads)
 
-        fours : eqb (length (withEntry kind start x r .entryNumbers) % 4) 0 ≡ true
+        fours : eqb (length (withEntry kind start n x r .entryNumbers) % 4) 0 ≡ true
         fours =
             unfold withEntry in
             eq-eqb (length (r .entryNumbers ++ numbersOf (e ∷ [])) % 4) 0 (omega (arith, four, length-append (r .entryNumbers) (numbersOf (e ∷ []))))
 
-        kept : entriesFault 0 (withEntry kind start x r .dataBytes) (withEntry kind start x r .text) (entriesOf (withEntry kind start x r .entryNumbers)) ≡ 0
+        kept : entriesFault 0 (withEntry kind start n x r .dataBytes) (withEntry kind start n x r .text) (entriesOf (withEntry kind start n x r .entryNumbers)) ≡ 0
         kept =
             unfold withEntry in
             ap (entriesFault 0 (r .dataBytes) (r .text ++ x)) (entriesOf-snoc (r .entryNumbers) e four)
@@ -106,15 +100,14 @@ entry-clean-of kind start x r h l new = fault-free (withEntry kind start x r) (p
             (entries-more (entriesOf (r .entryNumbers)) 0 (r .dataBytes) (r .dataBytes) (r .text) x (omega arith) (f .entries)) new
 
 -- ── the new entry has no fault
-new-part : (t x : Bytes) → take (length x) (drop (length t) (t ++ x)) ≡ x
-new-part t x = ap (take (length x)) (drop-append-seam t x) ∙ take-length x
-
-new-label : (d t x : Bytes) (p : ℕ) → wellFormed x ≡ true → p ≤ length d → entryFault p d (t ++ x) (entry (length d) 0 (length t) (length x)) ≡ 0
+new-label : (d t x : Bytes) (es : List Entry) (p : ℕ) → Inside t es → wellFormed x ≡ true → p ≤ length d → entryFault p d (t ++ newText x t es) (pushAt (length d) t es x) ≡ 0
 unfolding badShape
-new-label d t x p w l =
-    let q : length t + length x ≤ length (t ++ x) = omega (arith, length-append t x) in
-    let m : not (wellFormed (take (length x) (drop (length t) (t ++ x)))) ≡ false = rw (new-part t x, w) in
-    entry-clean p d (t ++ x) (entry (length d) 0 (length t) (length x)) (record { shape = refl; low = l; high = omega arith; part = q; label = m })
+new-label d t x es p h w l =
+    let n : Bytes = newText x t es in
+    let k : take (length x) (drop (startIn x t (length t) es) (t ++ n)) ≡ x =
+    ap (λ (z : Bytes). take (length x) (drop (startIn x t (length t) es) (t ++ z))) (sym (append-nil n)) ∙ placed-at x t es [] in
+    let m : not (wellFormed (take (length x) (drop (startIn x t (length t) es) (t ++ n)))) ≡ false = rw (k, w) in
+    entry-clean p d (t ++ n) (pushAt (length d) t es x) (record { shape = refl; low = l; high = omega arith; part = start-inside x t es h; label = m })
 
 new-pop : (d t : Bytes) (p : ℕ) → p ≤ length d → entryFault p d (t ++ []) (entry (length d) 1 0 0) ≡ 0
 unfolding badShape
@@ -141,25 +134,29 @@ module _ (b : Lent) (d e t : ℕ) (y : Result) where
   pushed-clean l h =
       let r : Recording = usedOf b d e t in
       let n : ℕ = refuseIf (not (wellFormed l)) 6 in
-      let o = done-only (addFaults n b d e t) (roomIn b) (leaves (withEntry 0 (length (r .text)) l r)) y h in
-      let g = granted (addFaults n b d e t) (roomIn b) (leaves (withEntry 0 (length (r .text)) l r)) (o .0) in
+      let es : List Entry = entriesOf (r .entryNumbers) in
+      let s : ℕ = startIn l (r .text) (length (r .text)) es in
+      let x : Bytes = newText l (r .text) es in
+      let o = done-only (addFaults n b d e t) (roomIn b) (leaves (withEntry 0 s (length l) x r)) y h in
+      let g = granted (addFaults n b d e t) (roomIn b) (leaves (withEntry 0 s (length l) x r)) (o .0) in
       let w = not-false (wellFormed l) (refuseIf-zero (not (wellFormed l)) 5 (g .added)) in
-      ap (λ (z : Result). recordingFault (z .recording)) (sym (o .1)) ∙ entry-clean-of 0 (length (r .text)) l r (g .content) (g .limit) (λ p q. new-label (r .dataBytes) (r .text) l p w q)
+      let i = parts-inside es 0 (r .dataBytes) (r .text) (no-fault r (g .content) .entries) in
+      ap (λ (z : Result). recordingFault (z .recording)) (sym (o .1)) ∙ entry-clean-of 0 s (length l) x r (g .content) (g .limit) (λ p q. new-label (r .dataBytes) (r .text) l es p i w q)
 
   pub popped-clean : popped b d e t ≡ done y → recordingFault (y .recording) ≡ 0
   unfolding popped addFaults withPop
   popped-clean h =
       let r : Recording = usedOf b d e t in
-      let o = done-only (addFaults 0 b d e t) (roomIn b) (leaves (withEntry 1 0 [] r)) y h in
-      let g = granted (addFaults 0 b d e t) (roomIn b) (leaves (withEntry 1 0 [] r)) (o .0) in
-      ap (λ (z : Result). recordingFault (z .recording)) (sym (o .1)) ∙ entry-clean-of 1 0 [] r (g .content) (g .limit) (λ p q. new-pop (r .dataBytes) (r .text) p q)
+      let o = done-only (addFaults 0 b d e t) (roomIn b) (leaves (withEntry 1 0 0 [] r)) y h in
+      let g = granted (addFaults 0 b d e t) (roomIn b) (leaves (withEntry 1 0 0 [] r)) (o .0) in
+      ap (λ (z : Result). recordingFault (z .recording)) (sym (o .1)) ∙ entry-clean-of 1 0 0 [] r (g .content) (g .limit) (λ p q. new-pop (r .dataBytes) (r .text) p q)
 
   pub raw-clean : (x : Bytes) → rawAdded x b d e t ≡ done y → recordingFault (y .recording) ≡ 0
   unfolding rawAdded addFaults withRaw
   raw-clean x h =
       let r : Recording = usedOf b d e t in
       let n : ℕ = refuseIf (eqb (length x) 0) 3 in
-      let o = done-only (addFaults n b d e t) (roomIn b) (leaves (withEntry 2 (length (r .text)) x r)) y h in
-      let g = granted (addFaults n b d e t) (roomIn b) (leaves (withEntry 2 (length (r .text)) x r)) (o .0) in
+      let o = done-only (addFaults n b d e t) (roomIn b) (leaves (withEntry 2 (length (r .text)) (length x) x r)) y h in
+      let g = granted (addFaults n b d e t) (roomIn b) (leaves (withEntry 2 (length (r .text)) (length x) x r)) (o .0) in
       let w = refuseIf-zero (eqb (length x) 0) 2 (g .added) in
-      ap (λ (z : Result). recordingFault (z .recording)) (sym (o .1)) ∙ entry-clean-of 2 (length (r .text)) x r (g .content) (g .limit) (λ p q. new-raw (r .dataBytes) (r .text) x p w q)
+      ap (λ (z : Result). recordingFault (z .recording)) (sym (o .1)) ∙ entry-clean-of 2 (length (r .text)) (length x) x r (g .content) (g .limit) (λ p q. new-raw (r .dataBytes) (r .text) x p w q)

@@ -1,11 +1,11 @@
 -- The adding calls: in which order they refuse, and that bytes put at the used end of a buffer are the longer result over it (`over-take`).
 use mathlib.Core.Path.{_≡_, refl, sym, ap, _∙_}
-use mathlib.Core.Bool.{Bool, true, false, not, _||_}
+use mathlib.Core.Bool.{Bool, true, false, cond, not, _||_}
 use mathlib.Core.List.{List, [], _∷_, _++_, append-assoc}
 use Prim.Native.Nat.{ℕ, _+_, _-_, _≤_, _<_}
 use native.Mathlib.Omega.{arith}
 use lib.Dec.{ltb, eqb}
-use lib.ListN.{length, take, drop, length-append, take-append-drop}
+use lib.ListN.{length, take, drop, length-append, length-take, take-append-drop}
 use lib.Seq.{length-take-le, drop-drop, take-length}
 use borrow.Author.Tests.{ltb-false, lt-ltb, le-ltb, eqb-true, eqb-false, eq-eqb, ne-eqb}
 use Rattle.buffer.specs.Place.{over, overAt, part}
@@ -14,7 +14,8 @@ use Rattle.recording.specs.declared.Refusal.{Refusal}
 use Rattle.recording.specs.declared.Answer.the-variants.{Refused, Done}
 use Rattle.recording.specs.declared.Checked.{Checked}
 use Rattle.recording.specs.declared.Checked.the-variants as C
-use Rattle.recording.specs.Recording.{Bytes, Recording, recording, entry, numbersOf}
+use Rattle.recording.specs.Recording.{Bytes, Recording, recording, entry, numbersOf, pushedIn, newText}
+use Rattle.recording.specs.declared.Entry.{Entry}
 use Rattle.recording.specs.Refusals.{numberOf, firstOf, refuseIf, recordingFault}
 use Rattle.recording.specs.Outcome.{Room, Result, Faults, overLimit, noRoom, refusalOf, settle, Lent, lentAfter, returned, answerOf, roomIn}
 use Rattle.recording.specs.Check.{faultOf}
@@ -188,25 +189,25 @@ module _ (b : Lent) (d e t : ℕ) (x : Bytes) (i : Inside b d e t) where
   unfolding withData
   data-left od w = (w ∙ sym (over-take d x (b .dataBytes) (i .dataBytes)), sym (over-used e (b .entryNumbers) (i .entryNumbers)), sym (over-used t (b .text) (i .text)))
 
-  -- an entry at the entries' end, its text at the text's end
-  module _ (kind start : ℕ) where
-    pub entry-sizes : (d ≡ length (withEntry kind start x (usedOf b d e t) .dataBytes)) × (e + 4 ≡ length (withEntry kind start x (usedOf b d e t) .entryNumbers))
-        × (t + length x ≡ length (withEntry kind start x (usedOf b d e t) .text))
+  -- an entry at the entries' end, with a part of n bytes; x at the text's end
+  module _ (kind start n : ℕ) where
+    pub entry-sizes : (d ≡ length (withEntry kind start n x (usedOf b d e t) .dataBytes)) × (e + 4 ≡ length (withEntry kind start n x (usedOf b d e t) .entryNumbers))
+        × (t + length x ≡ length (withEntry kind start n x (usedOf b d e t) .text))
     unfolding withEntry
     entry-sizes = (
       sym front-d,
-      omega (arith, front-e, length-append (take e (b .entryNumbers)) (numbersOf (entry (length (take d (b .dataBytes))) kind start (length x) ∷ []))),
+      omega (arith, front-e, length-append (take e (b .entryNumbers)) (numbersOf (entry (length (take d (b .dataBytes))) kind start n ∷ []))),
       omega (arith, front-t, length-append (take t (b .text)) x),
     )
 
-    pub entry-left : (s : ℕ) (oe ot : List ℕ) → s ≡ start → oe ≡ overAt e (numbersOf (entry d kind s (length x) ∷ [])) (b .entryNumbers) → ot ≡ overAt t x (b .text)
-        → (b .dataBytes ≡ over (withEntry kind start x (usedOf b d e t) .dataBytes) (b .dataBytes)) × (oe ≡ over (withEntry kind start x (usedOf b d e t) .entryNumbers) (b .entryNumbers))
-        × (ot ≡ over (withEntry kind start x (usedOf b d e t) .text) (b .text))
+    pub entry-left : (s : ℕ) (oe ot : List ℕ) → s ≡ start → oe ≡ overAt e (numbersOf (entry d kind s n ∷ [])) (b .entryNumbers) → ot ≡ overAt t x (b .text)
+        → (b .dataBytes ≡ over (withEntry kind start n x (usedOf b d e t) .dataBytes) (b .dataBytes)) × (oe ≡ over (withEntry kind start n x (usedOf b d e t) .entryNumbers) (b .entryNumbers))
+        × (ot ≡ over (withEntry kind start n x (usedOf b d e t) .text) (b .text))
     unfolding withEntry
     entry-left s oe ot q we wt = (
       sym (over-used d (b .dataBytes) (i .dataBytes)),
-      we ∙ (λ j. overAt e (numbersOf (entry (sym front-d j) kind (q j) (length x) ∷ [])) (b .entryNumbers))
-          ∙ sym (over-take e (numbersOf (entry (length (take d (b .dataBytes))) kind start (length x) ∷ [])) (b .entryNumbers) (i .entryNumbers)),
+      we ∙ (λ j. overAt e (numbersOf (entry (sym front-d j) kind (q j) n ∷ [])) (b .entryNumbers))
+          ∙ sym (over-take e (numbersOf (entry (length (take d (b .dataBytes))) kind start n ∷ [])) (b .entryNumbers) (i .entryNumbers)),
       wt ∙ sym (over-take t x (b .text) (i .text)),
     )
 
@@ -233,3 +234,18 @@ whole-part n x old =
     let z : length x - 0 ≡ length x = omega arith in
     let w : part 0 (length x) x ≡ x = rw z (take-length x) in
     ap (λ (l : List ℕ). overAt n l old) w
+
+-- ── the part of a label that comes to the text: all of it or none, so it is a front of the label
+pub new-front : (l t : Bytes) (es : List Entry) → take (length (newText l t es)) l ≡ newText l t es
+new-front l t es = go (pushedIn l t es)
+  where
+    go : (b : Bool) → take (length (cond b [] l)) l ≡ cond b [] l
+    go true = refl
+    go false = take-length l
+
+pub new-short : (l t : Bytes) (es : List Entry) → length (newText l t es) ≤ length l
+new-short l t es = omega (arith, ap length (new-front l t es), length-take (length (newText l t es)) l)
+
+-- a part that is lent from 0 on
+pub lent-front : (k : ℕ) (x : List ℕ) → take (k - 0) (drop 0 x) ≡ take k x
+lent-front k x = let z : k - 0 ≡ k = omega arith in rw z

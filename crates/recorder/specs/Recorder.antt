@@ -5,7 +5,7 @@ use mathlib.Core.List.{List, [], _∷_, _++_}
 use lib.Dec.{ltb, eqb}
 use lib.ListN.{length, take}
 use Rattle.chars.specs.Chars.{wellFormed}
-use Rattle.recording.specs.Recording.{Bytes, Recording, recording, entry, numbersOf, Item, items, encode}
+use Rattle.recording.specs.Recording.{Bytes, Recording, recording, entry, entriesOf, numbersOf, Item, items, startIn, newText, encode}
 use Rattle.recording.specs.Refusals.{refuseIf, recordingFault}
 use Rattle.recording.specs.Outcome.{Room, Result, Faults, contentFaults, Outcome, settle, Lent, roomIn}
 
@@ -24,7 +24,7 @@ noFaults = record { lengths = 0; content = 0; second = 0; added = 0; plain = 0; 
 unfoldable pub judgedBySize : Room → List Item → Outcome
 judgedBySize o is = settle noFaults o (leaves (encode is))
 
--- ── replay: the recording written anew, its entries' texts side by side from 0
+-- ── replay: the recording written anew, its entries' texts from 0 on
 unfoldable pub replayFaults : Recording → Faults
 replayFaults r = contentFaults r 0
 
@@ -36,22 +36,24 @@ replayed r b = settle (replayFaults r) (roomIn b) (leaves (encode (items r)))
 unfoldable pub withData : Bytes → Recording → Recording
 withData x r = recording (r .dataBytes ++ x) (r .entryNumbers) (r .text)
 
--- one entry at the current end, its text (if any) at the text's end; `start` is where that begins
-unfoldable pub withEntry : ℕ → ℕ → Bytes → Recording → Recording
-withEntry kind start x r = recording (r .dataBytes) (r .entryNumbers ++ numbersOf (entry (length (r .dataBytes)) kind start (length x) ∷ [])) (r .text ++ x)
+-- one entry at the current end, with a part of n bytes from `start` on; x comes to the text
+unfoldable pub withEntry : ℕ → ℕ → ℕ → Bytes → Recording → Recording
+withEntry kind start n x r = recording (r .dataBytes) (r .entryNumbers ++ numbersOf (entry (length (r .dataBytes)) kind start n ∷ [])) (r .text ++ x)
 
+-- a label takes the part of the first push with an equal text, and a new one goes to the text's end (document 02, Q-8): a push as in a result
 unfoldable pub withLabel : Bytes → Recording → Recording
 unfolding withEntry
-withLabel l r = withEntry 0 (length (r .text)) l r
+withLabel l r = withEntry 0 (startIn l (r .text) (length (r .text)) (entriesOf (r .entryNumbers))) (length l) (newText l (r .text) (entriesOf (r .entryNumbers))) r
 
 -- a pop has 0 and 0
 unfoldable pub withPop : Recording → Recording
 unfolding withEntry
-withPop r = withEntry 1 0 [] r
+withPop r = withEntry 1 0 0 [] r
 
+-- a raw sequence goes to the text's end
 unfoldable pub withRaw : Bytes → Recording → Recording
 unfolding withEntry
-withRaw x r = withEntry 2 (length (r .text)) x r
+withRaw x r = withEntry 2 (length (r .text)) (length x) x r
 
 -- the recording in buffers of which d, e and t numbers are used
 abbrev pub usedOf : Lent → ℕ → ℕ → ℕ → Recording

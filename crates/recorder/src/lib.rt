@@ -7,6 +7,8 @@ use recording::Checked;
 use recording::Entry;
 use recording::Refusal;
 use recording_check::check;
+use share::own_size;
+use share::place_label;
 use well_formed::is_well_formed;
 use writer::Cursor;
 use writer::Settled;
@@ -18,7 +20,7 @@ ghost use Prim.Native.Nat.{_+_, _≤_};
 ghost use mathlib.Core.List.{[], _∷_};
 ghost use lib.ListN.{length};
 ghost use Rattle.buffer.specs.Place.{overAt};
-ghost use Rattle.recording.specs.Recording.{recording, entry, numbersOf, items, textOf};
+ghost use Rattle.recording.specs.Recording.{recording, numbersOf, items, textOf};
 ghost use Rattle.recording.specs.Refusals.{firstOf, recordingFault};
 ghost use Rattle.recording.specs.Outcome.{Promised, roomIn};
 ghost use Rattle.recording.specs.Check.{faultOf};
@@ -40,10 +42,11 @@ pub fn put_whole(
         (items (recording (now (content .entry)) (now (entries .entry)) (now (text .entry)))))
         (lentOf (now («out_data» .entry)) (now («out_entries» .entry)) (now («out_text» .entry))) (lentOf (now («out_data» .exit)) (now («out_entries» .exit)) (now («out_text» .exit))) r ⌝ }
 {
+    let shared = own_size(size, out_text.len(), entries, text);
     let verdict = settle(
         content.len(),
         entries.len(),
-        size,
+        shared,
         0,
         out_data.len(),
         out_entries.len(),
@@ -80,7 +83,7 @@ pub fn put_whole(
     }
 }
 
-// Copies a recording into three lent buffers, each entry's text one after another from 0; text that no entry uses is left out.
+// Copies a recording into three lent buffers, each entry's text one after another from 0, equal labels a single time; text that no entry uses is left out.
 pub fn replay(
     content: &[u8],
     entries: &[u32],
@@ -227,32 +230,17 @@ pub fn pop_label(
     }
 }
 
-// Writes an entry from e on, its text `part` from n on.
-fn put_mark(
-    numbers: &mut [u32],
-    e: usize,
-    texts: &mut [u8],
-    n: usize,
-    at: usize,
-    kind: u32,
-    part: &[u8],
-)
+// Writes an entry from e on, and what comes to the text from n on.
+fn put_mark(numbers: &mut [u32], e: usize, m: Entry, texts: &mut [u8], n: usize, part: &[u8])
     requires { ⌜ (e + 4 ≤ length (now numbers)) × (n + length (now part) ≤ length (now texts)) ⌝ }
-    requires { ⌜ (at ≤ 1048576) × (n + length (now part) ≤ 65536) ⌝ }
-    ensures { λ _. ⌜ now (numbers .exit) ≡ overAt e (numbersOf (entry at kind n (length (now (part .entry))) ∷ [])) (now (numbers .entry)) ⌝ }
+    ensures { λ _. ⌜ now (numbers .exit) ≡ overAt e (numbersOf (m ∷ [])) (now (numbers .entry)) ⌝ }
     ensures { λ _. ⌜ now (texts .exit) ≡ overAt n (now (part .entry)) (now (texts .entry)) ⌝ }
 {
-    let m = Entry {
-        position: at as u32,
-        kind: kind,
-        start: n as u32,
-        len: part.len() as u32,
-    };
     set_entry(numbers, e, m);
     put(texts, n, part, 0, part.len());
 }
 
-// Pushes a label, at the current end.
+// Pushes a label, at the current end. It takes the part of the first push with an equal text; a new one goes to the text's end.
 pub fn push_label(
     content: &[u8],
     content_len: usize,
@@ -276,10 +264,11 @@ pub fn push_label(
     if !is_well_formed(label) {
         return Answer::Refused(Refusal::LabelIllFormed);
     }
+    let place = place_label(&entries[0..entries_len], &text[0..text_len], label);
     let verdict = settle(
         content_len,
         entries_len + 4,
-        text_len + label.len(),
+        text_len + place.add,
         0,
         content.len(),
         entries.len(),
@@ -292,11 +281,18 @@ pub fn push_label(
         }
         Settled::Room => {}
     }
-    put_mark(entries, entries_len, text, text_len, content_len, 0, label);
+    let e = Entry {
+        position: content_len as u32,
+        kind: 0,
+        start: place.start,
+        len: label.len() as u32,
+    };
+    let add = place.add;
+    put_mark(entries, entries_len, e, text, text_len, &label[0..add]);
     Answer::Done {
         data: content_len,
         entries: entries_len + 4,
-        text: text_len + label.len(),
+        text: text_len + add,
         number: 0,
     }
 }
@@ -341,15 +337,13 @@ pub fn raw(
         }
         Settled::Room => {}
     }
-    put_mark(
-        entries,
-        entries_len,
-        text,
-        text_len,
-        content_len,
-        2,
-        sequence,
-    );
+    let e = Entry {
+        position: content_len as u32,
+        kind: 2,
+        start: text_len as u32,
+        len: sequence.len() as u32,
+    };
+    put_mark(entries, entries_len, e, text, text_len, sequence);
     Answer::Done {
         data: content_len,
         entries: entries_len + 4,

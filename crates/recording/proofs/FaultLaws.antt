@@ -249,6 +249,14 @@ some (b ∷ x) z = eqb·suc-zero (length x)
 abbrev pub Inside : Bytes → List Entry → Type 0
 Inside t es = AllOf (λ (e : Entry). e .start + e .len ≤ length t) es
 
+-- of a recording without faults
+pub parts-inside : (es : List Entry) (at : ℕ) (d t : Bytes) → entriesFault at d t es ≡ 0 → Inside t es
+parts-inside [] at d t h = tt
+parts-inside (e ∷ es) at d t h =
+    let a = firstOf-zero (entryFault at d t e) (entriesFault (e .position) d t es ∷ []) h in
+    let g = firstOf-zero (entriesFault (e .position) d t es) [] (a .1) in
+    (no-entry-fault at d t e (a .0) .part, parts-inside es (e .position) d t (g .0))
+
 pub inside-more : (t x : Bytes) (es : List Entry) → Inside t es → Inside (t ++ x) es
 inside-more t x [] h = tt
 inside-more t x (e ∷ es) h = (omega (arith, h .0, length-append t x), inside-more t x es (h .1))

@@ -85,7 +85,7 @@ module _ (m : Item → ℕ) (none : (b : ℕ) → m (byte b) ≡ 0) where
   edit-sum (put p ∷ ops) is = omega (arith, sum-append m (front 0 is) (p ++ edit ops (back 0 is)), sum-append m p (edit ops (back 0 is)), edit-sum ops (back 0 is), sum-split 0 is)
 
 -- ── what was pushed stays pushed
-part-more : (s n : ℕ) (t x : Bytes) → s + n ≤ length t → take n (drop s (t ++ x)) ≡ take n (drop s t)
+pub part-more : (s n : ℕ) (t x : Bytes) → s + n ≤ length t → take n (drop s (t ++ x)) ≡ take n (drop s t)
 part-more zero zero t x h = refl
 part-more zero (suc n) [] x h = absurd (omega arith)
 part-more zero (suc n) (b ∷ t) x h = ap (λ (l : Bytes). b ∷ l) (part-more zero n t x (omega arith))

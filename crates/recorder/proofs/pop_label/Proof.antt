@@ -31,7 +31,7 @@ returns c =
     let a = c .before .before .before .before .before .before .before .before .args in
     let b = lentOf (a .content .now) (a .entries .now) (a .text .now) in
     let u = usedOf b (a .content-len) (a .entries-len) (a .text-len) in
-    let q = withEntry 1 0 [] u in
+    let q = withEntry 1 0 0 [] u in
     let k = c .before .before .before .check-used in
     let g = c .before .checked .given in
     add-refused (addFaults 0 b (a .content-len) (a .entries-len) (a .text-len)) b q (g .0 .0)
@@ -63,13 +63,13 @@ returns-2 c =
     let a = c .before .before .before .before .before .before .before .before .before .before .before .args in
     let b = lentOf (a .content .now) (a .entries .now) (a .text .now) in
     let u = usedOf b (a .content-len) (a .entries-len) (a .text-len) in
-    let q = withEntry 1 0 [] u in
+    let q = withEntry 1 0 0 [] u in
     let k = c .before .before .before .before .before .before .check-used in
     let v = c .before .before .before .settle in
     let g = c .before .before .before .before .enum-told .given in
     let h = c .before .verdict .given in
     let i = is-inside b (a .content-len) (a .entries-len) (a .text-len) (k .result) (k .ensures) (g .0 .0) (g .1) in
-    let s = entry-sizes b (a .content-len) (a .entries-len) (a .text-len) [] i 1 0 in
+    let s = entry-sizes b (a .content-len) (a .entries-len) (a .text-len) [] i 1 0 0 in
     add-refused (addFaults 0 b (a .content-len) (a .entries-len) (a .text-len)) b q (h .0 .0)
     (too-large b (a .content-len) (a .entries-len) (a .text-len) (k .result) (k .ensures) (g .0 .0) (g .1) 0 refl (roomIn b) (leaves q) (v .result) (a .content-len) (a .entries-len + 4)
     (a .text-len) (v .ensures) (s .0) (s .1) (omega (arith, s .2)) refl (h .0 .0) (h .1))
@@ -94,13 +94,13 @@ set-entry-requires c κs =
     let a = c .before .before .before .before .before .before .before .before .before .before .before .args in
     let b = lentOf (a .content .now) (a .entries .now) (a .text .now) in
     let u = usedOf b (a .content-len) (a .entries-len) (a .text-len) in
-    let q = withEntry 1 0 [] u in
+    let q = withEntry 1 0 0 [] u in
     let k = c .before .before .before .before .before .before .check-used in
     let v = c .before .before .before .settle in
     let g = c .before .before .before .before .enum-told .given in
     let g₂ = c .before .enum-told2 .given in
     let i = is-inside b (a .content-len) (a .entries-len) (a .text-len) (k .result) (k .ensures) (g .0 .0) (g .1) in
-    let s = entry-sizes b (a .content-len) (a .entries-len) (a .text-len) [] i 1 0 in
+    let s = entry-sizes b (a .content-len) (a .entries-len) (a .text-len) [] i 1 0 0 in
     let f = fits b (a .content-len) (a .entries-len) (a .text-len) (k .result) (k .ensures) (g .0 .0) (g .1) 0 refl (roomIn b) (leaves q) (v .result) (a .content-len) (a .entries-len + 4)
     (a .text-len) (v .ensures) (s .0) (s .1) (omega (arith, s .2)) refl (g₂ .1) in
     let m = limits b (a .content-len) (a .entries-len) (a .text-len) (k .result) (k .ensures) (g .0 .0) (g .1) in
@@ -135,17 +135,17 @@ returns-3 c =
     let a = start .args in
     let b = lentOf (a .content .now) (a .entries .now) (a .text .now) in
     let u = usedOf b (a .content-len) (a .entries-len) (a .text-len) in
-    let q = withEntry 1 0 [] u in
+    let q = withEntry 1 0 0 [] u in
     let k = at-check-used .check-used in
     let v = at-settle .settle in
     let p = c .before .before .set-entry in
     let g = at-enum-told .enum-told .given in
     let g₂ = at-enum-told2 .enum-told2 .given in
     let i = is-inside b (a .content-len) (a .entries-len) (a .text-len) (k .result) (k .ensures) (g .0 .0) (g .1) in
-    let s = entry-sizes b (a .content-len) (a .entries-len) (a .text-len) [] i 1 0 in
+    let s = entry-sizes b (a .content-len) (a .entries-len) (a .text-len) [] i 1 0 0 in
     let z = accepted b (a .content-len) (a .entries-len) (a .text-len) (k .result) (k .ensures) (g .0 .0) (g .1) 0 refl (roomIn b) (leaves q) (v .result) (a .content-len)
     (a .entries-len + 4) (a .text-len) (v .ensures) (s .0) (s .1) (omega (arith, s .2)) refl (g₂ .1) in
-    let w = entry-left b (a .content-len) (a .entries-len) (a .text-len) [] i 1 0 0 _ _ refl (p .ensures) (sym (over-none _ _)) in
+    let w = entry-left b (a .content-len) (a .entries-len) (a .text-len) [] i 1 0 0 0 _ _ refl (p .ensures) (sym (over-none _ _)) in
     add-done (addFaults 0 b (a .content-len) (a .entries-len) (a .text-len)) b q (a .content-len) (a .entries-len + 4) (a .text-len) _ _ _ z (s .0) (s .1) (omega (arith, s .2)) (w .0)
     (w .1) (w .2) refl
 

@@ -9,15 +9,6 @@ use Rattle.recorder.proofs.put_mark.Lts as lts
 use Rattle.buffer.proofs.put.Reads as put-reads
 use Rattle.writer.proofs.set_entry.Reads as set-entry-reads
 
-cast-t9 : tie.Need-cast-t9
-cast-t9 c = search needs
-
-cast-t10 : tie.Need-cast-t10
-cast-t10 c = search needs
-
-cast-t12 : tie.Need-cast-t12
-cast-t12 c = search needs
-
 set-entry-requires : tie.Need-set-entry-requires
 set-entry-requires c κs = search needs
 
@@ -38,9 +29,6 @@ pub put-mark-spec : {M : Type 1} → statement M
 put-mark-spec =
     tie.close
     (tie.spec
-    cast-t9
-    cast-t10
-    cast-t12
     set-entry-requires
     put-requires
     same-length

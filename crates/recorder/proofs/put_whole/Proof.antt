@@ -5,23 +5,35 @@ use lib.ListN.{length}
 use Rattle.recording.specs.Recording.{Item, recording, items}
 use Rattle.writer.specs.Write.{out}
 use Rattle.writer.proofs.Steps.{sound}
-use Rattle.recorder.proofs.LeftLaws.{Sized, whole-sized, left-refused, left-room, left-written}
+use Rattle.recorder.proofs.LeftLaws.{Sized, whole-sized, own-asked, left-refused, left-room, left-written}
 use Rattle.recorder.proofs.put_whole.Statement.{statement}
 use Rattle.recorder.proofs.put_whole.Tie as tie
 use Rattle.recorder.proofs.put_whole.Reads as reads
 use Rattle.recorder.proofs.put_whole.Lts as lts
+use Rattle.share.proofs.own_size.Reads as own-size-reads
 use Rattle.writer.proofs.put_recording.Reads as put-recording-reads
 use Rattle.writer.proofs.settle.Reads as settle-reads
 
 -- once the sizes are settled: where the function started, the items that are to be written, and that the sizes are theirs
 abbrev start : tie.After-settle → tie.Start
-start c = c .before .before .before .before .before .before .before
+start c = c .before .before .before .before .before .before .before .before
 
 abbrev whole : tie.After-settle → List Item
 whole c = let a = start c .args in items (recording (a .content .now) (a .entries .now) (a .text .now))
 
-sized : (c : tie.After-settle) → Sized (whole c) (length (start c .args .content .now)) (length (start c .args .entries .now)) (start c .args .size)
-sized c = let a = start c .args in whole-sized (a .content .now) (a .entries .now) (a .text .now) (a .size) (start c .pre .0) (start c .pre .1)
+sized : (c : tie.After-settle)
+    → let a = start c .args in
+    Sized (length (a .out-text .now)) (whole c) (length (a .content .now)) (length (a .entries .now)) (c .before .own-size .result)
+sized c =
+    let a = start c .args in
+    let o = c .before .own-size in
+    whole-sized (a .content .now) (a .entries .now) (a .text .now) (length (a .out-text .now)) (o .result) (start c .pre .0) (o .ensures)
+
+own-size-requires : tie.Need-own-size-requires
+own-size-requires c κs =
+    let s = c .before .before .before .before .before .before in
+    let a = s .args in
+    own-asked (a .content .now) (a .entries .now) (a .text .now) (a .size) (s .pre .0) (s .pre .1)
 
 settle-requires : tie.Need-settle-requires
 settle-requires c κs = search needs
@@ -71,6 +83,7 @@ pub put-whole-spec : {M : Type 1} → statement M
 put-whole-spec =
     tie.close
     (tie.spec
+    own-size-requires
     settle-requires
     enum-known-verdict
     returns

@@ -8,7 +8,7 @@ use Rattle.recorder.proofs.AddLaws.{check-refused, is-inside, limits, u
 use Rattle.recording.specs.Outcome.{roomIn}
 use Rattle.recorder.specs.Recorder.{lentOf, leaves, usedOf, addFaults, rawAdded, withEntry, withRaw}
 use lib.ListN.{length, take}
-use Prim.Native.Nat.{_+_}
+use Prim.Native.Nat.{_+_, _≤_}
 use mathlib.Core.Path.{refl, sym}
 use Rattle.recorder.proofs.raw.Statement.{statement}
 use Rattle.recorder.proofs.raw.Tie as tie
@@ -37,7 +37,7 @@ returns c =
     let b = lentOf (a .content .now) (a .entries .now) (a .text .now) in
     let u = usedOf b (a .content-len) (a .entries-len) (a .text-len) in
     let n = refuseIf (eqb (length (a .sequence .now)) 0) 3 in
-    let q = withEntry 2 (length (take (a .text-len) (a .text .now))) (a .sequence .now) u in
+    let q = withEntry 2 (length (take (a .text-len) (a .text .now))) (length (a .sequence .now)) (a .sequence .now) u in
     let k = c .before .before .before .check-used in
     let g = c .before .checked .given in
     add-refused (addFaults n b (a .content-len) (a .entries-len) (a .text-len)) b q (g .0 .0)
@@ -59,7 +59,7 @@ returns-2 c =
     let b = lentOf (a .content .now) (a .entries .now) (a .text .now) in
     let u = usedOf b (a .content-len) (a .entries-len) (a .text-len) in
     let n = refuseIf (eqb (length (a .sequence .now)) 0) 3 in
-    let q = withEntry 2 (length (take (a .text-len) (a .text .now))) (a .sequence .now) u in
+    let q = withEntry 2 (length (take (a .text-len) (a .text .now))) (length (a .sequence .now)) (a .sequence .now) u in
     let k = c .before .before .before .check-used in
     let g = c .before .enum-told .given in
     add-refused (addFaults n b (a .content-len) (a .entries-len) (a .text-len)) b q EntryShape
@@ -112,13 +112,13 @@ returns-3 c =
     let b = lentOf (a .content .now) (a .entries .now) (a .text .now) in
     let u = usedOf b (a .content-len) (a .entries-len) (a .text-len) in
     let n = refuseIf (eqb (length (a .sequence .now)) 0) 3 in
-    let q = withEntry 2 (length (take (a .text-len) (a .text .now))) (a .sequence .now) u in
+    let q = withEntry 2 (length (take (a .text-len) (a .text .now))) (length (a .sequence .now)) (a .sequence .now) u in
     let k = at-check-used .check-used in
     let v = c .before .before .before .settle in
     let g = at-enum-told .enum-told .given in
     let h = c .before .verdict .given in
     let i = is-inside b (a .content-len) (a .entries-len) (a .text-len) (k .result) (k .ensures) (g .0 .0) (g .1) in
-    let s = entry-sizes b (a .content-len) (a .entries-len) (a .text-len) (a .sequence .now) i 2 (length (take (a .text-len) (a .text .now))) in
+    let s = entry-sizes b (a .content-len) (a .entries-len) (a .text-len) (a .sequence .now) i 2 (length (take (a .text-len) (a .text .now))) (length (a .sequence .now)) in
     add-refused (addFaults n b (a .content-len) (a .entries-len) (a .text-len)) b q (h .0 .0)
     (too-large b (a .content-len) (a .entries-len) (a .text-len) (k .result) (k .ensures) (g .0 .0) (g .1) n (some-raw _ (at-if1 .if1 .left)) (roomIn b)
     (leaves q) (v .result) (a .content-len) (a .entries-len + 4) (a .text-len + length (a .sequence .now)) (v .ensures) (s .0) (s .1) (s .2) refl (h .0 .0) (h .1))
@@ -126,9 +126,13 @@ returns-3 c =
 enum-told-2 : tie.Need-enum-told-2
 enum-told-2 c = search needs
 
-put-mark-requires : tie.Need-put-mark-requires
-put-mark-requires c κs =
-    let at-settle = c .before .before .before .before in
+-- once there is room: the limits, and the room
+sizes : (c : tie.After-enum-told2)
+    → let a = c .before .before .before .before .before .before .before .before .before .before .before .before .before .args in
+    (a .content-len ≤ 1048576) × (a .text-len + length (a .sequence .now) ≤ 65536)
+    × (a .entries-len + 4 ≤ length (a .entries .now)) × (a .text-len + length (a .sequence .now) ≤ length (a .text .now))
+sizes c =
+    let at-settle = c .before .before in
     let at-if1 = at-settle .before in
     let at-enum-told = at-if1 .before in
     let at-check-used = at-enum-told .before .before in
@@ -137,20 +141,31 @@ put-mark-requires c κs =
     let b = lentOf (a .content .now) (a .entries .now) (a .text .now) in
     let u = usedOf b (a .content-len) (a .entries-len) (a .text-len) in
     let n = refuseIf (eqb (length (a .sequence .now)) 0) 3 in
-    let q = withEntry 2 (length (take (a .text-len) (a .text .now))) (a .sequence .now) u in
+    let q = withEntry 2 (length (take (a .text-len) (a .text .now))) (length (a .sequence .now)) (a .sequence .now) u in
     let k = at-check-used .check-used in
     let v = at-settle .settle in
     let g = at-enum-told .enum-told .given in
-    let g₂ = c .before .before .enum-told2 .given in
     let i = is-inside b (a .content-len) (a .entries-len) (a .text-len) (k .result) (k .ensures) (g .0 .0) (g .1) in
-    let s = entry-sizes b (a .content-len) (a .entries-len) (a .text-len) (a .sequence .now) i 2 (length (take (a .text-len) (a .text .now))) in
+    let s = entry-sizes b (a .content-len) (a .entries-len) (a .text-len) (a .sequence .now) i 2 (length (take (a .text-len) (a .text .now))) (length (a .sequence .now)) in
     let f = fits b (a .content-len) (a .entries-len) (a .text-len) (k .result) (k .ensures) (g .0 .0) (g .1) n (some-raw _ (at-if1 .if1 .left)) (roomIn b)
-    (leaves q) (v .result) (a .content-len) (a .entries-len + 4) (a .text-len + length (a .sequence .now)) (v .ensures) (s .0) (s .1) (s .2) refl (g₂ .1) in
+    (leaves q) (v .result) (a .content-len) (a .entries-len + 4) (a .text-len + length (a .sequence .now)) (v .ensures) (s .0) (s .1) (s .2) refl (c .enum-told2 .given .1) in
     let m = limits b (a .content-len) (a .entries-len) (a .text-len) (k .result) (k .ensures) (g .0 .0) (g .1) in
-    ((omega (arith, f .entry-room, s .1), omega (arith, f .text-room, s .2)), (m .0, omega (arith, f .text-limit, s .2)))
+    (m .0, omega (arith, f .text-limit, s .2), omega (arith, f .entry-room, s .1), omega (arith, f .text-room, s .2))
 
-add-t16 : tie.Need-add-t16
-add-t16 c =
+cast-t25 : tie.Need-cast-t25
+cast-t25 c = omega (arith, sizes c)
+
+cast-t26 : tie.Need-cast-t26
+cast-t26 c = omega (arith, sizes c)
+
+cast-t27 : tie.Need-cast-t27
+cast-t27 c = omega (arith, sizes c)
+
+put-mark-requires : tie.Need-put-mark-requires
+put-mark-requires c κs = let z = sizes (c .before .before) in (z .2, z .3)
+
+add-t24 : tie.Need-add-t24
+add-t24 c =
     let at-enum-told = c .before .before .before .before .before .before .before .before .before .before .before in
     let at-check-used = at-enum-told .before .before in
     let start = at-check-used .before .before .before .before .before .before .before in
@@ -164,8 +179,8 @@ add-t16 c =
       start .good,
     )
 
-add-t23 : tie.Need-add-t23
-add-t23 c =
+add-t21 : tie.Need-add-t21
+add-t21 c =
     let at-enum-told = c .before .before .before .before .before .before .before .before .before .before .before in
     let at-check-used = at-enum-told .before .before in
     let start = at-check-used .before .before .before .before .before .before .before in
@@ -199,18 +214,18 @@ returns-4 c =
     let b = lentOf (a .content .now) (a .entries .now) (a .text .now) in
     let u = usedOf b (a .content-len) (a .entries-len) (a .text-len) in
     let n = refuseIf (eqb (length (a .sequence .now)) 0) 3 in
-    let q = withEntry 2 (length (take (a .text-len) (a .text .now))) (a .sequence .now) u in
+    let q = withEntry 2 (length (take (a .text-len) (a .text .now))) (length (a .sequence .now)) (a .sequence .now) u in
     let k = at-check-used .check-used in
     let v = at-settle .settle in
     let p = at-put-mark .put-mark in
     let g = at-enum-told .enum-told .given in
     let g₂ = at-enum-told2 .enum-told2 .given in
     let i = is-inside b (a .content-len) (a .entries-len) (a .text-len) (k .result) (k .ensures) (g .0 .0) (g .1) in
-    let s = entry-sizes b (a .content-len) (a .entries-len) (a .text-len) (a .sequence .now) i 2 (length (take (a .text-len) (a .text .now))) in
+    let s = entry-sizes b (a .content-len) (a .entries-len) (a .text-len) (a .sequence .now) i 2 (length (take (a .text-len) (a .text .now))) (length (a .sequence .now)) in
     let z = accepted b (a .content-len) (a .entries-len) (a .text-len) (k .result) (k .ensures) (g .0 .0) (g .1) n
     (some-raw _ (at-if1 .if1 .left)) (roomIn b) (leaves q) (v .result) (a .content-len) (a .entries-len + 4)
     (a .text-len + length (a .sequence .now)) (v .ensures) (s .0) (s .1) (s .2) refl (g₂ .1) in
-    let w = entry-left b (a .content-len) (a .entries-len) (a .text-len) (a .sequence .now) i 2 _ _ _ _
+    let w = entry-left b (a .content-len) (a .entries-len) (a .text-len) (a .sequence .now) i 2 _ _ _ _ _
     (sym (used-t b (a .content-len) (a .entries-len) (a .text-len) (k .result) (k .ensures) (g .0 .0) (g .1))) (p .ensures .0) (p .ensures .1) in
     add-done (addFaults n b (a .content-len) (a .entries-len) (a .text-len)) b q (a .content-len) (a .entries-len + 4) (a .text-len + length (a .sequence .now)) _ _ _ z (s .0) (s .1) (s .2)
     (w .0) (w .1) (w .2) refl
@@ -236,9 +251,12 @@ raw-spec =
     same-length-6
     returns-3
     enum-told-2
+    cast-t25
+    cast-t26
+    cast-t27
     put-mark-requires
-    add-t16
-    add-t23
+    add-t24
+    add-t21
     same-length-7
     same-length-8
     returns-4)
