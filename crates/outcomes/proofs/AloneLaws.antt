@@ -9,7 +9,8 @@ use Rattle.recording.specs.declared.Refusal.{Refusal}
 use Rattle.recording.specs.declared.Answer.the-variants.{Refused, Done}
 use Rattle.recording.specs.declared.Checked.{Checked}
 use Rattle.recording.specs.declared.Checked.the-variants as C
-use Rattle.recording.specs.Recording.{Bytes, Recording, recording, entriesOf, Item, items, textOf, encode}
+use Rattle.recording.specs.Recording.{Bytes, Recording, recording, entriesOf, Item, byte, items, textOf, encode}
+use Rattle.recording.specs.Share.{sumOf, rawLen, pushOf}
 use Rattle.recording.specs.Edit.{edit, editData}
 use Rattle.recording.specs.Refusals.{numberOf, recordingFault}
 use Rattle.recording.specs.Check.{faultOf, Counted, Within}
@@ -19,7 +20,7 @@ use Rattle.recording.proofs.ItemsLaws.{data-items}
 use Rattle.recording.proofs.OutcomeLaws.{number-pos, first-hit}
 use Rattle.recording.proofs.SizeLaws.{count-numbers, edit-count}
 use Rattle.share.specs.Sizes.{ownSize, Stands}
-use Rattle.share.proofs.SizeLaws.{own-of-items, own-less}
+use Rattle.share.proofs.SizeLaws.{own-of-items}
 use Rattle.writer.specs.declared.Cursor.{Cursor}
 use Rattle.writer.specs.declared.Settled.{Settled}
 use Rattle.writer.specs.declared.Settled.the-variants as S
@@ -30,7 +31,7 @@ use Rattle.layout.specs.Wrap.{lineNumbers}
 use Rattle.layout.specs.Layout.{Single, alone, singleOps, singleLines, singleFault, resultItems, linesLeft, number, secondFault, ownFault}
 use Rattle.recording.specs.Outcome.{Lent, roomIn}
 use Rattle.layout.specs.Lent.{lentLined, Leaves}
-use Rattle.layout.proofs.StripLaws.{bare-single, no-puts, text-kept}
+use Rattle.layout.proofs.StripLaws.{bare-single, no-puts, sum-kept}
 use Rattle.outcomes.proofs.OutcomeLaws as outcomes
 use Rattle.outcomes.proofs.OutcomeLaws.{Accepted, Sized}
 use Rattle.outcomes.proofs.SecondLaws.{Fine, checked-fine}
@@ -64,9 +65,13 @@ module _ (s : Single) (ds ns ts : List ℕ) (b : Lent) where
       unfolding secondFault ownFault
       accepted = record { content = passed; second = refl; own = own }
 
+      -- raw sequences and labels are the content's
+      kept : (m : Item → ℕ) → ((x : ℕ) → m (byte x) ≡ 0) → sumOf m result ≡ sumOf m (items content)
+      kept m none = sum-kept m none (singleOps s ds) (items content) (bare-single s ds)
+
       stands : Stands (length (b .text)) (length (encode result .text)) t
       stands =
-          subst (λ (k : ℕ). Stands (length (b .text)) k t) (own-of-items ds ns ts passed ∙ sym (text-kept (singleOps s ds) (items content) (bare-single s ds))) et
+          subst (λ (k : ℕ). Stands (length (b .text)) k t) (own-of-items ds ns ts result passed (kept rawLen (λ x. refl)) (λ l. kept (pushOf l) (λ x. refl))) et
 
       sized : Sized (alone s) content (length (b .text)) result d (length ns) t l
       unfolding resultItems linesLeft

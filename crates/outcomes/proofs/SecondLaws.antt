@@ -12,14 +12,14 @@ use Rattle.recording.specs.declared.TextSizes.{TextSizes}
 use Rattle.recording.specs.declared.CheckedBoth.{CheckedBoth}
 use Rattle.recording.specs.declared.CheckedBoth.the-variants as B
 use Rattle.recording.specs.Recording.{Recording, recording, entriesOf, Item, items, dataOf, textOf, encode}
-use Rattle.recording.specs.Share.{sumOf, rawLen, times}
+use Rattle.recording.specs.Share.{Inside, sumOf, rawLen, times}
 use Rattle.recording.proofs.ShareLaws.{shared-size, shared-less}
-use Rattle.share.specs.Sizes.{Inside, textSize, Stands}
-use Rattle.share.proofs.SizeLaws.{inside-of, size-of-items}
+use Rattle.share.specs.Sizes.{textSize, Stands}
+use Rattle.share.proofs.SizeLaws.{size-of-items}
 use Rattle.recording.specs.Refusals.{numberOf, recordingFault}
 use Rattle.recording.specs.Check.{BothChecked}
 use Rattle.recording.specs.Outcome.{Lent, roomIn}
-use Rattle.recording.proofs.FaultLaws.{no-fault}
+use Rattle.recording.proofs.FaultLaws.{no-fault, inside-of}
 use Rattle.recording.proofs.SizeLaws.{entryCount, count-numbers}
 use Rattle.writer.specs.declared.Cursor.{Cursor}
 use Rattle.writer.specs.declared.Settled.{Settled}

@@ -14,9 +14,10 @@ use Rattle.recording.specs.Recording.{Bytes, Recording, recording, entry, entri
 use Rattle.recording.specs.Refusals.{refuseIf, badShape, entryFault, entriesFault, recordingFault}
 use Rattle.recording.specs.Outcome.{Result, done, overLimit, Lent, roomIn}
 use Rattle.recording.proofs.Lists.{not-false}
+use Rattle.recording.specs.Share.{Inside}
 use Rattle.recording.proofs.ItemsLaws.{placed-at}
 use Rattle.recording.proofs.ShareLaws.{part-more}
-use Rattle.recording.proofs.FaultLaws.{Inside, parts-inside, start-inside, firstOf-zero, refuseIf-zero, NoFault, no-fault, fault-free, InLimits, in-limits, NoEntryFault, no-entry-fault, granted}
+use Rattle.recording.proofs.FaultLaws.{inside-of, start-inside, firstOf-zero, refuseIf-zero, NoFault, no-fault, fault-free, InLimits, in-limits, NoEntryFault, no-entry-fault, granted}
 use Rattle.recording.proofs.OutcomeLaws.{done-only}
 use Rattle.recorder.specs.Recorder.{leaves, usedOf, addFaults, withData, withEntry, withLabel, withPop, withRaw, written, pushed, popped, rawAdded}
 
@@ -140,7 +141,7 @@ module _ (b : Lent) (d e t : ℕ) (y : Result) where
       let o = done-only (addFaults n b d e t) (roomIn b) (leaves (withEntry 0 s (length l) x r)) y h in
       let g = granted (addFaults n b d e t) (roomIn b) (leaves (withEntry 0 s (length l) x r)) (o .0) in
       let w = not-false (wellFormed l) (refuseIf-zero (not (wellFormed l)) 5 (g .added)) in
-      let i = parts-inside es 0 (r .dataBytes) (r .text) (no-fault r (g .content) .entries) in
+      let i = inside-of es 0 (r .dataBytes) (r .text) (no-fault r (g .content) .entries) in
       ap (λ (z : Result). recordingFault (z .recording)) (sym (o .1)) ∙ entry-clean-of 0 s (length l) x r (g .content) (g .limit) (λ p q. new-label (r .dataBytes) (r .text) l es p i w q)
 
   pub popped-clean : popped b d e t ≡ done y → recordingFault (y .recording) ≡ 0

@@ -13,9 +13,10 @@ use Rattle.recording.specs.Outcome.{Result, overLimit, noRoom, refusalOf, Lent,
 use Rattle.recording.proofs.OutcomeLaws.{stops-sizes, is-done, refused-answer, refused-lent, done-answer}
 use Rattle.recording.proofs.SizeLaws.{entryCount, count-numbers}
 use borrow.Author.Tests.{ltb-false}
-use Rattle.recording.proofs.FaultLaws.{no-fault}
-use Rattle.share.specs.Sizes.{Inside, ownSize, Stands}
-use Rattle.share.proofs.SizeLaws.{inside-of, own-of-items, own-less}
+use Rattle.recording.proofs.FaultLaws.{no-fault, inside-of}
+use Rattle.recording.specs.Share.{Inside}
+use Rattle.share.specs.Sizes.{ownSize, Stands}
+use Rattle.share.proofs.SizeLaws.{own-of-items, own-less}
 use Rattle.writer.specs.declared.Cursor.{Cursor}
 use Rattle.writer.specs.declared.Settled.{Settled}
 use Rattle.writer.specs.declared.Settled.the-variants as S
@@ -85,7 +86,7 @@ whole-sized ds ns ts room t h e =
     record {
       data-size = sym (data-size ds ns ts);
       entry-size = sym (numbers-items ds ns ts (quads-of ds ns ts h)) ∙ count-numbers (items (recording ds ns ts)) 0 [] [];
-      text-size = subst (λ (k : ℕ). Stands room k t) (own-of-items ds ns ts h) e;
+      text-size = subst (λ (k : ℕ). Stands room k t) (own-of-items ds ns ts (items (recording ds ns ts)) h refl (λ l. refl)) e;
     }
 
 -- what `own_size` asks

@@ -13,6 +13,7 @@ use Rattle.buffer.proofs.Laws.{take-over}
 use Rattle.recording.specs.Lists.{AllOf}
 use Rattle.recording.specs.declared.Entry.{Entry}
 use Rattle.recording.specs.Recording.{Bytes, Recording, isNil, entriesOf, numbersOf, partOf, Item, byte, push, pop, raw, byteItems, itemOf, itemsFrom, items, dataOf, entry, isPush, pushedIn, startIn, pushAt, newText, entriesFrom, textFrom, encode}
+use Rattle.recording.specs.Share.{Inside}
 use Rattle.recording.specs.Edit.{Op, keep, skip, put, front, back, entriesOnly, edit}
 use Rattle.recording.specs.Refusals.{firstOf, refuseIf, badShape, entryFault, entriesFault, recordingFault, dataLimit, entryLimit, textLimit}
 use Rattle.recording.specs.Outcome.{Room, Result, Faults, Outcome, done, overLimit, noRoom, refusalOf, Lent, lentAfter, returned, readBack}
@@ -245,29 +246,29 @@ some : (x : Bytes) → isNil x ≡ false → eqb (length x) 0 ≡ false
 some [] z = absurd (false≢true (sym z))
 some (b ∷ x) z = eqb·suc-zero (length x)
 
--- the entries before have their parts in the text
-abbrev pub Inside : Bytes → List Entry → Type 0
-Inside t es = AllOf (λ (e : Entry). e .start + e .len ≤ length t) es
+-- ── entries with their parts in the text
+pub inside-none : (t : Bytes) → Inside t []
+unfolding Inside
+inside-none t = tt
 
--- of a recording without faults
-pub parts-inside : (es : List Entry) (at : ℕ) (d t : Bytes) → entriesFault at d t es ≡ 0 → Inside t es
-parts-inside [] at d t h = tt
-parts-inside (e ∷ es) at d t h =
+-- those of a recording without faults
+pub inside-of : (es : List Entry) (at : ℕ) (d t : Bytes) → entriesFault at d t es ≡ 0 → Inside t es
+unfolding Inside
+inside-of [] at d t h = tt
+inside-of (e ∷ es) at d t h =
     let a = firstOf-zero (entryFault at d t e) (entriesFault (e .position) d t es ∷ []) h in
     let g = firstOf-zero (entriesFault (e .position) d t es) [] (a .1) in
-    (no-entry-fault at d t e (a .0) .part, parts-inside es (e .position) d t (g .0))
-
-pub inside-more : (t x : Bytes) (es : List Entry) → Inside t es → Inside (t ++ x) es
-inside-more t x [] h = tt
-inside-more t x (e ∷ es) h = (omega (arith, h .0, length-append t x), inside-more t x es (h .1))
+    (no-entry-fault at d t e (a .0) .part, inside-of es (e .position) d t (g .0))
 
 -- one entry more, with its part in the longer text
 pub inside-next : (t x : Bytes) (es : List Entry) (e : Entry) → Inside t es → e .start + e .len ≤ length (t ++ x) → Inside (t ++ x) (es ++ (e ∷ []))
-inside-next t x es e h g = all-append (λ (e : Entry). e .start + e .len ≤ length (t ++ x)) es (e ∷ []) (inside-more t x es h) (g, tt)
+unfolding Inside
+inside-next t x [] e h g = (g, tt)
+inside-next t x (y ∷ es) e h g = (omega (arith, h .0, length-append t x), inside-next t x es e (h .1) g)
 
 -- a push has its part in the text
 pub start-inside : (l t : Bytes) (es : List Entry) → Inside t es → startIn l t (length t) es + length l ≤ length (t ++ newText l t es)
-unfolding startIn pushedIn
+unfolding Inside startIn pushedIn
 start-inside l t [] h = omega (arith, length-append t l)
 start-inside l t (e ∷ es) h = go (isPush l t e) refl (start-inside l t es (h .1))
   where
@@ -324,7 +325,7 @@ encoded is o h = fault-free (encode is) (parts (in-limits (encode is) h))
         four = unfold encode in eq-eqb (length (numbersOf (entriesFrom 0 [] [] is)) % 4) 0 (quads (length (numbersOf (entriesFrom 0 [] [] is))) (entryCount is) (count-numbers is 0 [] []))
 
         in-order : entriesFault 0 (encode is .dataBytes) (encode is .text) (entriesOf (encode is .entryNumbers)) ≡ 0
-        in-order = unfold encode in rw (entries-numbers (entriesFrom 0 [] [] is)) (written is 0 0 (dataOf is) [] [] (omega arith) (omega arith) tt o)
+        in-order = unfold encode in rw (entries-numbers (entriesFrom 0 [] [] is)) (written is 0 0 (dataOf is) [] [] (omega arith) (omega arith) (inside-none []) o)
 
 -- ── the lent buffers up to the returned lengths are the recording of the outcome
 pub read-back : (x : Result) (b : Lent) → readBack (done x) b ≡ x .recording

@@ -14,11 +14,11 @@ use Rattle.recording.specs.declared.Entry.{Entry}
 use Rattle.recording.specs.Lists.{same}
 use Rattle.recording.specs.Recording.{Bytes, entry, partOf, Item, byte, push, pop, raw, textOf, isPush, pushedIn, startIn, pushAt, newText, entriesFrom, textFrom, encode}
 use Rattle.recording.specs.Edit.{Op, keep, skip, put, front, back, entriesOnly, edit}
-use Rattle.recording.specs.Share.{sumOf, rawLen, pushOf, times, member, labelLen, sharedSize}
+use Rattle.recording.specs.Share.{Inside, sumOf, rawLen, pushOf, times, member, labelLen, sharedSize}
 use Rattle.recording.proofs.Lists.{and-left, and-right, same-self, same-equal}
 use Rattle.recording.proofs.ItemsLaws.{placed-at}
 use Rattle.recording.proofs.SizeLaws.{text-append}
-use Rattle.recording.proofs.FaultLaws.{Inside, inside-more, inside-next, start-inside}
+use Rattle.recording.proofs.FaultLaws.{inside-none, inside-next, start-inside}
 
 -- ── Booleans and equal texts
 pub or-comm : (a b : Bool) → (a || b) ≡ (b || a)
@@ -93,7 +93,7 @@ part-more (suc s) n [] x h = absurd (omega arith)
 part-more (suc s) n (b ∷ t) x h = part-more s n t x (omega arith)
 
 pub pushed-more : (l t x : Bytes) (es : List Entry) → Inside t es → pushedIn l (t ++ x) es ≡ pushedIn l t es
-unfolding pushedIn
+unfolding Inside pushedIn
 pushed-more l t x [] h = refl
 pushed-more l t x (e ∷ es) h = rw (part-more (e .start) (e .len) t x (h .0), pushed-more l t x es (h .1))
 
@@ -145,7 +145,7 @@ text-length (raw x ∷ is) at t es seen i k =
 -- the text of a result
 pub encode-length : (is : List Item) → length (encode is .text) ≡ sumOf rawLen is + labelLen [] is
 unfolding encode pushedIn
-encode-length is = text-length is 0 [] [] [] tt (λ l. refl)
+encode-length is = text-length is 0 [] [] [] (inside-none []) (λ l. refl)
 
 -- ── labels in whatever order
 abbrev Alike : List Bytes → List Bytes → Type 0

@@ -1,11 +1,17 @@
--- How long the text of a result is: its raw sequences as often as they are written, and each label that is pushed a single time.
-use Prim.Native.Nat.{ℕ, _+_, _*_}
+-- Entries whose parts lie in their text; and how long the text of a result is: its raw sequences as often as they are written, and each label that is pushed a single time.
+use Prim.Native.Nat.{ℕ, _+_, _*_, _≤_}
 use mathlib.Core.Bool.{Bool, false, cond, _||_}
 use mathlib.Core.List.{List, [], _∷_, _++_}
 use lib.Dec.{eqb}
 use lib.ListN.{length}
+use Rattle.recording.specs.declared.Entry.{Entry}
 use Rattle.recording.specs.Lists.{same}
 use Rattle.recording.specs.Recording.{Bytes, Item, byte, push, pop, raw}
+
+-- all parts lie in the text
+unfoldable pub Inside : Bytes → List Entry → Type 0
+Inside t [] = Unit {0}
+Inside t (e ∷ es) = (e .start + e .len ≤ length t) × Inside t es
 
 -- a number for each item, added up
 abbrev pub sumOf : (Item → ℕ) → List Item → ℕ

@@ -1,3 +1,4 @@
 pub mod Laws
 pub mod SizeLaws
 pub mod PlacedLaws
+pub mod FirstLaws

@@ -2,21 +2,21 @@
 use mathlib.Core.Path.{_≡_, refl, sym, ap, _∙_}
 use mathlib.Core.Bool.{Bool, true, false, cond, _&&_, _||_, not, false≢true}
 use mathlib.Core.List.{List, [], _∷_, _++_, append-assoc, append-nil}
-use Prim.Native.Nat.{ℕ, zero, suc, _+_, _-_, _%_, _≤_, _<_}
+use Prim.Native.Nat.{ℕ, suc, _+_, _-_, _%_, _≤_, _<_}
 use native.Mathlib.Omega.{arith}
 use lib.Dec.{eqb, leb}
-use lib.ListN.{length, take, drop, length-append, length-drop}
-use borrow.Author.Tests.{eq-eqb, ne-eqb, eqb-true, le-leb, lt-leb, leb-true, leb-false}
+use lib.ListN.{length, take, drop, length-append}
+use borrow.Author.Tests.{eq-eqb, eqb-true, le-leb, lt-leb, leb-false}
 use Rattle.recording.specs.declared.Entry.{Entry}
 use Rattle.recording.specs.Lists.{same}
 use Rattle.recording.specs.Recording.{Bytes, entry, entriesOf, partOf, Item, byte, push, pop, raw, isPush, pushedIn, startIn, pushAt, newText, entriesFrom, textFrom}
 use Rattle.recording.proofs.Lists.{and-left, and-right, or-left, or-right}
 use Rattle.recording.proofs.SizeLaws.{append-cons}
-use Rattle.recording.proofs.FaultLaws.{Inside, inside-next, start-inside}
+use Rattle.recording.proofs.FaultLaws.{inside-none, inside-next, start-inside}
+use Rattle.recording.specs.Share.{Inside}
 use Rattle.recording.proofs.ShareLaws.{pushed-snoc}
-use Rattle.share.specs.Sizes as S
 use Rattle.share.specs.Placed.{samePart, copied, topOf, topAfter, placedOne, placedFrom}
-use Rattle.share.proofs.Laws.{Passed, passed-none, found, passed-one, passed-all}
+use Rattle.share.proofs.Laws.{Passed, passed-none, found, passed-one}
 use Rattle.share.proofs.SizeLaws.{before-next}
 
 -- ── a part that a push before has was compared there
@@ -145,7 +145,6 @@ not-new l t e top h = rw (lt-leb top (e .start) h)
 pub new-push : (l t : Bytes) (e : Entry) (top : ℕ) (r : Bool) → top ≤ e .start → r ≡ isPush l t e → r ≡ (leb top (e .start) && isPush l t e)
 new-push l t e top r h q = q ∙ ap (λ (z : Bool). z && isPush l t e) (sym (le-leb top (e .start) h))
 
-
 -- ── a result's entries are placed so, however they come (`placed-after`)
 placed-snoc : (es before : List Entry) (top : ℕ) (e : Entry) → placedFrom top before es ≡ true → placedOne (topAfter top es) (before ++ es) e ≡ true → placedFrom top before (es ++ (e ∷ [])) ≡ true
 unfolding placedFrom topAfter
@@ -157,7 +156,7 @@ placed-snoc (x ∷ es) before top e h g =
     λ i. a i && c i
 
 top-inside : (t : Bytes) (es : List Entry) (top : ℕ) → top ≤ length t → Inside t es → topAfter top es ≤ length t
-unfolding topAfter topOf
+unfolding Inside topAfter topOf
 top-inside t [] top h i = h
 top-inside t (e ∷ es) top h i = top-inside t es (cond (leb top (e .start)) (e .start + e .len) top) (go (leb top (e .start))) (i .1)
   where
@@ -191,20 +190,10 @@ placed-after (raw x ∷ is) at t es i h =
 -- the entries of every result
 pub placed-result : (is : List Item) → placedFrom 0 [] (entriesFrom 0 [] [] is) ≡ true
 unfolding placedFrom
-placed-result is = placed-after is 0 [] [] tt refl
+placed-result is = placed-after is 0 [] [] (inside-none []) refl
 
 -- ── both are kept by what is written behind
-parts-in : (t : Bytes) (es : List Entry) → S.Inside t es → Inside t es
-unfolding S.Inside
-parts-in t [] h = tt
-parts-in t (e ∷ es) h = (h .0, parts-in t es (h .1))
-
-parts-out : (t : Bytes) (es : List Entry) → Inside t es → S.Inside t es
-unfolding S.Inside
-parts-out t [] h = tt
-parts-out t (e ∷ es) h = (h .0, parts-out t es (h .1))
-
-inside-after : (is : List Item) (at : ℕ) (t : Bytes) (es : List Entry) → Inside t es → Inside (t ++ textFrom at t es is) (es ++ entriesFrom at t es is)
+pub inside-after : (is : List Item) (at : ℕ) (t : Bytes) (es : List Entry) → Inside t es → Inside (t ++ textFrom at t es is) (es ++ entriesFrom at t es is)
 inside-after [] at t es i = rw (append-nil t, append-nil es) i
 inside-after (byte b ∷ is) at t es i = inside-after is (suc at) t es i
 inside-after (push l ∷ is) at t es i =
@@ -220,17 +209,6 @@ inside-after (raw x ∷ is) at t es i =
     let e : Entry = entry at 2 (length t) (length x) in
     rw (← append-cons es e (entriesFrom at (t ++ x) (es ++ (e ∷ [])) is), ← append-assoc t x (textFrom at (t ++ x) (es ++ (e ∷ [])) is))
     (inside-after is at (t ++ x) (es ++ (e ∷ [])) (inside-next t x es e i (omega (arith, length-append t x))))
-
-module _ (is : List Item) (at : ℕ) (t : Bytes) (es : List Entry) (i : S.Inside t es) where
-  pub parts-after : S.Inside (t ++ textFrom at t es is) (es ++ entriesFrom at t es is)
-  parts-after = parts-out (t ++ textFrom at t es is) (es ++ entriesFrom at t es is) (inside-after is at t es (parts-in t es i))
-
-  pub places-after : placedFrom 0 [] es ≡ true → placedFrom 0 [] (es ++ entriesFrom at t es is) ≡ true
-  places-after h = placed-after is at t es (parts-in t es i) h
-
-pub parts-none : S.Inside [] []
-unfolding S.Inside
-parts-none = tt
 
 pub places-none : placedFrom 0 [] [] ≡ true
 unfolding placedFrom

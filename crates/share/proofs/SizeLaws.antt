@@ -1,23 +1,24 @@
 -- For the sizes: one entry's raw sequence and label, the sums entry by entry, and that the sums are those of the recordings' items (`size-of-items`).
-use mathlib.Core.Path.{_≡_, refl, sym, ap, _∙_}
-use mathlib.Core.Bool.{Bool, true, false, cond, not, _&&_, _||_, false≢true}
+use mathlib.Core.Path.{_≡_, refl, sym, ap, subst, _∙_}
+use mathlib.Core.Bool.{Bool, true, false, cond, _&&_, _||_, false≢true}
+use mathlib.Core.Logic.{inl, inr, ⊎-elim}
 use mathlib.Core.List.{List, [], _∷_, _++_, append-nil}
 use Prim.Native.Nat.{ℕ, zero, suc, _+_, _-_, _*_, _%_, _≤_, _<_}
-use native.Mathlib.Omega.{arith}
 use native.Mathlib.Nat.{zero-mul}
-use lib.Dec.{eqb, eqb·suc-zero}
-use lib.ListN.{length, take, drop, length-take, length-drop, take-append-drop}
+use native.Mathlib.Omega.{arith}
+use lib.Dec.{eqb, ltb, eqb·suc-zero}
+use lib.ListN.{length, take, drop, length-take, length-drop}
 use lib.Seq.{take-add, length-take-le}
-use borrow.Author.Tests.{eq-eqb, ne-eqb, eqb-true}
+use borrow.Author.Tests.{eq-eqb, ne-eqb, lt-ltb, le-ltb}
 use Rattle.recording.specs.declared.Entry.{Entry}
 use Rattle.recording.specs.Lists.{same}
-use Rattle.recording.specs.Recording.{Bytes, recording, entry, entriesOf, numbersOf, partOf, Item, byte, push, pop, raw, byteItems, itemOf, itemsFrom, items, isPush, pushedIn, newText, textOf, encode}
+use Rattle.recording.specs.Recording.{Bytes, recording, entry, entriesOf, numbersOf, partOf, Item, byte, push, pop, raw, byteItems, itemOf, itemsFrom, items, isPush, pushedIn, newText, encode, textOf}
 use Rattle.recording.specs.Refusals.{badShape, entryFault, entriesFault, recordingFault, textLimit}
-use Rattle.recording.specs.Share.{sumOf, rawLen, pushOf, times, member, labelLen, sharedSize}
-use Rattle.recording.proofs.FaultLaws.{firstOf-zero, no-entry-fault, NoEntryFault, no-fault}
+use Rattle.recording.specs.Share.{Inside, sumOf, rawLen, times, member, labelLen, sharedSize}
+use Rattle.recording.proofs.FaultLaws.{firstOf-zero, no-entry-fault, no-fault}
 use Rattle.recording.proofs.EntryLaws.{entries-few}
-use Rattle.recording.proofs.ShareLaws.{or-comm, or-assoc, same-long, pushed-snoc, labels-alike, shared-size, text-shorter}
-use Rattle.share.specs.Sizes.{Inside, rawIn, rawsIn, labelIn, labelsIn, textSize, ownSize, Stands}
+use Rattle.recording.proofs.ShareLaws.{or-comm, or-assoc, same-long, pushed-snoc, shared-size, text-shorter, labels-same, encode-length}
+use Rattle.share.specs.Sizes.{rawIn, rawsIn, labelIn, labelsIn, textSize, ownSize, lessSize, Counts, Stands}
 
 -- ── one entry
 pub raw-len : (e : Entry) → e .kind ≡ 2 → e .len ≡ rawIn e
@@ -33,7 +34,7 @@ raw-most e = go (eqb (e .kind) 2)
     go true = omega arith
     go false = omega arith
 
-new-most : (b : Bool) (l : Bytes) → length (cond b [] l) ≤ length l
+pub new-most : (b : Bool) (l : Bytes) → length (cond b [] l) ≤ length l
 new-most true l = omega arith
 new-most false l = omega arith
 
@@ -112,55 +113,18 @@ quad (p ∷ k ∷ s ∷ n ∷ l) e r q = ap (λ (x : List Entry). numbersOf (fir
     first [] = entry 0 0 0 0
     first (y ∷ ys) = y
 
-entriesOf-snoc : (ns : List ℕ) (e : Entry) → length ns % 4 ≡ 0 → entriesOf (ns ++ numbersOf (e ∷ [])) ≡ entriesOf ns ++ (e ∷ [])
-entriesOf-snoc [] e h = refl
-entriesOf-snoc (p ∷ []) e h = absurd (omega (arith, h))
-entriesOf-snoc (p ∷ k ∷ []) e h = absurd (omega (arith, h))
-entriesOf-snoc (p ∷ k ∷ s ∷ []) e h = absurd (omega (arith, h))
-entriesOf-snoc (p ∷ k ∷ s ∷ n ∷ ns) e h = ap (λ (l : List Entry). entry p k s n ∷ l) (entriesOf-snoc ns e (omega (arith, h)))
+-- entries side by side
+pub entriesOf-append : (ns ms : List ℕ) → length ns % 4 ≡ 0 → entriesOf (ns ++ ms) ≡ entriesOf ns ++ entriesOf ms
+entriesOf-append [] ms h = refl
+entriesOf-append (p ∷ []) ms h = absurd (omega (arith, h))
+entriesOf-append (p ∷ k ∷ []) ms h = absurd (omega (arith, h))
+entriesOf-append (p ∷ k ∷ s ∷ []) ms h = absurd (omega (arith, h))
+entriesOf-append (p ∷ k ∷ s ∷ n ∷ ns) ms h = ap (λ (l : List Entry). entry p k s n ∷ l) (entriesOf-append ns ms (omega (arith, h)))
 
 pub before-next : (ns : List ℕ) (k : ℕ) (e : Entry) (r : List Entry) → k % 4 ≡ 0 → k ≤ length ns → entriesOf (drop k ns) ≡ e ∷ r → entriesOf (take (k + 4) ns) ≡ entriesOf (take k ns) ++ (e ∷ [])
 before-next ns k e r f h q =
     ap entriesOf (take-add k 4 ns ∙ ap (λ (x : List ℕ). take k ns ++ x) (quad (drop k ns) e r q))
-    ∙ entriesOf-snoc (take k ns) e (omega (arith, f, length-take-le k ns h))
-
-pub record Labels (u : Bytes) (those : List Entry) (t ns : List ℕ) (k size : ℕ) : Type 0 where
-  pub within : k ≤ length ns
-  pub fours : k % 4 ≡ 0
-  pub sizes : size + labelsIn u those t (entriesOf (take k ns)) (entriesOf (drop k ns)) ≡ labelsIn u those t [] (entriesOf ns)
-  pub small : size ≤ 16384 * k
-  pub inside : Inside t (entriesOf (drop k ns))
-
-pub labels-first : (u : Bytes) (those : List Entry) (t ns : List ℕ) → Inside t (entriesOf ns) → Labels u those t ns 0 0
-labels-first u those t ns h = record { within = omega arith; fours = refl; sizes = omega arith; small = omega arith; inside = h }
-
-module _ (u : Bytes) (those : List Entry) (t ns : List ℕ) (k size : ℕ) (s : Labels u those t ns k size) where
-  module _ (more : 4 ≤ length ns - k) (e : Entry) (q : entriesOf (drop k ns) ≡ e ∷ entriesOf (drop (k + 4) ns)) where
-    pub label-inside : (e .start + e .len ≤ length t) × Inside t (entriesOf (drop (k + 4) ns))
-    label-inside = inside-next t e (entriesOf (drop (k + 4) ns)) (rw q at (s .inside))
-
-    module _ (m : ℕ) (v : m ≡ labelIn u those t (entriesOf (take (k - 0) (drop 0 ns))) e) (b : m ≤ 65536) where
-      pub labels-small : size + m ≤ 16384 * (k + 4)
-      labels-small = omega (arith, s .small, b)
-
-      pub labels-next : Labels u those t ns (k + 4) (size + m)
-      labels-next =
-          let z : k - 0 ≡ k = omega arith in
-          let w : m ≡ labelIn u those t (entriesOf (take k ns)) e = v ∙ ap (λ (n : ℕ). labelIn u those t (entriesOf (take n ns)) e) z in
-          let x = ap (labelsIn u those t (entriesOf (take k ns))) q in
-          let y = ap (λ (l : List Entry). labelsIn u those t l (entriesOf (drop (k + 4) ns))) (before-next ns k e (entriesOf (drop (k + 4) ns)) (s .fours) (s .within) q) in
-          record {
-            within = omega (arith, more);
-            fours = omega (arith, s .fours);
-            sizes = omega (arith, s .sizes, w, x, y);
-            small = labels-small;
-            inside = label-inside .1;
-          }
-
-  pub labels-last : length ns - k < 4 → size ≡ labelsIn u those t [] (entriesOf ns)
-  labels-last h =
-      let z : entriesOf (drop k ns) ≡ [] = entries-few (drop k ns) (omega (arith, h, length-drop k ns)) in
-      omega (arith, s .sizes, ap (labelsIn u those t (entriesOf (take k ns))) z)
+    ∙ entriesOf-append (take k ns) (numbersOf (e ∷ [])) (omega (arith, f, length-take-le k ns h))
 
 -- ── the sums are those of the items
 raw-item : (k s n : ℕ) (t : Bytes) → badShape k s n ≡ false → s + n ≤ length t → rawLen (itemOf k (take n (drop s t))) ≡ cond (eqb k 2) n 0
@@ -299,14 +263,6 @@ labels-items (e ∷ es) at from d x t u those before seen h kn =
       long = omega (arith, labels-bytes (take (p - from) x) (y ∷ r) seen, b .length′ r, ih .long);
     }
 
-pub inside-of : (es : List Entry) (at : ℕ) (d t : Bytes) → entriesFault at d t es ≡ 0 → Inside t es
-unfolding Inside
-inside-of [] at d t h = tt
-inside-of (e ∷ es) at d t h =
-    let a = firstOf-zero (entryFault at d t e) (entriesFault (e .position) d t es ∷ []) h in
-    let g = firstOf-zero (entriesFault (e .position) d t es) [] (a .1) in
-    (no-entry-fault at d t e (a .0) .part, inside-of es (e .position) d t (g .0))
-
 pub size-of-items : (ds ns ts fs gs us : List ℕ) (n : ℕ) → recordingFault (recording ds ns ts) ≡ 0 → recordingFault (recording fs gs us) ≡ 0
     → textSize ts (entriesOf ns) us (entriesOf gs) n ≡ sharedSize (items (recording ds ns ts)) n (items (recording fs gs us))
 unfolding textSize sharedSize items pushedIn
@@ -339,41 +295,85 @@ size-of-items ds ns ts fs gs us n p q = go n
         let r : suc n * rawsIn (entriesOf gs) ≡ suc n * sumOf rawLen b = ap (λ (m : ℕ). suc n * m) (sym (raws-items (entriesOf gs) 0 0 fs fs us g)) in
         rw (eqb·suc-zero n) (omega (arith, raws-items (entriesOf ns) 0 0 ds ds ts f, r, first .long, then .long, labels-append a b []))
 
--- ── a content alone
+-- the size of a recording alone
+pub own-sum : (t : Bytes) (es : List Entry) → textSize t es [] [] 0 ≡ rawsIn es + labelsIn [] [] t [] es
+unfolding textSize
+own-sum t es = omega arith
+
+-- a recording without anything has no fault
+no-fault-none : recordingFault (recording [] [] []) ≡ 0
+unfolding recordingFault
+no-fault-none = refl
+
+-- a result that has the entries of a content alone
+pub own-of-items : (ds ns ts : List ℕ) (is : List Item) → recordingFault (recording ds ns ts) ≡ 0 → sumOf rawLen is ≡ sumOf rawLen (items (recording ds ns ts))
+    → ((l : Bytes) → times l is ≡ times l (items (recording ds ns ts))) → textSize ts (entriesOf ns) [] [] 0 ≡ length (encode is .text)
+own-of-items ds ns ts is h r t =
+    let none : List Item = items (recording [] [] []) in
+    size-of-items ds ns ts [] [] [] 0 h no-fault-none
+    ∙ sym (shared-size is (items (recording ds ns ts)) none 0 (omega (arith, r, zero-mul (sumOf rawLen none))) (λ l. omega (arith, t l, zero-mul (times l none))))
+
+pub own-less : (ds ns ts : List ℕ) → recordingFault (recording ds ns ts) ≡ 0 → ownSize ts (entriesOf ns) ≤ length (textOf (items (recording ds ns ts)))
+own-less ds ns ts h =
+    let is : List Item = items (recording ds ns ts) in
+    omega (arith, own-of-items ds ns ts is h refl (λ l. refl), text-shorter is)
+
 -- a second recording of which nothing is written
 pub size-none : (t u : Bytes) (es fs : List Entry) → ownSize t es ≡ textSize t es u fs 0
 unfolding textSize
 size-none t u es fs = omega (arith, zero-mul (rawsIn fs), zero-mul (rawsIn []))
 
-pub own-of-items : (ds ns ts : List ℕ) → recordingFault (recording ds ns ts) ≡ 0 → ownSize ts (entriesOf ns) ≡ length (encode (items (recording ds ns ts)) .text)
-unfolding recordingFault
-own-of-items ds ns ts p =
-    let a : List Item = items (recording ds ns ts) in
-    let b : List Item = items (recording [] [] []) in
-    size-of-items ds ns ts [] [] [] 0 p refl
-    ∙ sym (shared-size a a b 0 (omega (arith, zero-mul (sumOf rawLen b))) (λ l. omega (arith, zero-mul (times l b))))
+-- a result that has all labels of a content, and raw sequences of `gone` bytes less
+pub less-of-items : (ds ns ts : List ℕ) (is : List Item) (gone : ℕ) → recordingFault (recording ds ns ts) ≡ 0 → sumOf rawLen is + gone ≡ sumOf rawLen (items (recording ds ns ts))
+    → ((l : Bytes) → times l is ≡ times l (items (recording ds ns ts))) → lessSize ts (entriesOf ns) gone ≡ length (encode is .text)
+unfolding lessSize
+less-of-items ds ns ts is gone h r t =
+    let all : List Item = items (recording ds ns ts) in
+    let f = no-fault (recording ds ns ts) h .entries in
+    let a = own-of-items ds ns ts all h refl (λ l. refl) in
+    let b = labels-same is all (λ l p. omega (arith, p, t l)) (λ l p. omega (arith, p, t l)) in
+    let c : sumOf rawLen all ≡ rawsIn (entriesOf ns) = unfold items in raws-items (entriesOf ns) 0 0 ds ds ts f in
+    omega (arith, a, b, c, r, own-sum ts (entriesOf ns), encode-length is, encode-length all)
 
-pub own-less : (ds ns ts : List ℕ) → recordingFault (recording ds ns ts) ≡ 0 → ownSize ts (entriesOf ns) ≤ length (textOf (items (recording ds ns ts)))
-own-less ds ns ts p = omega (arith, own-of-items ds ns ts p, text-shorter (items (recording ds ns ts)))
+-- the raw sequences that go are some of the recording's
+pub gone-few : (ds ns ts : List ℕ) (is : List Item) (gone : ℕ) → recordingFault (recording ds ns ts) ≡ 0 → sumOf rawLen is + gone ≡ sumOf rawLen (items (recording ds ns ts))
+    → gone ≤ rawsIn (entriesOf ns)
+unfolding items
+gone-few ds ns ts is gone h r = omega (arith, r, raws-items (entriesOf ns) 0 0 ds ds ts (no-fault (recording ds ns ts) h .entries))
+
+-- the count of such a result
+module _ (t : Bytes) (es : List Entry) (gone raws : ℕ) (e : raws ≡ rawsIn es - gone) where
+  pub less-over : 65536 < raws → Counts (lessSize t es gone) raws
+  unfolding Counts lessSize
+  less-over h = inr (omega (arith, e, h), h)
+
+  pub less-counted : (r : ℕ) → Counts (raws + labelsIn [] [] t [] es) r → Counts (lessSize t es gone) r
+  unfolding lessSize
+  less-counted r c = subst (λ (k : ℕ). Counts (k + labelsIn [] [] t [] es) r) e c
 
 -- ── a size that settles as the exact one
-pub exact : (room t r : ℕ) → r ≡ t → Stands room t r
+pub exact : (room t r : ℕ) → Counts t r → Stands room t r
 unfolding Stands
-exact room t r e = mathlib.Core.Logic.inl e
+exact room t r c = inl c
 
 pub roomy : (room t r : ℕ) → t ≤ r → r ≤ 65536 → r ≤ room → Stands room t r
 unfolding Stands
-roomy room t r a b c = mathlib.Core.Logic.inr (a, b, c)
+roomy room t r a b c = inr (a, b, c)
 
--- ── the sum
+-- the limit refuses r exactly if it refuses t
+pub same-limit : (room t r : ℕ) → Stands room t r → ltb textLimit r ≡ ltb textLimit t
+unfolding Stands Counts
+same-limit room t r s =
+    ⊎-elim (⊎-elim (λ q. ap (ltb textLimit) q) (λ h. lt-ltb textLimit r (h .1) ∙ sym (lt-ltb textLimit t (h .0))))
+    (λ h. le-ltb textLimit r (h .1) ∙ sym (le-ltb textLimit t (omega (arith, h .0, h .1)))) s
+
+-- and so does the room, unless the limit refuses both
+pub same-room : (room t r : ℕ) → Stands room t r → t ≤ textLimit → ltb room r ≡ ltb room t
+unfolding Stands Counts
+same-room room t r s k =
+    ⊎-elim (⊎-elim (λ q. ap (ltb room) q) (λ h. absurd (omega (arith, h .0, k))))
+    (λ h. le-ltb room r (h .2) ∙ sym (le-ltb room t (omega (arith, h .0, h .2)))) s
+
+-- ── the product
 pub product-small : (n m : ℕ) → n ≤ 1048576 → m ≤ 268435456 → n * m ≤ 281474976710656
 product-small n m h k = native.Mathlib.Nat.mul-le-mul h k
-
-module _ (t : Bytes) (es : List Entry) (u : Bytes) (fs : List Entry) (n a b l m : ℕ) (ra : a ≡ rawsIn es) (rl : l ≡ labelsIn [] [] t [] es) where
-  pub size-alone : n ≡ 0 → a + l ≡ textSize t es u fs n
-  unfolding textSize
-  size-alone z = rw z (omega (arith, ra, rl, native.Mathlib.Nat.zero-mul (rawsIn fs)))
-
-  pub size-both : (n ≡ 0 → ⊥) → b ≡ rawsIn fs → m ≡ labelsIn t es u [] fs → ((a + n * b) + l) + m ≡ textSize t es u fs n
-  unfolding textSize
-  size-both z rb rm = rw (ne-eqb n 0 z) (omega (arith, ra, rl, rm, ap (λ (k : ℕ). n * k) rb))

@@ -10,6 +10,7 @@ use Rattle.recording.specs.declared.Entry.{Entry}
 abbrev pub samePart : Entry → Entry → Bool
 samePart x e = eqb (x .kind) 0 && (eqb (x .start) (e .start) && eqb (x .len) (e .len))
 
+-- a push before has the part
 unfoldable pub copied : Entry → List Entry → Bool
 copied e [] = false
 copied e (x ∷ xs) = samePart x e || copied e xs
@@ -18,13 +19,16 @@ copied e (x ∷ xs) = samePart x e || copied e xs
 unfoldable pub topOf : ℕ → Entry → ℕ
 topOf top e = cond (leb top (e .start)) (e .start + e .len) top
 
+-- and behind all entries
 unfoldable pub topAfter : ℕ → List Entry → ℕ
 topAfter top [] = top
 topAfter top (e ∷ es) = topAfter (topOf top e) es
 
+-- an entry that is no push, or has its text beyond all before, or a part that is there
 unfoldable pub placedOne : ℕ → List Entry → Entry → Bool
 placedOne top before e = not (eqb (e .kind) 0) || (leb top (e .start) || copied e before)
 
+-- all entries, behind those before
 unfoldable pub placedFrom : ℕ → List Entry → List Entry → Bool
 placedFrom top before [] = true
 placedFrom top before (e ∷ es) = placedOne top before e && placedFrom (topOf top e) (before ++ (e ∷ [])) es

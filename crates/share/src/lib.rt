@@ -4,13 +4,15 @@ use recording::entry_at;
 ghost use mathlib.Core.Path.{_≡_};
 ghost use Prim.Native.Nat.{_+_, _%_, _≤_};
 ghost use lib.ListN.{length, take};
-ghost use mathlib.Core.List.{[]};
+ghost use mathlib.Core.List.{[], _∷_};
+ghost use Rattle.buffer.specs.Place.{overAt};
 ghost use Rattle.recording.specs.Lists.{same};
-ghost use Rattle.recording.specs.Recording.{entriesOf, isPush, startIn, newText};
+ghost use Rattle.recording.specs.Share.{Inside};
+ghost use Rattle.recording.specs.Recording.{entriesOf, numbersOf, isPush, startIn, newText};
 ghost use mathlib.Core.Bool.{true, _&&_};
 ghost use lib.Dec.{leb};
 ghost use Rattle.share.specs.Placed.{topOf, placedFrom};
-ghost use Rattle.share.specs.Sizes.{Inside, rawIn, rawsIn, labelIn, labelsIn, textSize, ownSize, Stands};
+ghost use Rattle.share.specs.Sizes.{rawIn, rawsIn, labelIn, labelsIn, addFirst, Serve, textSize, ownSize, lessSize, Counts, Stands};
 
 // Where a label's text starts, and how many of its bytes come to the text: all of them, or none if a push has them.
 pub struct Place {
@@ -59,16 +61,16 @@ pub fn place_label(numbers: &[u32], texts: &[u8], label: &[u8]) -> Place
     ensures { λ r. ⌜ r .start ≡ startIn (now (label .entry)) (now (texts .entry)) (length (now (texts .entry))) (entriesOf (now (numbers .entry))) ⌝ }
     ensures { λ r. ⌜ r .add ≡ length (newText (now (label .entry)) (now (texts .entry)) (entriesOf (now (numbers .entry)))) ⌝ }
 {
-    let mut k = 0;
-    while 4 <= numbers.len() - k {
-        let e = entry_at(numbers, k);
+    let mut at = 0;
+    while 4 <= numbers.len() - at {
+        let e = entry_at(numbers, at);
         if is_push(texts, e, label) {
             return Place {
                 start: e.start,
                 add: 0,
             };
         }
-        k += 4;
+        at += 4;
     }
     Place {
         start: texts.len() as u32,
@@ -139,6 +141,7 @@ fn raw_size(entries: &[u32], text: &[u8]) -> usize
     size
 }
 
+// The raw sequence of an entry.
 fn raw_len(e: Entry) -> usize
     ensures { λ r. ⌜ r ≡ rawIn e ⌝ }
 {
@@ -148,7 +151,7 @@ fn raw_len(e: Entry) -> usize
     0
 }
 
-// What the label of the entry e, behind those in `before`, brings to a text that has the labels of `entries`.
+// What the label of the entry e, behind the pushes in `before`, brings to a text that has the labels of `entries`.
 fn label_more(entries: &[u32], text: &[u8], before: &[u32], own: &[u8], e: Entry) -> usize
     requires { ⌜ (length (now text) ≤ 65536) × (length (now own) ≤ 65536) × (e .start + e .len ≤ length (now own)) ⌝ }
     ensures { λ r. ⌜ (r ≡ labelIn (now (text .entry)) (entriesOf (now (entries .entry))) (now (own .entry)) (entriesOf (now (before .entry))) e) × (r ≤ 65536) ⌝ }
@@ -165,35 +168,106 @@ fn label_more(entries: &[u32], text: &[u8], before: &[u32], own: &[u8], e: Entry
     place_label(before, own, &own[start..end]).add
 }
 
-// The labels of a recording that neither `entries` nor entries before them in their own recording have.
-fn more_labels(entries: &[u32], text: &[u8], more: &[u32], own: &[u8]) -> usize
-    requires { ⌜ (length (now text) ≤ 65536) × (length (now own) ≤ 65536) × (length (now more) ≤ 16384) × Inside (now own) (entriesOf (now more)) ⌝ }
-    ensures { λ r. ⌜ (r ≡ labelsIn (now (text .entry)) (entriesOf (now (entries .entry))) (now (own .entry)) [] (entriesOf (now (more .entry)))) × (r ≤ 268435456) ⌝ }
+// Writes an entry's four numbers from k on.
+pub fn set_entry(numbers: &mut [u32], k: usize, e: Entry)
+    requires { ⌜ k + 4 ≤ length (now numbers) ⌝ }
+    ensures { λ _. ⌜ now (numbers .exit) ≡ overAt k (numbersOf (e ∷ [])) (now (numbers .entry)) ⌝ }
 {
-    let mut k = 0;
-    let mut size = 0;
-    while 4 <= more.len() - k {
-        let e = entry_at(more, k);
-        size += label_more(entries, text, &more[0..k], own, e);
-        k += 4;
-    }
-    size
+    numbers[k] = e.position;
+    numbers[k + 1] = e.kind;
+    numbers[k + 2] = e.start;
+    numbers[k + 3] = e.len;
 }
 
-// The text of a result that has all entries of one recording, and those of a second one n times.
+// The entries that brought a new text, up to `end` in a list of their own; and the size that is counted with them.
+struct Firsts {
+    end: usize,
+    size: usize,
+}
+
+// Counts the label of the entry e, and keeps the entry if its label is new: who searches a label needs no other push of it.
+fn add_first(
+    entries: &[u32],
+    text: &[u8],
+    firsts: &mut [u32],
+    own: &[u8],
+    e: Entry,
+    f: Firsts,
+) -> Firsts
+    requires { ⌜ (length (now text) ≤ 65536) × (length (now own) ≤ 65536) × (e .start + e .len ≤ length (now own)) ⌝ }
+    requires { ⌜ (f .end + 4 ≤ length (now firsts)) × (f .end % 4 ≡ 0) × (f .size ≤ 65536) ⌝ }
+    ensures { λ r. ⌜ r .size ≡ f .size + labelIn (now (text .entry)) (entriesOf (now (entries .entry))) (now (own .entry)) (entriesOf (take (f .end) (now (firsts .entry)))) e ⌝ }
+    ensures { λ r. ⌜ (r .end % 4 ≡ 0) × (r .end ≤ f .end + 4) × (r .size ≤ f .size + 65536) ⌝ }
+    ensures { λ r. ⌜ entriesOf (take (r .end) (now (firsts .exit))) ≡ addFirst (now (text .entry)) (entriesOf (now (entries .entry))) (now (own .entry)) (entriesOf (take (f .end) (now (firsts .entry)))) e ⌝ }
+{
+    let m = f.end;
+    let add = label_more(entries, text, &firsts[0..m], own, e);
+    if add == 0 {
+        return f;
+    }
+    set_entry(firsts, m, e);
+    Firsts {
+        end: m + 4,
+        size: f.size + add,
+    }
+}
+
+// Counts, from `size` on, the labels of a recording that neither `entries` nor entries before them in their own recording have, and keeps in `firsts` those that brought one.
+// Stops above the limit, where refusal 9 is certain: what is kept was counted, so that no label is compared with more than 65,536 bytes.
+fn more_labels(
+    size: usize,
+    entries: &[u32],
+    text: &[u8],
+    more: &[u32],
+    own: &[u8],
+    firsts: &mut [u32],
+) -> Firsts
+    requires { ⌜ (size ≤ 65536) × (length (now text) ≤ 65536) × (length (now own) ≤ 65536) × (length (now more) ≤ length (now firsts)) × Inside (now own) (entriesOf (now more)) ⌝ }
+    ensures { λ r. ⌜ Counts (size + labelsIn (now (text .entry)) (entriesOf (now (entries .entry))) (now (own .entry)) [] (entriesOf (now (more .entry)))) (r .size) ⌝ }
+    ensures { λ r. ⌜ (r .end ≤ length (now (firsts .entry))) × (r .size ≤ 131072) ⌝ }
+    ensures { λ r. ⌜ Serve (r .size) (now (text .entry)) (entriesOf (now (entries .entry))) (now (own .entry)) (entriesOf (take (r .end) (now (firsts .exit)))) (entriesOf (now (more .entry))) ⌝ }
+{
+    let mut k = 0;
+    let mut f = Firsts { end: 0, size: size };
+    while 4 <= more.len() - k {
+        let e = entry_at(more, k);
+        f = add_first(entries, text, firsts, own, e, f);
+        if 65536 < f.size {
+            return f;
+        }
+        k += 4;
+    }
+    f
+}
+
+// The text of a result that has all entries of one recording, and those of a second one n times; above the limit, any number above it.
 fn exact_size(entries: &[u32], text: &[u8], second: &[u32], own: &[u8], n: usize) -> usize
     requires { ⌜ (length (now entries) ≤ 16384) × (length (now text) ≤ 65536) × Inside (now text) (entriesOf (now entries)) ⌝ }
     requires { ⌜ (length (now second) ≤ 16384) × (length (now own) ≤ 65536) × Inside (now own) (entriesOf (now second)) × (n ≤ 1048576) ⌝ }
-    ensures { λ r. ⌜ r ≡ textSize (now (text .entry)) (entriesOf (now (entries .entry))) (now (own .entry)) (entriesOf (now (second .entry))) n ⌝ }
+    ensures { λ r. ⌜ Counts (textSize (now (text .entry)) (entriesOf (now (entries .entry))) (now (own .entry)) (entriesOf (now (second .entry))) n) r ⌝ }
 {
-    let raws = raw_size(entries, text);
-    let labels = more_labels(&entries[0..0], &text[0..0], entries, text);
-    if n == 0 {
-        return raws + labels;
+    let raws = raw_size(entries, text) + n * raw_size(second, own);
+    if 65536 < raws {
+        return raws;
     }
-    let times = n * raw_size(second, own);
-    let more = more_labels(entries, text, second, own);
-    raws + times + labels + more
+    let mut firsts = [0u32; 16384];
+    let one = more_labels(
+        raws,
+        &entries[0..0],
+        &text[0..0],
+        entries,
+        text,
+        &mut firsts,
+    );
+    if n == 0 {
+        return one.size;
+    }
+    if 65536 < one.size {
+        return one.size;
+    }
+    let m = one.end;
+    let mut others = [0u32; 16384];
+    more_labels(one.size, &firsts[0..m], text, second, own, &mut others).size
 }
 
 // A text size that settles the call as the exact one: all texts side by side, `plain`, if there is room for them, and else the exact size.
@@ -219,11 +293,46 @@ pub fn text_size(
     exact_size(entries, text, second, own, n)
 }
 
-// The same for a result that has the entries of one recording and no others.
+// As `text_size`, of a result that has the entries of one recording alone.
 pub fn own_size(plain: usize, room: usize, entries: &[u32], text: &[u8]) -> usize
     requires { ⌜ (length (now entries) ≤ 16384) × (length (now text) ≤ 65536) × Inside (now text) (entriesOf (now entries)) ⌝ }
     requires { ⌜ ownSize (now text) (entriesOf (now entries)) ≤ plain ⌝ }
     ensures { λ r. ⌜ Stands room (ownSize (now (text .entry)) (entriesOf (now (entries .entry)))) r ⌝ }
 {
     text_size(plain, room, entries, text, &entries[0..0], &text[0..0], 0)
+}
+
+// The text of a result that has all entries of a recording but raw sequences of `gone` bytes; above the limit, any number above it.
+fn exact_less(gone: usize, entries: &[u32], text: &[u8]) -> usize
+    requires { ⌜ (length (now entries) ≤ 16384) × (length (now text) ≤ 65536) × Inside (now text) (entriesOf (now entries)) ⌝ }
+    requires { ⌜ gone ≤ rawsIn (entriesOf (now entries)) ⌝ }
+    ensures { λ r. ⌜ Counts (lessSize (now (text .entry)) (entriesOf (now (entries .entry))) gone) r ⌝ }
+{
+    let raws = raw_size(entries, text) - gone;
+    if 65536 < raws {
+        return raws;
+    }
+    let mut firsts = [0u32; 16384];
+    more_labels(
+        raws,
+        &entries[0..0],
+        &text[0..0],
+        entries,
+        text,
+        &mut firsts,
+    ).size
+}
+
+// As `own_size`, of a result that has all entries of a recording but raw sequences of `gone` bytes.
+pub fn less_size(plain: usize, room: usize, gone: usize, entries: &[u32], text: &[u8]) -> usize
+    requires { ⌜ (length (now entries) ≤ 16384) × (length (now text) ≤ 65536) × Inside (now text) (entriesOf (now entries)) ⌝ }
+    requires { ⌜ (gone ≤ rawsIn (entriesOf (now entries))) × (lessSize (now text) (entriesOf (now entries)) gone ≤ plain) ⌝ }
+    ensures { λ r. ⌜ Stands room (lessSize (now (text .entry)) (entriesOf (now (entries .entry))) gone) r ⌝ }
+{
+    if plain <= 65536 {
+        if plain <= room {
+            return plain;
+        }
+    }
+    exact_less(gone, entries, text)
 }

@@ -5,10 +5,9 @@ use lib.Dec.{eqb}
 use borrow.Author.Tests.{eqb-true}
 use mathlib.Core.List.{List, [], _∷_, _++_, append-assoc, append-nil}
 use Prim.Native.Nat.{ℕ, zero, suc, _+_, _-_, _*_, _%_, _≤_}
-use native.Mathlib.Numerals.{add-one, add-two, add-three}
 use native.Mathlib.Omega.{arith}
-use lib.ListN.{length, take, drop, set, length-append, length-drop, length-take}
-use lib.Seq.{sets-eq, drop-drop, take-at, drop-at, length-take-le, take-length}
+use lib.ListN.{length, take, drop, length-append, length-drop, length-take}
+use lib.Seq.{drop-drop, take-at, drop-at, length-take-le, take-length}
 use Rattle.buffer.specs.Place.{over, overAt, part}
 use Rattle.buffer.proofs.Laws.{over-twice}
 use Rattle.recording.specs.declared.Entry.{Entry}
@@ -16,19 +15,12 @@ use Rattle.recording.specs.Recording.{entry, entriesOf, numbersOf, partOf, Item
 use Rattle.recording.specs.Refusals.{badShape}
 use Rattle.recording.proofs.EditLaws.{data-append}
 use Rattle.recording.proofs.ItemsLaws.{entries-numbers}
-use Rattle.share.proofs.PlacedLaws.{parts-after, places-after}
+use Rattle.share.proofs.PlacedLaws.{inside-after, placed-after}
 use Rattle.share.specs.Placed.{placedFrom}
 use Rattle.buffer.proofs.Laws.{length-part}
 use Rattle.recording.proofs.SizeLaws.{text-after, entries-append, numbers-append, entryCount, count-append, count-numbers}
 use Rattle.writer.specs.Write.{Out, add, Fits, textIn, entriesIn, numbersAt, textAt, numbersFor, textFor, itemAt, startFor, addFor}
 use Rattle.writer.specs.declared.Cursor.{Cursor}
-
--- four stores from k on
-pub four-stores : (l : List ℕ) (k a b c d : ℕ) → k + 4 ≤ length l
-    → set (set (set (set l k a) (k + 1) b) (k + 2) c) (k + 3) d ≡ overAt k (a ∷ b ∷ c ∷ d ∷ []) l
-unfolding overAt
-four-stores l k a b c d h =
-    rw (add-one, add-two, add-three) (sets-eq (a ∷ b ∷ c ∷ d ∷ []) l k h ∙ append-assoc (take k l) (a ∷ b ∷ c ∷ d ∷ []) (drop (k + 4) l) ∙ rw drop-drop)
 
 -- ── one entry
 pub pop-empty : (s n : ℕ) → not (eqb s 0 && eqb n 0) ≡ false → (s ≡ 0) × (n ≡ 0)
@@ -233,8 +225,8 @@ fits-right a b o f =
       data-limit = omega (arith, f .data-limit, data-size a b, s .0);
       text-limit = omega (arith, f .text-limit, t, s .2);
       fours = omega (arith, f .fours, numbers-size a o, s .1);
-      parts = rw (text-left a o g, entries-left a o g) (parts-after a (o .d) (textIn o) (entriesIn o) (f .parts));
-      placed = rw (entries-left a o g) (places-after a (o .d) (textIn o) (entriesIn o) (f .parts) (f .placed));
+      parts = rw (text-left a o g, entries-left a o g) (inside-after a (o .d) (textIn o) (entriesIn o) (f .parts));
+      placed = rw (entries-left a o g) (placed-after a (o .d) (textIn o) (entriesIn o) (f .parts) (f .placed));
     }
 
 pub add-append : (a b : List Item) (o : Out) → Fits a o → add b (add a o) ≡ add (a ++ b) o

@@ -1,7 +1,7 @@
 -- Refusals 9 and 21 to 24 from sizes: the tests in order, what is known when none refuses, and that they are `overLimit` and `noRoom` of a result with these lengths.
 -- Also the sizes of a content, for the sums that callers take.
 use mathlib.Core.Path.{_≡_, refl, sym, ap, _∙_}
-use mathlib.Core.Bool.{Bool, _||_}
+use mathlib.Core.Bool.{Bool, true, _||_}
 use mathlib.Core.List.{List, [], _∷_}
 use Prim.Native.Nat.{ℕ, _-_, _*_, _%_, _≤_, _<_}
 use native.Mathlib.Omega.{arith}
@@ -9,15 +9,16 @@ use lib.Dec.{ltb}
 use mathlib.Core.Logic.{⊎-elim}
 use lib.ListN.{length, take, drop}
 use Rattle.share.specs.Sizes.{Stands}
-use Rattle.share.proofs.PlacedLaws.{parts-none, places-none}
+use Rattle.share.proofs.PlacedLaws.{places-none}
 use borrow.Author.Tests.{ltb-false, lt-ltb, le-ltb, eqb-true}
 use Rattle.recording.specs.declared.Refusal.{Refusal}
 use Rattle.recording.specs.declared.Entry.{Entry}
 use Rattle.recording.specs.Recording.{recording, entriesOf, numbersOf, partOf, Item, itemOf, itemsFrom, items, entriesFrom, encode}
 use Rattle.recording.specs.Refusals.{numberOf, firstOf, refuseIf, recordingFault, dataLimit, entryLimit, textLimit}
 use Rattle.recording.specs.Outcome.{Room, Result, overLimit, noRoom}
-use Rattle.recording.proofs.FaultLaws.{firstOf-zero, refuseIf-zero, no-fault, roomy, in-limits}
+use Rattle.recording.proofs.FaultLaws.{inside-none, firstOf-zero, refuseIf-zero, no-fault, roomy, in-limits}
 use Rattle.recording.proofs.Lists.{or-left, or-right}
+use Rattle.recording.proofs.ShareLaws.{or-comm}
 use Rattle.recording.proofs.SizeLaws.{entryCount, count-append, count-numbers}
 use Rattle.writer.specs.declared.Settled.{Settled}
 use Rattle.writer.specs.declared.Settled.the-variants as S
@@ -82,11 +83,16 @@ pub size-granted : (x : Result) (o : Room) (v : Settled) (d e t l : ℕ) → set
 unfolding settledFault
 size-granted x o v d e t l s q ed ee et el = same-fault x o d e t l ed ee et el ∙ sym s ∙ ap settledFault q
 
+-- a text over its limit, whatever the other sizes are
+over-text : (d e t l : ℕ) (o : Room) → 65536 < t → sizesFault d e t l o ≡ 9
+unfolding sizesFault
+over-text d e t l o h = rw (lt-ltb 65536 t h, or-comm (ltb 1048576 d || ltb 16384 e) true)
+
 -- a text size that stands for another gives the same verdict
 pub same-verdict : (d e t r l : ℕ) (o : Room) → Stands (o .text) t r → sizesFault d e r l o ≡ sizesFault d e t l o
 unfolding sizesFault Stands
 same-verdict d e t r l o s =
-    ⊎-elim (λ q. rw q)
+    ⊎-elim (⊎-elim (λ q. rw q) (λ h. over-text d e r l o (h .1) ∙ sym (over-text d e t l o (h .0))))
     (λ h. rw (le-ltb 65536 r (h .1), le-ltb 65536 t (omega (arith, h .0, h .1)), le-ltb (o .text) r (h .2), le-ltb (o .text) t (omega (arith, h .0, h .2))))
     s
 
@@ -128,7 +134,7 @@ fits-blank is ls m od oe ot o ed ee et h =
       data-limit = omega (arith, f .data-limit);
       text-limit = omega (arith, f .text-limit);
       fours = refl;
-      parts = parts-none;
+      parts = inside-none [];
       placed = places-none;
     }
 

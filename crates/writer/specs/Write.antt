@@ -1,7 +1,7 @@
 -- Writing a recording into three lent buffers, told by its items: what the buffers hold after some items were put at their ends, and what is left of a content.
 use Prim.Native.Nat.{ℕ, zero, suc, _+_, _-_, _%_, _≤_}
 use mathlib.Core.Bool.{true, false}
-use Rattle.share.specs.Sizes.{Inside}
+use Rattle.recording.specs.Share.{Inside}
 use Rattle.share.specs.Placed.{placedFrom}
 use mathlib.Core.Path.{_≡_}
 use mathlib.Core.List.{List, [], _∷_}

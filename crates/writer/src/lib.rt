@@ -9,6 +9,7 @@ use recording::Refusal;
 use recording::entry_at;
 use share::Place;
 use share::place_in_result;
+use share::set_entry;
 ghost use mathlib.Core.Path.{_≡_};
 ghost use mathlib.Core.Bool.{true, false};
 ghost use Rattle.share.specs.Placed.{placedFrom};
@@ -47,17 +48,6 @@ pub fn place_at(entries: &[u32], k: usize) -> usize
         return 4294967296;
     }
     entries[k] as usize
-}
-
-// Writes an entry's four numbers from k on.
-pub fn set_entry(numbers: &mut [u32], k: usize, e: Entry)
-    requires { ⌜ k + 4 ≤ length (now numbers) ⌝ }
-    ensures { λ _. ⌜ now (numbers .exit) ≡ overAt k (numbersOf (e ∷ [])) (now (numbers .entry)) ⌝ }
-{
-    numbers[k] = e.position;
-    numbers[k + 1] = e.kind;
-    numbers[k + 2] = e.start;
-    numbers[k + 3] = e.len;
 }
 
 // Where an entry's text goes, behind the entries and the text that are written: a pop has none, a raw sequence goes to the text's end,

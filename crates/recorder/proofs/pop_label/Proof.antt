@@ -13,7 +13,7 @@ use Rattle.recorder.proofs.pop_label.Tie as tie
 use Rattle.recorder.proofs.pop_label.Reads as reads
 use Rattle.recorder.proofs.pop_label.Lts as lts
 use Rattle.recorder.proofs.check_used.Reads as check-used-reads
-use Rattle.writer.proofs.set_entry.Reads as set-entry-reads
+use Rattle.share.proofs.set_entry.Reads as set-entry-reads
 use Rattle.writer.proofs.settle.Reads as settle-reads
 
 check-used-requires : tie.Need-check-used-requires

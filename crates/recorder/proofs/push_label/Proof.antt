@@ -15,7 +15,7 @@ use Rattle.recording.specs.declared.Refusal.the-variants.{LabelIllFormed}
 use Rattle.recording.specs.Recording.{Bytes, Recording, entriesOf, startIn, newText}
 use Rattle.recording.specs.Refusals.{numberOf, refuseIf, recordingFault}
 use Rattle.recording.specs.Outcome.{Lent, roomIn}
-use Rattle.recording.proofs.FaultLaws.{no-fault, parts-inside, start-inside}
+use Rattle.recording.proofs.FaultLaws.{no-fault, inside-of, start-inside}
 use Rattle.writer.proofs.Sizes.{Fitting}
 use Rattle.recorder.specs.Recorder.{lentOf, leaves, usedOf, addFaults, pushed, withEntry, withLabel}
 use Rattle.recorder.proofs.AddLaws.{check-refused, Inside, is-inside, is-fine, limits, used-t, too-large, accepted, fits, add-refused, add-done, entry-sizes, entry-left}
@@ -96,7 +96,7 @@ part-in c =
     let es = entriesOf (used s .entryNumbers) in
     omega (
       arith,
-      start-inside (label s) (used s .text) es (parts-inside es 0 (used s .dataBytes) (used s .text) (no-fault (used s) f .entries)),
+      start-inside (label s) (used s .text) es (inside-of es 0 (used s .dataBytes) (used s .text) (no-fault (used s) f .entries)),
       length-append (used s .text) (new s),
     )
 

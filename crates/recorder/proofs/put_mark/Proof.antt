@@ -7,7 +7,7 @@ use Rattle.recorder.proofs.put_mark.Tie as tie
 use Rattle.recorder.proofs.put_mark.Reads as reads
 use Rattle.recorder.proofs.put_mark.Lts as lts
 use Rattle.buffer.proofs.put.Reads as put-reads
-use Rattle.writer.proofs.set_entry.Reads as set-entry-reads
+use Rattle.share.proofs.set_entry.Reads as set-entry-reads
 
 set-entry-requires : tie.Need-set-entry-requires
 set-entry-requires c κs = search needs

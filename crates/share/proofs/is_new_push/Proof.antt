@@ -1,4 +1,3 @@
-use native.Mathlib.Omega.{arith}
 use borrow.Author.Needs.{needs}
 use Rattle.share.proofs.PlacedLaws.{not-new, new-push}
 use Rattle.share.proofs.is_new_push.Statement.{statement}
@@ -7,21 +6,17 @@ use Rattle.share.proofs.is_new_push.Reads as reads
 use Rattle.share.proofs.is_new_push.Lts as lts
 use Rattle.share.proofs.is_push.Reads as is-push-reads
 
--- src/lib.rt:94:9
 cast-if1 : tie.Need-cast-if1
 cast-if1 c = search needs
 
--- src/lib.rt:95:9
 returns : tie.Need-returns
 returns c =
     let a = c .before .before .before .before .args in
     not-new (a .label .now) (a .texts .now) (a .e) (a .top) (c .if1 .taken)
 
--- src/lib.rt:97:5
 is-push-requires : tie.Need-is-push-requires
 is-push-requires c κs = search needs
 
--- src/lib.rt:91:1
 returns-2 : tie.Need-returns-2
 returns-2 c =
     let a = c .before .before .before .before .before .args in

@@ -1,5 +1,4 @@
 -- `is_push`: kind, then length, then the bytes; a part that passes the text's end is no text of that length.
-use native.Mathlib.Omega.{arith}
 use borrow.Author.Needs.{needs}
 use mathlib.Core.Path.{sym}
 use Rattle.share.proofs.Laws.{other-kind, other-length, sticks-out, compared}
@@ -9,57 +8,45 @@ use Rattle.share.proofs.is_push.Reads as reads
 use Rattle.share.proofs.is_push.Lts as lts
 use Rattle.share.proofs.same_text.Reads as same-text-reads
 
--- src/lib.rt:37:9
 returns : tie.Need-returns
 returns c =
     let g = c .before .before .before .before .args in
     sym (other-kind (g .label .now) (g .texts .now) (g .e) (c .if1 .taken))
 
--- src/lib.rt:39:8
 cast-if2 : tie.Need-cast-if2
 cast-if2 c = search needs
 
--- src/lib.rt:40:9
 returns-2 : tie.Need-returns-2
 returns-2 c =
     let g = c .before .before .before .before .before .before .args in
     sym (other-length (g .label .now) (g .texts .now) (g .e) (c .before .before .if1 .left) (c .if2 .taken))
 
--- src/lib.rt:42:17
 cast-start : tie.Need-cast-start
 cast-start c = search needs
 
--- src/lib.rt:43:23
 cast-end : tie.Need-cast-end
 cast-end c = search needs
 
--- src/lib.rt:43:15
 add-end : tie.Need-add-end
 add-end c = search needs
 
--- src/lib.rt:45:9
 returns-3 : tie.Need-returns-3
 returns-3 c =
     let g = c .before .before .before .before .before .before .before .before .before .before .args in
     sticks-out (g .label .now) (g .texts .now) (g .e) (c .before .before .before .before .before .before .if1 .left) (c .before .before .before .before .if2 .left) (c .before .if3 .taken)
 
--- src/lib.rt:47:10
 sub-same-text : tie.Need-sub-same-text
 sub-same-text c = search needs
 
--- src/lib.rt:47:10
 part-same-text-start : tie.Need-part-same-text-start
 part-same-text-start c = search needs
 
--- src/lib.rt:47:10
 part-same-text-end : tie.Need-part-same-text-end
 part-same-text-end c = search needs
 
--- src/lib.rt:47:5
 same-text-requires : tie.Need-same-text-requires
 same-text-requires c κs = search needs
 
--- src/lib.rt:33:1
 returns-4 : tie.Need-returns-4
 returns-4 c =
     let g = c .before .before .before .before .before .before .before .before .before .before .before .args in

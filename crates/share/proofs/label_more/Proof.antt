@@ -11,65 +11,51 @@ use Rattle.share.proofs.label_more.Reads as reads
 use Rattle.share.proofs.label_more.Lts as lts
 use Rattle.share.proofs.place_label.Reads as place-label-reads
 
--- src/lib.rt:105:9
 returns : tie.Need-returns
 returns c =
     let a = c .before .before .before .before .before .before .args in
     let pre = c .before .before .before .before .before .before .pre in
     (no-label (a .text .now) (entriesOf (a .entries .now)) (a .own .now) (entriesOf (a .before .now)) (a .e) (c .if1 .taken), omega arith)
 
--- src/lib.rt:107:17
 cast-start : tie.Need-cast-start
 cast-start c = search needs
 
--- src/lib.rt:108:23
 cast-end : tie.Need-cast-end
 cast-end c = search needs
 
--- src/lib.rt:108:15
 add-end : tie.Need-add-end
 add-end c = search needs
 
--- src/lib.rt:109:44
 sub-place-label : tie.Need-sub-place-label
 sub-place-label c = search needs
 
--- src/lib.rt:109:44
 part-place-label-start : tie.Need-part-place-label-start
 part-place-label-start c = search needs
 
--- src/lib.rt:109:44
 part-place-label-end : tie.Need-part-place-label-end
 part-place-label-end c = search needs
 
--- src/lib.rt:109:9
 place-label-requires : tie.Need-place-label-requires
 place-label-requires c κs = search needs
 
--- src/lib.rt:111:9
 returns-2 : tie.Need-returns-2
 returns-2 c =
     let a = c .before .before .before .before .before .before .before .before .before .before .before .before .args in
     let pre = c .before .before .before .before .before .before .before .before .before .before .before .before .pre in
     (none-new (a .text .now) (entriesOf (a .entries .now)) (a .own .now) (entriesOf (a .before .now)) (a .e) (c .before .before .before .before .before .before .if1 .left) (take ((a .e .start + a .e .len) - a .e .start) (drop (a .e .start) (a .own .now))) (let h : (a .e .start + a .e .len) - a .e .start ≡ a .e .len = omega arith in ap (λ (n : ℕ). take n (drop (a .e .start) (a .own .now))) h) (sym (c .before .before .place-label .ensures .1) ∙ c .if2 .taken), omega arith)
 
--- src/lib.rt:113:30
 sub-place-label-2 : tie.Need-sub-place-label-2
 sub-place-label-2 c = search needs
 
--- src/lib.rt:113:30
 part-place-label-start-2 : tie.Need-part-place-label-start-2
 part-place-label-start-2 c = search needs
 
--- src/lib.rt:113:30
 part-place-label-end-2 : tie.Need-part-place-label-end-2
 part-place-label-end-2 c = search needs
 
--- src/lib.rt:113:5
 place-label-requires-2 : tie.Need-place-label-requires-2
 place-label-requires-2 c κs = search needs
 
--- src/lib.rt:100:1
 returns-3 : tie.Need-returns-3
 returns-3 c =
     let a = c .before .before .before .before .before .before .before .before .before .before .before .before .before .before .args in

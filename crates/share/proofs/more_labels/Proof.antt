@@ -1,75 +1,69 @@
+-- `more_labels`: `Gathered` says what is counted and kept up to k.
 use native.Mathlib.Omega.{arith}
 use borrow.Author.Needs.{needs}
-use lib.ListN.{length}
+use mathlib.Core.Path.{_≡_}
 use Prim.Native.Nat.{_-_}
+use lib.ListN.{length}
 use Rattle.recording.specs.Recording.{entriesOf}
-use Rattle.share.proofs.SizeLaws.{Labels, labels-first, label-inside, labels-small, labels-next, labels-last}
+use Rattle.share.proofs.FirstLaws.{Gathered, gathered-none, entry-inside, gathered-over, gathered-next, gathered-all}
 use Rattle.share.proofs.more_labels.Statement.{statement}
 use Rattle.share.proofs.more_labels.Tie as tie
 use Rattle.share.proofs.more_labels.Reads as reads
 use Rattle.share.proofs.more_labels.Lts as lts
 use Rattle.recording.proofs.entry_at.Reads as entry-at-reads
-use Rattle.share.proofs.label_more.Reads as label-more-reads
+use Rattle.share.proofs.add_first.Reads as add-first-reads
 
 abbrev Inv-loop : tie.InvT-loop
-Inv-loop entries text more own k₀ size₀ k size = Labels text (entriesOf entries) own more k size
+Inv-loop size entries text more own firsts₀ k₀ f₀ firsts k f = Gathered text (entriesOf entries) own more size k firsts (f .end) (f .size) × (length firsts ≡ length firsts₀)
 
 abbrev μ-loop : tie.MeasureT-loop
-μ-loop entries text more own k₀ size₀ k size = length more - k
+μ-loop size entries text more own firsts₀ k₀ f₀ firsts k f = length more - k
 
--- src/lib.rt:123:5
 loop-holds : tie.Need-loop-holds Inv-loop μ-loop
 loop-holds c =
-    labels-first _ _ _ _ (c .before .before .before .before .pre .3)
+    let a = c .before .before .before .before .before .args in
+    let pre = c .before .before .before .before .before .pre in
+    (gathered-none (a .text .now) (entriesOf (a .entries .now)) (a .own .now) (a .more .now) (a .size) (a .firsts .now) (pre .0) (pre .4), search needs)
 
--- src/lib.rt:123:16
 sub-loop : tie.Need-sub-loop Inv-loop μ-loop
 sub-loop c = search needs
 
--- src/lib.rt:124:13
 entry-at-requires : tie.Need-entry-at-requires Inv-loop μ-loop
 entry-at-requires c κs = search needs
 
--- src/lib.rt:125:43
-sub-label-more : tie.Need-sub-label-more Inv-loop μ-loop
-sub-label-more c = search needs
+add-first-requires : tie.Need-add-first-requires Inv-loop μ-loop
+add-first-requires c κs =
+    let pre = c .before .before .before .before .before .before .before .before .before .pre in
+    let l = c .before .before .before .loop in
+    let i = entry-inside _ _ _ _ _ _ _ _ _ (l .inv .0) (c .before .before .loop-test .taken) _ (c .before .entry-at .ensures) in
+    ((pre .1, pre .2, i .0), (omega (arith, l .inv .0 .few, l .inv .0 .within, l .inv .1, c .before .before .loop-test .taken, pre .3), l .inv .0 .quads, l .inv .0 .low))
 
--- src/lib.rt:125:43
-part-label-more-start : tie.Need-part-label-more-start Inv-loop μ-loop
-part-label-more-start c = search needs
+same-length : tie.Need-same-length Inv-loop μ-loop
+same-length c = search needs
 
--- src/lib.rt:125:43
-part-label-more-end : tie.Need-part-label-more-end Inv-loop μ-loop
-part-label-more-end c = search needs
+returns : tie.Need-returns Inv-loop μ-loop
+returns c =
+    let g = gathered-over _ _ _ _ _ _ _ _ _ (c .before .before .before .before .before .before .before .before .loop .inv .0) (c .before .before .before .before .before .before .before .loop-test .taken) _ (c .before .before .before .before .before .before .entry-at .ensures) _ _ _ (c .before .before .before .before .add-first .ensures .0) (c .before .before .before .before .add-first .ensures .1 .0) (c .before .before .before .before .add-first .ensures .1 .1) (omega (arith, c .if1 .taken)) in
+    (g .0, ((omega (arith, c .before .before .before .before .add-first .ensures .1 .0 .1, c .before .before .before .before .before .before .before .before .loop .inv .0 .few, c .before .before .before .before .before .before .before .loop-test .taken, c .before .before .before .before .before .before .before .before .before .before .before .before .before .before .pre .3), omega (arith, c .before .before .before .before .add-first .ensures .1 .0 .2, c .before .before .before .before .before .before .before .before .loop .inv .0 .low)), g .1))
 
--- src/lib.rt:125:17
-label-more-requires : tie.Need-label-more-requires Inv-loop μ-loop
-label-more-requires c κs =
-    let pre = c .before .before .before .before .before .before .before .before .pre in
-    (pre .0, pre .1, label-inside _ _ _ _ _ _ (c .before .before .before .loop .inv) (c .before .before .loop-test .taken) _ (c .before .entry-at .ensures) .0)
-
--- src/lib.rt:125:9
-add-size : tie.Need-add-size Inv-loop μ-loop
-add-size c =
-    omega (arith, labels-small _ _ _ _ _ _ (c .before .before .before .before .loop .inv) (c .before .before .before .loop-test .taken) _ (c .before .before .entry-at .ensures) _ (c .label-more .ensures .0) (c .label-more .ensures .1), c .before .before .before .before .before .before .before .before .before .pre .2, c .before .before .before .loop-test .taken)
-
--- src/lib.rt:126:9
 add-k : tie.Need-add-k Inv-loop μ-loop
 add-k c = search needs
 
--- src/lib.rt:123:5
 loop-less : tie.Need-loop-less Inv-loop μ-loop
 loop-less c = search needs
 
--- src/lib.rt:123:5
 loop-again : tie.Need-loop-again Inv-loop μ-loop
 loop-again c =
-    labels-next _ _ _ _ _ _ (c .before .before .before .before .loop .inv) (c .before .before .before .loop-test .taken) _ (c .before .before .entry-at .ensures) _ (c .label-more .ensures .0) (c .label-more .ensures .1)
+    (gathered-next _ _ _ _ _ _ _ _ _ (c .before .before .before .before .before .before .before .before .loop .inv .0) (c .before .before .before .before .before .before .before .loop-test .taken) _ (c .before .before .before .before .before .before .entry-at .ensures) _ _ _ (c .before .before .before .before .add-first .ensures .0) (c .before .before .before .before .add-first .ensures .1 .0) (c .before .before .before .before .add-first .ensures .1 .1) (omega (arith, c .if1 .left)), search needs)
 
--- src/lib.rt:117:1
-returns : tie.Need-returns Inv-loop μ-loop
-returns c =
-    (labels-last _ _ _ _ _ _ (c .before .loop .inv) (c .loop-test .left), omega (arith, c .before .loop .inv .small, c .before .loop .inv .within, c .before .before .before .before .before .before .pre .2))
+same-length-2 : tie.Need-same-length-2 Inv-loop μ-loop
+same-length-2 c = search needs
+
+returns-2 : tie.Need-returns-2 Inv-loop μ-loop
+returns-2 c =
+    let i = c .before .loop .inv in
+    let g = gathered-all _ _ _ _ _ _ _ _ _ (i .0) (c .loop-test .left) in
+    (g .0, ((omega (arith, i .0 .few, i .0 .within, c .before .before .before .before .before .before .before .pre .3), omega (arith, i .0 .low)), g .1))
 
 pub more-labels-spec : {M : Type 1} → statement M
 more-labels-spec =
@@ -80,12 +74,11 @@ more-labels-spec =
     loop-holds
     sub-loop
     entry-at-requires
-    sub-label-more
-    part-label-more-start
-    part-label-more-end
-    label-more-requires
-    add-size
+    add-first-requires
+    same-length
+    returns
     add-k
     loop-less
     loop-again
-    returns)
+    same-length-2
+    returns-2)

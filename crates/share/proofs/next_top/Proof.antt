@@ -1,4 +1,3 @@
-use native.Mathlib.Omega.{arith}
 use borrow.Author.Needs.{needs}
 use Rattle.share.proofs.PlacedLaws.{top-same, top-more}
 use Rattle.share.proofs.next_top.Statement.{statement}
@@ -6,24 +5,19 @@ use Rattle.share.proofs.next_top.Tie as tie
 use Rattle.share.proofs.next_top.Reads as reads
 use Rattle.share.proofs.next_top.Lts as lts
 
--- src/lib.rt:83:17
 cast-start : tie.Need-cast-start
 cast-start c = search needs
 
--- src/lib.rt:85:9
 returns : tie.Need-returns
 returns c =
     (top-same _ (c .before .before .args .e) (c .if1 .taken), c .before .before .pre)
 
--- src/lib.rt:87:13
 cast-result : tie.Need-cast-result
 cast-result c = search needs
 
--- src/lib.rt:87:5
 add-result : tie.Need-add-result
 add-result c = search needs
 
--- src/lib.rt:79:1
 returns-2 : tie.Need-returns-2
 returns-2 c =
     (top-more _ (c .before .before .before .args .e) (c .before .if1 .left), search needs)

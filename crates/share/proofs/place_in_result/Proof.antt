@@ -20,59 +20,48 @@ Inv-loop numbers texts label k₀ top₀ k top = New label texts numbers k top �
 abbrev μ-loop : tie.MeasureT-loop
 μ-loop numbers texts label k₀ top₀ k top = length numbers - k
 
--- src/lib.rt:109:5
 loop-holds : tie.Need-loop-holds Inv-loop μ-loop
 loop-holds c =
     let g = c .before .before .before .args in
     (new-first (g .label .now) (g .texts .now) (g .numbers .now) (c .before .before .before .pre .1), omega arith)
 
--- src/lib.rt:109:16
 sub-loop : tie.Need-sub-loop Inv-loop μ-loop
 sub-loop c =
     omega (arith, c .loop .inv .0 .passed .within)
 
--- src/lib.rt:110:13
 entry-at-requires : tie.Need-entry-at-requires Inv-loop μ-loop
 entry-at-requires c κs =
     omega (arith, c .before .loop .inv .0 .passed .within, c .loop-test .taken)
 
--- src/lib.rt:111:12
 is-new-push-requires : tie.Need-is-new-push-requires Inv-loop μ-loop
 is-new-push-requires c κs = search needs
 
--- src/lib.rt:112:13
 returns : tie.Need-returns Inv-loop μ-loop
 returns c =
     let g = c .before .before .before .before .before .before .before .before .args in
     let f = new-found (g .label .now) (g .texts .now) (g .numbers .now) _ _ (c .before .before .before .before .loop .inv .0) (c .before .before .before .loop-test .taken) _ (c .before .before .entry-at .ensures) (sym (c .before .is-new-push .ensures) ∙ c .if1 .taken) in
     (f .0, f .1)
 
--- src/lib.rt:117:9
 next-top-requires : tie.Need-next-top-requires Inv-loop μ-loop
 next-top-requires c κs =
     c .before .before .before .before .loop .inv .1
 
--- src/lib.rt:118:9
 add-k : tie.Need-add-k Inv-loop μ-loop
 add-k c =
     omega (arith, c .before .before .before .before .before .loop .inv .0 .passed .within, c .before .before .before .before .loop-test .taken, c .before .before .before .before .before .before .before .before .before .good)
 
--- src/lib.rt:109:5
 loop-less : tie.Need-loop-less Inv-loop μ-loop
 loop-less c =
     omega (arith, c .before .before .before .before .before .loop .inv .0 .passed .within, c .before .before .before .before .loop-test .taken)
 
--- src/lib.rt:109:5
 loop-again : tie.Need-loop-again Inv-loop μ-loop
 loop-again c =
     let g = c .before .before .before .before .before .before .before .before .before .args in
     (new-next (g .label .now) (g .texts .now) (g .numbers .now) _ _ (c .before .before .before .before .before .loop .inv .0) (c .before .before .before .before .loop-test .taken) _ (c .before .before .before .entry-at .ensures) (sym (c .before .before .is-new-push .ensures) ∙ c .before .if1 .left) _ (c .next-top .ensures .0), c .next-top .ensures .1)
 
--- src/lib.rt:121:16
 cast-t12 : tie.Need-cast-t12 Inv-loop μ-loop
 cast-t12 c = search needs
 
--- src/lib.rt:101:1
 returns-2 : tie.Need-returns-2 Inv-loop μ-loop
 returns-2 c =
     let g = c .before .before .before .before .before .args in

@@ -1,4 +1,3 @@
-use native.Mathlib.Omega.{arith}
 use borrow.Author.Needs.{needs}
 use Rattle.share.proofs.SizeLaws.{raw-len, no-raw}
 use Rattle.share.proofs.raw_len.Statement.{statement}
@@ -6,16 +5,13 @@ use Rattle.share.proofs.raw_len.Tie as tie
 use Rattle.share.proofs.raw_len.Reads as reads
 use Rattle.share.proofs.raw_len.Lts as lts
 
--- src/lib.rt:94:16
 cast-result : tie.Need-cast-result
 cast-result c = search needs
 
--- src/lib.rt:94:9
 returns : tie.Need-returns
 returns c =
     raw-len (c .before .before .before .args .e) (c .before .if1 .taken)
 
--- src/lib.rt:90:1
 returns-2 : tie.Need-returns-2
 returns-2 c =
     no-raw (c .before .before .args .e) (c .if1 .left)

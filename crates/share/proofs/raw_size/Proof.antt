@@ -16,42 +16,33 @@ Inv-loop entries text k₀ size₀ k size = Raws entries text k size
 abbrev μ-loop : tie.MeasureT-loop
 μ-loop entries text k₀ size₀ k size = length entries - k
 
--- src/lib.rt:82:5
 loop-holds : tie.Need-loop-holds Inv-loop μ-loop
 loop-holds c =
     raws-first _ _ (c .before .before .pre .2)
 
--- src/lib.rt:82:16
 sub-loop : tie.Need-sub-loop Inv-loop μ-loop
 sub-loop c = search needs
 
--- src/lib.rt:83:13
 entry-at-requires : tie.Need-entry-at-requires Inv-loop μ-loop
 entry-at-requires c κs = search needs
 
--- src/lib.rt:84:17
 raw-len-requires : tie.Need-raw-len-requires Inv-loop μ-loop
 raw-len-requires c κs = search needs
 
--- src/lib.rt:84:9
 add-size : tie.Need-add-size Inv-loop μ-loop
 add-size c =
     omega (arith, raws-small _ _ _ _ (c .before .before .before .loop .inv) (c .before .before .loop-test .taken) _ (c .before .entry-at .ensures) _ (c .raw-len .ensures) (c .before .before .before .before .before .before .pre .1), c .before .before .before .before .before .before .pre .0, c .before .before .loop-test .taken)
 
--- src/lib.rt:85:9
 add-k : tie.Need-add-k Inv-loop μ-loop
 add-k c = search needs
 
--- src/lib.rt:82:5
 loop-less : tie.Need-loop-less Inv-loop μ-loop
 loop-less c = search needs
 
--- src/lib.rt:82:5
 loop-again : tie.Need-loop-again Inv-loop μ-loop
 loop-again c =
     raws-next _ _ _ _ (c .before .before .before .loop .inv) (c .before .before .loop-test .taken) _ (c .before .entry-at .ensures) _ (c .raw-len .ensures) (c .before .before .before .before .before .before .pre .1)
 
--- src/lib.rt:76:1
 returns : tie.Need-returns Inv-loop μ-loop
 returns c =
     (raws-last _ _ _ _ (c .before .loop .inv) (c .loop-test .left), omega (arith, c .before .loop .inv .small, c .before .loop .inv .within, c .before .before .before .before .pre .0))

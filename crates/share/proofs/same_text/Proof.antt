@@ -1,4 +1,3 @@
-use native.Mathlib.Omega.{arith}
 use borrow.Author.Needs.{needs}
 use mathlib.Core.Path.{sym, ap}
 use mathlib.Core.List.{List}
@@ -16,45 +15,36 @@ Inv-loop a b i₀ i = Tail a b i
 abbrev μ-loop : tie.MeasureT-loop
 μ-loop a b i₀ i = i
 
--- src/lib.rt:20:9
 returns : tie.Need-returns Inv-loop μ-loop
 returns c =
     let g = c .before .args in
     sym (differ (g .a .now) (g .b .now) (λ e. c .if1 .taken (ap length e)))
 
--- src/lib.rt:23:5
 loop-holds : tie.Need-loop-holds Inv-loop μ-loop
 loop-holds c =
     tail-end _ _ (c .if1 .left)
 
--- src/lib.rt:24:9
 sub-i : tie.Need-sub-i Inv-loop μ-loop
 sub-i c = search needs
 
--- src/lib.rt:25:12
 shared-slice-read-if2 : tie.Need-shared-slice-read-if2 Inv-loop μ-loop
 shared-slice-read-if2 c = search needs
 
--- src/lib.rt:25:20
 shared-slice-read-if2-2 : tie.Need-shared-slice-read-if2-2 Inv-loop μ-loop
 shared-slice-read-if2-2 c = search needs
 
--- src/lib.rt:26:13
 returns-2 : tie.Need-returns-2 Inv-loop μ-loop
 returns-2 c =
     let g = c .before .before .before .before .before .before .args in
     sym (differ (g .a .now) (g .b .now) (λ e. c .if2 .taken (ap (λ (x : List ℕ). getD x (c .before .before .before .before .loop .i - 1) 0) e)))
 
--- src/lib.rt:23:5
 loop-less : tie.Need-loop-less Inv-loop μ-loop
 loop-less c = search needs
 
--- src/lib.rt:23:5
 loop-again : tie.Need-loop-again Inv-loop μ-loop
 loop-again c =
     tail-more _ _ _ (c .before .before .before .before .loop .inv) (c .before .before .before .loop-test .taken) (c .if2 .left)
 
--- src/lib.rt:16:1
 returns-3 : tie.Need-returns-3 Inv-loop μ-loop
 returns-3 c =
     let g = c .before .before .before .args in

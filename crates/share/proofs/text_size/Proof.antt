@@ -1,5 +1,4 @@
 -- `text_size`: the larger size stands where there is room for it.
-use native.Mathlib.Omega.{arith}
 use borrow.Author.Needs.{needs}
 use Rattle.share.proofs.SizeLaws.{exact, roomy}
 use Rattle.share.proofs.text_size.Statement.{statement}
@@ -8,16 +7,13 @@ use Rattle.share.proofs.text_size.Reads as reads
 use Rattle.share.proofs.text_size.Lts as lts
 use Rattle.share.proofs.exact_size.Reads as exact-size-reads
 
--- src/lib.rt:164:13
 returns : tie.Need-returns
 returns c =
     roomy _ _ _ (c .before .before .before .before .before .before .pre .1 .1) (c .before .if1 .taken) (c .if2 .taken)
 
--- src/lib.rt:167:5
 exact-size-requires : tie.Need-exact-size-requires
 exact-size-requires c κs = search needs
 
--- src/lib.rt:148:1
 returns-2 : tie.Need-returns-2
 returns-2 c =
     exact _ _ _ (c .exact-size .ensures)

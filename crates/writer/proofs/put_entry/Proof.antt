@@ -14,7 +14,7 @@ use Rattle.writer.proofs.put_entry.Reads as reads
 use Rattle.writer.proofs.put_entry.Lts as lts
 use Rattle.buffer.proofs.put.Reads as put-reads
 use Rattle.writer.proofs.place_of.Reads as place-of-reads
-use Rattle.writer.proofs.set_entry.Reads as set-entry-reads
+use Rattle.share.proofs.set_entry.Reads as set-entry-reads
 
 -- src/lib.rt:107:17
 cast-start : tie.Need-cast-start
@@ -161,6 +161,6 @@ put-entry-spec =
     returns)
 
 -- the text buffer is lent to one `put` of what the entry adds, before that as a shared part to be searched; neither the content nor the data buffer is lent at all
-pub put-entry-lends-on : LendsOn code.function [] 0 ("writer::place_of" ∷ "writer::set_entry" ∷ "buffer::put" ∷ [])
+pub put-entry-lends-on : LendsOn code.function [] 0 ("writer::place_of" ∷ "share::set_entry" ∷ "buffer::put" ∷ [])
 unfolding ownArrays acts touches loops calls
 put-entry-lends-on = refl

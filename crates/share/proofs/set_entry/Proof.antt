@@ -1,12 +1,12 @@
 -- `set_entry`: four stores are the four numbers over the buffer (`four-stores`).
 use native.Mathlib.Omega.{arith}
 use borrow.Author.Needs.{needs}
-use Rattle.writer.proofs.Laws.{four-stores}
+use Rattle.share.proofs.FirstLaws.{four-stores}
 use lib.ListN.{length-set}
-use Rattle.writer.proofs.set_entry.Statement.{statement}
-use Rattle.writer.proofs.set_entry.Tie as tie
-use Rattle.writer.proofs.set_entry.Reads as reads
-use Rattle.writer.proofs.set_entry.Lts as lts
+use Rattle.share.proofs.set_entry.Statement.{statement}
+use Rattle.share.proofs.set_entry.Tie as tie
+use Rattle.share.proofs.set_entry.Reads as reads
+use Rattle.share.proofs.set_entry.Lts as lts
 
 mul-numbers : tie.Need-mul-numbers
 mul-numbers c = search needs

@@ -1,0 +1,22 @@
+-- `less_size`: the larger size stands where there is room for it.
+use borrow.Author.Needs.{needs}
+use Rattle.share.proofs.SizeLaws.{exact, roomy}
+use Rattle.share.proofs.less_size.Statement.{statement}
+use Rattle.share.proofs.less_size.Tie as tie
+use Rattle.share.proofs.less_size.Reads as reads
+use Rattle.share.proofs.less_size.Lts as lts
+use Rattle.share.proofs.exact_less.Reads as exact-less-reads
+
+returns : tie.Need-returns
+returns c =
+    roomy _ _ _ (c .before .before .before .before .pre .1 .1) (c .before .if1 .taken) (c .if2 .taken)
+
+exact-less-requires : tie.Need-exact-less-requires
+exact-less-requires c κs = search needs
+
+returns-2 : tie.Need-returns-2
+returns-2 c =
+    exact _ _ _ (c .exact-less .ensures)
+
+pub less-size-spec : {M : Type 1} → statement M
+less-size-spec = tie.close (tie.spec returns exact-less-requires returns-2)
