@@ -7,6 +7,7 @@ use recording::Answer;
 use recording::Checked;
 use recording::Refusal;
 use recording_check::check;
+use share::own_size;
 use writer::Cursor;
 use writer::Settled;
 use writer::keep;
@@ -241,10 +242,11 @@ pub fn write_replaced_flat(
         return Answer::Refused(Refusal::ReplacementRange);
     }
     let d = capped_add(s.size, content.len() - s.at as usize);
+    let shared = own_size(size, texts.len(), entries, text);
     let verdict = settle(
         d,
         entries.len(),
-        size,
+        shared,
         0,
         bytes.len(),
         numbers.len(),

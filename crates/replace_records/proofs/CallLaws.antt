@@ -11,13 +11,15 @@ use Rattle.recording.specs.declared.Answer.{Answer}
 use Rattle.recording.specs.declared.Answer.the-variants.{Refused, Done}
 use Rattle.recording.specs.declared.Checked.the-variants as CV
 use Rattle.recording.specs.declared.Refusal.{Refusal}
-use Rattle.recording.specs.Recording.{Recording, recording, items, textOf}
+use Rattle.recording.specs.Recording.{Recording, recording, entriesOf, items, encode}
 use Rattle.recording.specs.Edit.{edit, editData}
 use Rattle.recording.specs.Refusals.{numberOf, firstOf, recordingFault}
 use Rattle.recording.specs.Check.{faultOf}
 use Rattle.recording.specs.Outcome.{Lent, roomIn, answerOf}
 use Rattle.recording.proofs.FaultLaws.{firstOf-zero}
 use Rattle.recording.proofs.OutcomeLaws.{first-hit, first-on, first-one}
+use Rattle.share.specs.Sizes.{ownSize, Stands}
+use Rattle.share.proofs.SizeLaws.{own-of-items, exact}
 use Rattle.writer.specs.declared.Cursor.{Cursor}
 use Rattle.writer.specs.declared.Settled.{Settled}
 use Rattle.writer.specs.declared.Settled.the-variants as S
@@ -62,7 +64,10 @@ module _ (ds ns ts new od oe ot : List ℕ) (xs : List Replacement) (s : Scan) (
   lent = lentOf od oe ot
 
   abbrev size : ℕ
-  size = length (textOf (items content))
+  size = length (encode (items content) .text)
+
+  stands : recordingFault content ≡ 0 → Stands (length ot) (ownSize ts (entriesOf ns)) size
+  stands a = exact (length ot) (ownSize ts (entriesOf ns)) size (sym (own-of-items ds ns ts a))
 
   told-of : (f : Refusal) → numberOf f ≡ recordingFault content → faultOf (CV.Refused f) ≡ recordingFault content
   unfolding faultOf
@@ -89,12 +94,12 @@ module _ (ds ns ts new od oe ot : List ℕ) (xs : List Replacement) (s : Scan) (
       kept =
           first-of-three (recordingFault content) (cond (s .bad) 8 0) sizes (numberOf f) (sym (refused-is (p .verdict) f q) ∙ by-three)
           (λ e. content-refused call ds ns ts lent (CV.Refused f) (told-of f e) f refl)
-          (λ a e. own-refused call ds ns ts lent size a refl f (sym (records-fault ds new xs s scanned) ∙ sym e))
+          (λ a e. own-refused call ds ns ts lent a f (sym (records-fault ds new xs s scanned) ∙ sym e))
           (λ a b e. by-sizes a (no-eight (s .bad) 0 b .0) (refused-is (S.Refused f) f refl ∙ e))
         where
           by-sizes : recordingFault content ≡ 0 → s .bad ≡ false → settledFault (S.Refused f) ≡ sizes → Leaves (replace xs new) content lent lent (Refused f)
           by-sizes a ok g =
-              sizes-refused call ds ns ts lent size a refl (none-bad ds new xs s scanned ok) _ 0 refl refl (S.Refused f)
+              sizes-refused call ds ns ts lent a (none-bad ds new xs s scanned ok) _ size 0 refl (stands a) refl (S.Refused f)
               (settled ds new xs s scanned ok capped-size (length ns) size (roomIn lent) refl (S.Refused f) g) f refl
 
     -- ── with room
@@ -120,7 +125,7 @@ module _ (ds ns ts new od oe ot : List ℕ) (xs : List Replacement) (s : Scan) (
           (room-is (p .verdict) q ∙ sym (sym (first-one sizes) ∙ firstOf-zero (cond (s .bad) 8 0) (sizes ∷ []) two .1))
 
       room : Fits (edit (replaceOps new 0 xs) (items content)) (blank od oe ot)
-      room = has-room call ds ns ts lent size no-fault refl good _ 0 refl refl (p .verdict) sized q
+      room = has-room call ds ns ts lent no-fault good _ size 0 refl (stands no-fault) refl (p .verdict) sized q
 
       start : State ds ns ts new xs xs (blank od oe ot) (outOf before) (p .cursor)
       unfolding out
@@ -131,7 +136,7 @@ module _ (ds ns ts new od oe ot : List ℕ) (xs : List Replacement) (s : Scan) (
       finished : (od′ oe′ ot′ : List ℕ) (c : Cursor) → out od′ oe′ ot′ c ≡ add (edit (replaceOps new 0 xs) (items content)) (blank od oe ot)
           → Leaves (replace xs new) content lent (lentOf od′ oe′ ot′) (Done (c .d) (c .e) (c .t) 0)
       unfolding number over
-      finished od′ oe′ ot′ c wrote = written call ds ns ts lent size no-fault refl good _ 0 refl refl (p .verdict) sized q 0 od′ oe′ ot′ [] c refl wrote refl
+      finished od′ oe′ ot′ c wrote = written call ds ns ts lent no-fault good _ size 0 refl (stands no-fault) refl (p .verdict) sized q 0 od′ oe′ ot′ [] c refl wrote refl
 
     -- the promise of equal answers and buffers
     moved : {a b : Answer} {od₁ oe₁ ot₁ od₂ oe₂ ot₂ : List ℕ} → a ≡ b → od₁ ≡ od₂ → oe₁ ≡ oe₂ → ot₁ ≡ ot₂

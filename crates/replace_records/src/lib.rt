@@ -10,6 +10,7 @@ use replace::Scan;
 use replace::capped_add;
 use replace::check_numbers;
 use replace::write_step;
+use share::own_size;
 use writer::Cursor;
 use writer::Settled;
 use writer::keep;
@@ -81,7 +82,8 @@ fn judge(
         return Settled::Refused(Refusal::ReplacementRange);
     }
     let d = capped_add(s.size, content.len() - s.at as usize);
-    settle(d, entries.len(), size, 0, bytes, numbers, texts, 0)
+    let shared = own_size(size, texts, entries, text);
+    settle(d, entries.len(), shared, 0, bytes, numbers, texts, 0)
 }
 
 // The state before the writing.

@@ -9,6 +9,7 @@ use recording::Answer;
 use recording::Checked;
 use recording::Refusal;
 use recording_check::check;
+use share::own_size;
 use writer::Cursor;
 use writer::Settled;
 use writer::keep;
@@ -200,7 +201,7 @@ fn tab_count(s: &[u8]) -> usize
     n
 }
 
-// Refusals 9 and 21 to 23, from e entry numbers, a text of `size` bytes and the buffers' lengths. No tab becomes more than `stop` spaces: if there is room for so many, nothing is measured.
+// Refusals 9 and 21 to 23, from e entry numbers, a text for which `size` stands, and the buffers' lengths. No tab becomes more than `stop` spaces: if there is room for so many, nothing is measured.
 fn settle_expanded(
     t: &[u16; 256],
     content: &[u8],
@@ -254,12 +255,13 @@ pub fn write_tabs_expanded(
         return Answer::Refused(Refusal::TabStop);
     }
     let t = LEADS;
+    let shared = own_size(size, texts.len(), entries, text);
     let verdict = settle_expanded(
         &t,
         content,
         stop,
         entries.len(),
-        size,
+        shared,
         bytes.len(),
         numbers.len(),
         texts.len(),

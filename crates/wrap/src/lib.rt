@@ -7,6 +7,7 @@ use line::next_line;
 use recording::Answer;
 use recording::Checked;
 use recording_check::check;
+use share::own_size;
 use wrap_lines::LINE_NUMBERS;
 use wrap_lines::count_lines;
 use wrap_lines::numbers_of;
@@ -146,7 +147,7 @@ fn most_bytes(content: &[u8], width: u32, break_words: bool) -> usize
     2 * content.len()
 }
 
-// Refusals 9 and 21 to 24 of the result, which has e entry numbers and t text bytes, in buffers of these lengths.
+// Refusals 9 and 21 to 24 of the result, which has e entry numbers and a text for which t stands, in buffers of these lengths.
 // Where the largest result has room, the lines need not be counted.
 fn settle_wrapped(
     leads: &[u16; 256],
@@ -220,13 +221,14 @@ pub fn write_wrapped(
         }
         Checked::Fine(n) => n,
     };
+    let shared = own_size(size, texts.len(), entries, text);
     let verdict = settle_wrapped(
         &t,
         content,
         width,
         break_words,
         entries.len(),
-        size,
+        shared,
         bytes.len(),
         numbers.len(),
         texts.len(),

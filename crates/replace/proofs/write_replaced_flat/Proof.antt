@@ -1,5 +1,6 @@
 -- The promise of `replace`: each refusal is found in its order, and what is sized and written is the call's edit of the content (`AloneLaws` of `outcomes`).
 -- The call's own part is what the scan of the records says (`CallLaws`).
+use native.Mathlib.Omega.{arith}
 use borrow.Author.Needs.{needs}
 use mathlib.Core.Path.{_≡_, refl}
 use mathlib.Core.Bool.{false}
@@ -10,6 +11,7 @@ use Rattle.buffer.specs.Place.{over}
 use Rattle.recording.specs.declared.Refusal.the-variants.{ReplacementRange}
 use Rattle.recording.specs.Edit.{editData}
 use Rattle.recording.specs.Outcome.{Lent, roomIn}
+use Rattle.share.proofs.SizeLaws.{own-less}
 use Rattle.writer.specs.Sizes.{sizesFault, settledFault}
 use Rattle.layout.specs.declared.Replacement.{Replacement}
 use Rattle.layout.specs.Layout.{Single, writeReplaced, singleOps, singleFault, number}
@@ -26,6 +28,7 @@ use Rattle.recording_check.proofs.check.Reads as check-reads
 use Rattle.replace.proofs.capped_add.Reads as capped-add-reads
 use Rattle.replace.proofs.check_records.Reads as check-records-reads
 use Rattle.replace.proofs.write_records.Reads as write-records-reads
+use Rattle.share.proofs.own_size.Reads as own-size-reads
 use Rattle.writer.proofs.settle.Reads as settle-reads
 
 -- ── the places on the way, and what is known there
@@ -70,10 +73,10 @@ checked c = c .before .before
 
 -- once the sizes are settled: no record was bad
 abbrev scanned : tie.After-settle → tie.After-check-records
-scanned c = c .before .before .before .before
+scanned c = c .before .before .before .before .before
 
 abbrev no-bad : (c : tie.After-settle) → scanned c .check-records .result .bad ≡ false
-no-bad c = c .before .before .before .if1 .left
+no-bad c = c .before .before .before .before .if1 .left
 
 good : (c : tie.After-settle) → singleFault (call (start (checked (scanned c)))) (ds (start (checked (scanned c)))) ≡ 0
 good c =
@@ -85,12 +88,12 @@ good c =
 sized : (c : tie.After-settle)
     → settledFault (c .settle .result)
     ≡ sizesFault (length (editData (singleOps (call (start (checked (scanned c)))) (ds (start (checked (scanned c))))) (ds (start (checked (scanned c)))))) (length (ns (start (checked (scanned c)))))
-    (size (checked (scanned c))) 0 (roomIn (lent (start (checked (scanned c)))))
+    (c .before .own-size .result) 0 (roomIn (lent (start (checked (scanned c)))))
 sized c =
     let r = scanned c in
     let s = start (checked r) in
-    let d = c .before .capped-add in
-    settled (ds s) (new s) (xs s) (r .check-records .result) (r .check-records .ensures) (no-bad c) (d .result) (length (ns s)) (size (checked r)) (roomIn (lent s)) (d .ensures)
+    let d = c .before .before .capped-add in
+    settled (ds s) (new s) (xs s) (r .check-records .result) (r .check-records .ensures) (no-bad c) (d .result) (length (ns s)) (c .before .own-size .result) (roomIn (lent s)) (d .ensures)
     (c .settle .result) (c .settle .ensures)
 
 -- ── what is asked on the way
@@ -116,7 +119,7 @@ returns-2 : tie.Need-returns-2
 returns-2 c =
     let r = c .before in
     let s = start (checked r) in
-    own-refused (call s) (ds s) (ns s) (ts s) (lent s) (size (checked r)) (fine (checked r) .passed) (fine (checked r) .text-size) ReplacementRange
+    own-refused (call s) (ds s) (ns s) (ts s) (lent s) (fine (checked r) .passed) ReplacementRange
     (some-bad (ds s) (new s) (xs s) (r .check-records .result) (r .check-records .ensures) (c .if1 .taken))
 
 cast-capped-add : tie.Need-cast-capped-add
@@ -131,6 +134,13 @@ sub-capped-add c =
 capped-add-requires : tie.Need-capped-add-requires
 capped-add-requires c κs = search needs
 
+own-size-requires : tie.Need-own-size-requires
+own-size-requires c κs =
+    let k = checked (c .before .before .before) in
+    let s = start k in
+    let f = fine k in
+    ((f .entries-short, f .own-short, f .parts), omega (arith, own-less (ds s) (ns s) (ts s) (f .passed), f .text-size))
+
 settle-requires : tie.Need-settle-requires
 settle-requires c κs = search needs
 
@@ -142,7 +152,7 @@ returns-3 c =
     let p = c .before .before .before in
     let r = scanned p in
     let s = start (checked r) in
-    sizes-refused (call s) (ds s) (ns s) (ts s) (lent s) (size (checked r)) (fine (checked r) .passed) (fine (checked r) .text-size) (good p) _ 0 refl refl (p .settle .result) (sized p)
+    sizes-refused (call s) (ds s) (ns s) (ts s) (lent s) (fine (checked r) .passed) (good p) _ _ 0 refl (p .before .own-size .ensures) refl (p .settle .result) (sized p)
     (c .before .verdict .given .0 .0) (c .before .verdict .given .1)
 
 enum-told : tie.Need-enum-told
@@ -153,7 +163,7 @@ write-records-requires c κs =
     let p = c .before .before .before .before .before in
     let r = scanned p in
     let s = start (checked r) in
-    let room = has-room (call s) (ds s) (ns s) (ts s) (lent s) (size (checked r)) (fine (checked r) .passed) (fine (checked r) .text-size) (good p) _ 0 refl refl (p .settle .result)
+    let room = has-room (call s) (ds s) (ns s) (ts s) (lent s) (fine (checked r) .passed) (good p) _ _ 0 refl (p .before .own-size .ensures) refl (p .settle .result)
     (sized p) (c .before .before .before .enum-told .given .1) in
     (fine (checked r) .whole, (good p, room))
 
@@ -174,7 +184,7 @@ returns-4 c =
     let p = t .before .before in
     let r = scanned p in
     let s = start (checked r) in
-    written (call s) (ds s) (ns s) (ts s) (lent s) (size (checked r)) (fine (checked r) .passed) (fine (checked r) .text-size) (good p) _ 0 refl refl (p .settle .result) (sized p)
+    written (call s) (ds s) (ns s) (ts s) (lent s) (fine (checked r) .passed) (good p) _ _ 0 refl (p .before .own-size .ensures) refl (p .settle .result) (sized p)
     (t .enum-told .given .1)
     0 _ _ _ _ (w .result) refl (w .ensures) refl
 
@@ -191,6 +201,7 @@ write-replaced-flat-spec =
     cast-capped-add
     sub-capped-add
     capped-add-requires
+    own-size-requires
     settle-requires
     enum-known-verdict
     returns-3

@@ -8,6 +8,7 @@ use Rattle.buffer.specs.Place.{over}
 use Rattle.chars.specs.Leads.{leadTable}
 use Rattle.recording.specs.declared.Refusal.the-variants.{TabStop}
 use Rattle.recording.specs.Outcome.{Lent}
+use Rattle.share.proofs.SizeLaws.{own-less}
 use Rattle.layout.specs.Layout.{Single, writeTabsExpanded, singleFault, number}
 use Rattle.layout.specs.Lent.{lentOf}
 use Rattle.outcomes.proofs.SecondLaws.{Fine}
@@ -18,6 +19,7 @@ use Rattle.tabs.proofs.write_tabs_expanded.Tie as tie
 use Rattle.tabs.proofs.write_tabs_expanded.Reads as reads
 use Rattle.tabs.proofs.write_tabs_expanded.Lts as lts
 use Rattle.recording_check.proofs.check.Reads as check-reads
+use Rattle.share.proofs.own_size.Reads as own-size-reads
 use Rattle.tabs.proofs.put_expanded.Reads as put-expanded-reads
 use Rattle.tabs.proofs.settle_expanded.Reads as settle-expanded-reads
 
@@ -63,8 +65,11 @@ good c =
     (low, high, stop-fine n low high)
 
 -- once the sizes are settled
+abbrev measured : tie.After-settle-expanded → tie.After-own-size
+measured c = c .before .before
+
 abbrev tested : tie.After-settle-expanded → tie.Else2
-tested c = c .before .before
+tested c = measured c .before
 
 -- ── what is asked on the way
 check-requires : tie.Need-check-requires
@@ -86,19 +91,25 @@ returns-2 : tie.Need-returns-2
 returns-2 c =
     let k = c .before .before in
     let s = start k in
-    own-refused (call s) (ds s) (ns s) (ts s) (lent s) (size k) (fine k .passed) (fine k .text-size) TabStop (stop-zero (s .args .stop) (c .if1 .taken))
+    own-refused (call s) (ds s) (ns s) (ts s) (lent s) (fine k .passed) TabStop (stop-zero (s .args .stop) (c .if1 .taken))
 
 returns-3 : tie.Need-returns-3
 returns-3 c =
     let k = c .before .before .before in
     let s = start k in
-    own-refused (call s) (ds s) (ns s) (ts s) (lent s) (size k) (fine k .passed) (fine k .text-size) TabStop (stop-over (s .args .stop) (omega (arith, c .if2 .taken)))
+    own-refused (call s) (ds s) (ns s) (ts s) (lent s) (fine k .passed) TabStop (stop-over (s .args .stop) (omega (arith, c .if2 .taken)))
+
+own-size-requires : tie.Need-own-size-requires
+own-size-requires c κs =
+    let s = start (checked c) in
+    let f = fine (checked c) in
+    ((f .entries-short, f .own-short, f .parts), omega (arith, own-less (ds s) (ns s) (ts s) (f .passed), f .text-size))
 
 settle-expanded-requires : tie.Need-settle-expanded-requires
 unfolding leadTable
 settle-expanded-requires c κs =
-    let k = checked (c .before) in
-    let g = good (c .before) in
+    let k = checked (c .before .before) in
+    let g = good (c .before .before) in
     (refl, (g .0, g .1, fine k .whole .short))
 
 enum-known-verdict : tie.Need-enum-known-verdict
@@ -109,7 +120,7 @@ returns-4 c =
     let p = c .before .before .before in
     let k = checked (tested p) in
     let s = start k in
-    sizes-refused (call s) (ds s) (ns s) (ts s) (lent s) (size k) (fine k .passed) (fine k .text-size) (good (tested p) .2) _ 0 refl refl (p .settle-expanded .result) (p .settle-expanded .ensures)
+    sizes-refused (call s) (ds s) (ns s) (ts s) (lent s) (fine k .passed) (good (tested p) .2) _ _ 0 refl (measured p .own-size .ensures) refl (p .settle-expanded .result) (p .settle-expanded .ensures)
     (c .before .verdict .given .0 .0) (c .before .verdict .given .1)
 
 enum-told : tie.Need-enum-told
@@ -131,7 +142,7 @@ put-expanded-requires c κs =
     let k = checked (tested p) in
     let s = start k in
     let g = good (tested p) in
-    let room = has-room (call s) (ds s) (ns s) (ts s) (lent s) (size k) (fine k .passed) (fine k .text-size) (good (tested p) .2) _ 0 refl refl (p .settle-expanded .result) (p .settle-expanded .ensures)
+    let room = has-room (call s) (ds s) (ns s) (ts s) (lent s) (fine k .passed) (good (tested p) .2) _ _ 0 refl (measured p .own-size .ensures) refl (p .settle-expanded .result) (p .settle-expanded .ensures)
     (c .before .before .before .before .before .before .enum-told .given .1) in
     ((refl, refl, fine k .whole), ((g .0, g .1), room))
 
@@ -151,7 +162,7 @@ returns-5 c =
     let p = c .before .before .before .before .before .before .before .before .before .before .before .before .before .before .before in
     let k = checked (tested p) in
     let s = start k in
-    written (call s) (ds s) (ns s) (ts s) (lent s) (size k) (fine k .passed) (fine k .text-size) (good (tested p) .2) _ 0 refl refl (p .settle-expanded .result) (p .settle-expanded .ensures)
+    written (call s) (ds s) (ns s) (ts s) (lent s) (fine k .passed) (good (tested p) .2) _ _ 0 refl (measured p .own-size .ensures) refl (p .settle-expanded .result) (p .settle-expanded .ensures)
     (c .before .before .before .before .before .before .before .before .before .before .before .before .before .enum-told .given .1)
     0 _ _ _ _ (w .result) refl (w .ensures) refl
 
@@ -165,6 +176,7 @@ write-tabs-expanded-spec =
     enum-known-checked-2
     returns-2
     returns-3
+    own-size-requires
     settle-expanded-requires
     enum-known-verdict
     returns-4
