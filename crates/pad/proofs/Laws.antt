@@ -74,12 +74,12 @@ copies-bytes zero p = refl
 copies-bytes (suc n) p = ap (λ (l : List Item). byteItems p ++ l) (copies-bytes n p) ∙ sym (bytes-append p (repeated n p))
 
 -- ── once a side
-pub once-none : (n x : ℕ) → n ≡ 0 → 0 ≡ onceIf n x
+pub once-none : (n : ℕ) → n ≡ 0 → 0 ≡ onceIf n
 unfolding onceIf
-once-none zero x h = refl
-once-none (suc n) x h = absurd (omega arith)
+once-none zero h = refl
+once-none (suc n) h = absurd (omega arith)
 
-pub once-more : (n x : ℕ) → 0 < n → x ≡ onceIf n x
+pub once-more : (n : ℕ) → 0 < n → 1 ≡ onceIf n
 unfolding onceIf
-once-more zero x h = absurd (omega arith)
-once-more (suc n) x h = refl
+once-more zero h = absurd (omega arith)
+once-more (suc n) h = refl

@@ -1,21 +1,22 @@
 -- The loop over the fill's entries: a turn writes the piece up to the next entry n times and the entry, the end writes the last piece n times.
 -- The idea: `State` says what is done, and that what is left of the fill, its pieces repeated, gives the rest of the padding.
 use mathlib.Core.Path.{_≡_, refl, sym, ap, _∙_}
-use mathlib.Core.Bool.{false}
+use mathlib.Core.Bool.{true, false}
 use mathlib.Core.List.{List, [], _∷_, _++_, append-assoc, append-nil}
 use Prim.Native.Nat.{ℕ, zero, suc, _+_, _-_, _≤_, _<_}
 use native.Mathlib.Omega.{arith}
-use lib.ListN.{length, drop, length-drop}
+use lib.ListN.{length, take, drop, length-drop}
 use Rattle.buffer.specs.Place.{overAt, part}
 use Rattle.recording.specs.declared.Entry.{Entry}
-use Rattle.recording.specs.Recording.{recording, entriesOf, numbersOf, Item, byte, push, pop, raw, byteItems, itemsFrom, items, textOf, entriesFrom}
+use Rattle.recording.specs.Recording.{recording, entriesOf, Item, byte, push, pop, raw, byteItems, itemsFrom, items}
 use Rattle.recording.specs.Refusals.{badShape}
 use Rattle.recording.proofs.ItemsLaws.{data-bytes, data-itemsFrom}
 use Rattle.recording.proofs.SizeLaws.{IsEntry}
+use Rattle.share.specs.Placed.{placedFrom}
 use Rattle.writer.specs.declared.Cursor.{Cursor}
-use Rattle.writer.specs.Write.{Out, out, add, Fits, Valid, Sound, Ready, left, placeOf, itemAt}
+use Rattle.writer.specs.Write.{Out, out, add, Fits, numbersFor, textFor, Valid, Sound, Ready, left, placeOf, itemAt}
 use Rattle.writer.proofs.Laws.{fits-left, fits-right, add-append, add-long, Long}
-use Rattle.writer.proofs.Carry.{valid-in, whole-entry, EntryItem, is-entry, TurnRoom, room-turn, turn-wrote, bytes-wrote, add-nil, restAfter, left-turn, front-stop, placed}
+use Rattle.writer.proofs.Carry.{valid-in, whole-entry, EntryItem, is-entry, TurnRoom, room-turn, same-room, turn-wrote, bytes-wrote, add-nil, restAfter, left-turn, front-stop, placed}
 use Rattle.writer.proofs.Steps.{front-all, left-start, ready-start}
 use Rattle.layout.specs.Layout.{copies, repeatPieces, padding}
 use Rattle.layout.proofs.PadLaws.{repeat-bytes}
@@ -99,8 +100,8 @@ module _ (n : ℕ) (ds ns ts : List ℕ) (o₀ o : Out) (c : Cursor) (p : ℕ) (
       unfolding Valid
       ok = rw q at (s .ready .valid)
 
-      pub entry-is : EntryItem (itemAt ts e) (e .len)
-      entry-is = is-entry ts e (ok .1) (ok .2)
+      pub entry-is : EntryItem (itemAt ts e)
+      entry-is = is-entry ts e
 
       abbrev piece : List ℕ
       piece = repeated n (part (c .at) (e .position) ds)
@@ -175,16 +176,16 @@ module _ (n : ℕ) (ds ns ts : List ℕ) (od₀ oe₀ ot₀ od oe ot : List ℕ)
       fine : (c .at ≤ e .position) × (badShape (e .kind) (e .start) (e .len) ≡ false) × (e .start + e .len ≤ length ts) × Valid (e .position) (length ds) (length ts) (entriesOf (drop (c .k + 4) ns))
       fine = ok n ds ns ts (out od₀ oe₀ ot₀ c₀) (out od oe ot c) c p s room more e q
 
-      item : EntryItem (itemAt ts e) (e .len)
+      item : EntryItem (itemAt ts e)
       item = entry-is n ds ns ts (out od₀ oe₀ ot₀ c₀) (out od oe ot c) c p s room more e q
 
       there : repeated n (part (c .at) (e .position) ds) ≡ repeated n (part (c .at) p ds)
       there = ap (λ (m : ℕ). repeated n (part (c .at) m ds)) (sym place)
 
-      roomy : TurnRoom od oe ot c (length (repeated n (part (c .at) p ds))) (e .len)
+      roomy : TurnRoom od oe ot c (length (repeated n (part (c .at) p ds))) (length (textFor (c .d + length (repeated n (part (c .at) p ds))) oe ot c (itemAt ts e)))
       roomy =
           rw there at
-          (room-turn od oe ot (repeated n (part (c .at) (e .position) ds)) c (itemAt ts e) (e .len) item
+          (room-turn od oe ot (repeated n (part (c .at) (e .position) ds)) c (itemAt ts e) item
           (fits-turn n ds ns ts (out od₀ oe₀ ot₀ c₀) (out od oe ot c) c p s room more e q))
 
       pub times-asked : (c .at ≤ p) × (p ≤ length ds) × (c .d + length (repeated n (part (c .at) p ds)) ≤ length od)
@@ -193,23 +194,35 @@ module _ (n : ℕ) (ds ns ts : List ℕ) (od₀ oe₀ ot₀ od oe ot : List ℕ)
       pub entry-asked : (c₁ : Cursor) → (c₁ .at ≡ c .at) × (c₁ .k ≡ c .k) × (c₁ .d ≡ c .d + length (repeated n (part (c .at) p ds))) × (c₁ .e ≡ c .e) × (c₁ .t ≡ c .t)
           → length ns ≤ 18446744073709551615
           → (badShape (e .kind) (e .start) (e .len) ≡ false) × ((e .start + e .len ≤ length ts)
-          × (((c₁ .e + 4 ≤ length oe) × (c₁ .t + e .len ≤ length ot)) × ((c₁ .d ≤ 1048576) × (c₁ .t ≤ 65536) × (c₁ .k + 4 ≤ 18446744073709551615))))
+          × (((c₁ .e + 4 ≤ length oe) × (c₁ .t + length (textFor (c₁ .d) oe ot c₁ (itemAt ts e)) ≤ length ot))
+          × (((c₁ .d ≤ 1048576) × (c₁ .t ≤ 65536) × (c₁ .k + 4 ≤ 18446744073709551615)) × (placedFrom 0 [] (entriesOf (take (c₁ .e) oe)) ≡ true))))
       entry-asked c₁ f big =
           let r = roomy in
-          let fits : (c₁ .e + 4 ≤ length oe) × (c₁ .t + e .len ≤ length ot) = (omega (arith, f .3, r .entryNumbers), omega (arith, f .4, r .text)) in
-          (fine .1, (fine .2, (fits, (omega (arith, f .2, r .data-limit), omega (arith, f .4, r .text-limit), omega (arith, f .1, entire, big)))))
+          let m = same-room oe ot c c₁ (c .d + length (repeated n (part (c .at) p ds))) (itemAt ts e) (f .2) (f .3) (f .4) in (
+            fine .1,
+            (
+              fine .2,
+              (
+                (omega (arith, f .3, r .entryNumbers), omega (arith, f .4, r .text, m)),
+                (
+                  (omega (arith, f .2, r .data-limit), omega (arith, f .4, r .text-limit), omega (arith, f .1, entire, big)),
+                  ap (λ (j : ℕ). placedFrom 0 [] (entriesOf (take j oe))) (f .3) ∙ r .placed,
+                ),
+              ),
+            ),
+          )
 
       pub turned : (od′ oe′ ot′ : List ℕ) (c₁ c₂ : Cursor) (p′ : ℕ)
           → od′ ≡ overAt (c .d) (repeated n (part (c .at) p ds)) od
           → (c₁ .at ≡ c .at) × (c₁ .k ≡ c .k) × (c₁ .d ≡ c .d + length (repeated n (part (c .at) p ds))) × (c₁ .e ≡ c .e) × (c₁ .t ≡ c .t)
-          → (c₂ .at ≡ e .position) × (c₂ .k ≡ c₁ .k + 4) × (c₂ .d ≡ c₁ .d) × (c₂ .e ≡ c₁ .e + 4) × (c₂ .t ≡ c₁ .t + e .len)
-          → oe′ ≡ overAt (c₁ .e) (numbersOf (entriesFrom (c₁ .d) (c₁ .t) (itemAt ts e ∷ []))) oe
-          → ot′ ≡ overAt (c₁ .t) (textOf (itemAt ts e ∷ [])) ot
+          → (c₂ .at ≡ e .position) × (c₂ .k ≡ c₁ .k + 4) × (c₂ .d ≡ c₁ .d) × (c₂ .e ≡ c₁ .e + 4) × (c₂ .t ≡ c₁ .t + length (textFor (c₁ .d) oe ot c₁ (itemAt ts e)))
+          → oe′ ≡ overAt (c₁ .e) (numbersFor (c₁ .d) oe ot c₁ (itemAt ts e)) oe
+          → ot′ ≡ overAt (c₁ .t) (textFor (c₁ .d) oe ot c₁ (itemAt ts e)) ot
           → p′ ≡ placeOf (entriesOf (drop (c₂ .k) ns))
           → State n ds ns ts (out od₀ oe₀ ot₀ c₀) (out od′ oe′ ot′ c₂) c₂ p′
       turned od′ oe′ ot′ c₁ c₂ p′ ed q₁ q₂ ee et ep =
           step n ds ns ts (out od₀ oe₀ ot₀ c₀) (out od oe ot c) c p s room more e q (out od′ oe′ ot′ c₂) c₂ p′
-          (turn-wrote od od′ oe oe′ ot ot′ (repeated n (part (c .at) (e .position) ds)) c c₁ c₂ (itemAt ts e) (e .len) item
+          (turn-wrote od od′ oe oe′ ot ot′ (repeated n (part (c .at) (e .position) ds)) c c₁ c₂ (itemAt ts e) item
           (ed ∙ ap (λ (l : List ℕ). overAt (c .d) l od) (sym there)) (q₁ .2 ∙ ap (λ (l : List ℕ). c .d + length l) (sym there)) (q₁ .3) (q₁ .4) ee et (q₂ .2) (q₂ .3) (q₂ .4))
           (q₂ .0) (q₂ .1 ∙ ap (λ (m : ℕ). m + 4) (q₁ .1)) ep
 

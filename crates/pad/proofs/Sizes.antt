@@ -1,21 +1,23 @@
--- How much padding writes: n times the fill's bytes, its entries and texts once a side; and that this is what the three calls leave (`padded-measured`).
+-- How much padding writes: n times the fill's bytes, its entries once a side; and that this is what the three calls leave (`padded-measured`).
 use mathlib.Core.Path.{_≡_, refl, sym, ap, _∙_}
 use mathlib.Core.List.{List, [], _∷_, _++_, append-nil}
 use Prim.Native.Nat.{ℕ, zero, suc, _+_, _-_, _*_, _≤_}
-use native.Mathlib.Nat.{zero-mul, suc-mul, mul-add, add-mul}
+use native.Mathlib.Nat.{zero-mul, one-mul, suc-mul, mul-add, add-mul}
 use native.Mathlib.Omega.{arith}
 use lib.ListN.{length, length-append}
 use Rattle.recording.specs.declared.TextSizes.{TextSizes}
-use Rattle.recording.specs.Recording.{Recording, Item, byte, push, pop, raw, byteItems, items, dataOf, textOf}
+use Rattle.recording.specs.Recording.{Recording, entriesOf, Item, byte, push, pop, raw, byteItems, items, dataOf}
+use Rattle.recording.specs.Share.{sumOf, rawLen, pushOf}
 use Rattle.recording.proofs.ItemsLaws.{data-bytes}
-use Rattle.recording.proofs.SizeLaws.{text-append, entryCount, count-append}
-use Rattle.recording.proofs.CheckLaws.{text-none}
+use Rattle.recording.proofs.SizeLaws.{entryCount, count-append}
+use Rattle.recording.proofs.ShareLaws.{sum-append}
+use Rattle.share.specs.Sizes.{textSize, Stands}
 use Rattle.writer.specs.Write.{Out, add, Fits}
-use Rattle.writer.proofs.Laws.{text-size, data-size}
+use Rattle.writer.proofs.Laws.{data-size}
 use Rattle.writer.proofs.Steps.{fits-first, fits-then, then}
 use Rattle.writer.proofs.Carry.{count-none}
 use Rattle.layout.specs.Layout.{copies, repeatPieces, padding, fillCount, Kind, withSecond, resultItems, kindFault}
-use Rattle.outcomes.proofs.SecondLaws.{Given, content, second, BothFine, Measured}
+use Rattle.outcomes.proofs.SecondLaws.{Given, content, second, BothFine, Shares, Measured}
 use Rattle.pad.specs.declared.Side.{Side}
 use Rattle.pad.specs.declared.Side.the-variants.{Start, End, Centered}
 use Rattle.pad.specs.Padding.{repeated, onceIf, sides, leftOf, kindOf}
@@ -26,12 +28,6 @@ data-copies : (n : ℕ) (q : List ℕ) → length (dataOf (copies n q)) ≡ n * 
 data-copies zero q = sym (zero-mul (length q))
 data-copies (suc n) q =
     omega (arith, data-size (byteItems q) (copies n q), ap length (data-bytes q), data-copies n q, suc-mul n (length q))
-
-count-copies : (n : ℕ) (q : List ℕ) → entryCount (copies n q) ≡ 0
-count-copies n q = ap entryCount (copies-bytes n q) ∙ count-none (repeated n q)
-
-text-copies : (n : ℕ) (q : List ℕ) → textOf (copies n q) ≡ []
-text-copies n q = ap textOf (copies-bytes n q) ∙ text-none (repeated n q)
 
 -- a piece ends at an entry: what comes after it is repeated by itself
 data-entry : (n m k : ℕ) (q : List ℕ) (r : List Item) → k ≡ n * m → length (dataOf r) ≡ k → length (dataOf (copies n q ++ r)) ≡ n * (length q + m)
@@ -46,34 +42,42 @@ data-repeated n q (push l ∷ is) = data-entry n (length (dataOf is)) (n * lengt
 data-repeated n q (pop ∷ is) = data-entry n (length (dataOf is)) (n * length (dataOf is)) q (pop ∷ repeatPieces n [] is) refl (data-repeated n [] is ∙ ap (λ (m : ℕ). n * m) (omega arith))
 data-repeated n q (raw t ∷ is) = data-entry n (length (dataOf is)) (n * length (dataOf is)) q (raw t ∷ repeatPieces n [] is) refl (data-repeated n [] is ∙ ap (λ (m : ℕ). n * m) (omega arith))
 
-count-repeated : (n : ℕ) (q : List ℕ) (is : List Item) → entryCount (repeatPieces n q is) ≡ entryCount is
-count-repeated n q [] = count-copies n q
-count-repeated n q (byte b ∷ is) = count-repeated n (q ++ (b ∷ [])) is
-count-repeated n q (push l ∷ is) = omega (arith, count-append (copies n q) (push l ∷ repeatPieces n [] is), count-copies n q, count-repeated n [] is)
-count-repeated n q (pop ∷ is) = omega (arith, count-append (copies n q) (pop ∷ repeatPieces n [] is), count-copies n q, count-repeated n [] is)
-count-repeated n q (raw t ∷ is) = omega (arith, count-append (copies n q) (raw t ∷ repeatPieces n [] is), count-copies n q, count-repeated n [] is)
-
-text-repeated : (n : ℕ) (q : List ℕ) (is : List Item) → textOf (repeatPieces n q is) ≡ textOf is
-text-repeated n q [] = text-copies n q
-text-repeated n q (byte b ∷ is) = text-repeated n (q ++ (b ∷ [])) is
-text-repeated n q (push l ∷ is) = text-append (copies n q) (push l ∷ repeatPieces n [] is) ∙ rw (text-copies n q, text-repeated n [] is)
-text-repeated n q (pop ∷ is) = text-append (copies n q) (pop ∷ repeatPieces n [] is) ∙ rw (text-copies n q, text-repeated n [] is)
-text-repeated n q (raw t ∷ is) = text-append (copies n q) (raw t ∷ repeatPieces n [] is) ∙ rw (text-copies n q, text-repeated n [] is)
-
 -- ── one padding
 padding-data : (n : ℕ) (f : List Item) → length (dataOf (padding n f)) ≡ n * length (dataOf f)
 padding-data zero f = sym (zero-mul (length (dataOf f)))
 padding-data (suc n) f = data-repeated (suc n) [] f ∙ ap (λ (m : ℕ). suc n * m) (omega arith)
 
-padding-count : (n x : ℕ) (f : List Item) → x ≡ 4 * entryCount f → onceIf n x ≡ 4 * entryCount (padding n f)
-unfolding onceIf
-padding-count zero x f h = refl
-padding-count (suc n) x f h = omega (arith, h, count-repeated (suc n) [] f)
+-- ── entries come once a side; `size` counts them, their raw sequences or the pushes of a label, and no bytes
+module _ (size : List Item → ℕ) (size-append : (a b : List Item) → size (a ++ b) ≡ size a + size b) (size-bytes : (q : List ℕ) → size (byteItems q) ≡ 0) where
+  size-copies : (n : ℕ) (q : List ℕ) → size (copies n q) ≡ 0
+  size-copies n q = ap size (copies-bytes n q) ∙ size-bytes (repeated n q)
 
-padding-text : (n x : ℕ) (f : List Item) → x ≡ length (textOf f) → onceIf n x ≡ length (textOf (padding n f))
-unfolding onceIf
-padding-text zero x f h = refl
-padding-text (suc n) x f h = h ∙ ap length (sym (text-repeated (suc n) [] f))
+  size-entry : (n : ℕ) (q : List ℕ) (x : Item) (r is : List Item) → size r ≡ size is → size (copies n q ++ (x ∷ r)) ≡ size (x ∷ is)
+  size-entry n q x r is h = omega (arith, size-append (copies n q) (x ∷ r), size-copies n q, size-append (x ∷ []) r, size-append (x ∷ []) is, h)
+
+  size-repeated : (n : ℕ) (q : List ℕ) (is : List Item) → size (repeatPieces n q is) ≡ size is
+  size-repeated n q [] = size-copies n q ∙ sym (size-bytes [])
+  size-repeated n q (byte b ∷ is) = omega (arith, size-repeated n (q ++ (b ∷ [])) is, size-append (byte b ∷ []) is, size-bytes (b ∷ []))
+  size-repeated n q (push l ∷ is) = size-entry n q (push l) (repeatPieces n [] is) is (size-repeated n [] is)
+  size-repeated n q (pop ∷ is) = size-entry n q pop (repeatPieces n [] is) is (size-repeated n [] is)
+  size-repeated n q (raw t ∷ is) = size-entry n q (raw t) (repeatPieces n [] is) is (size-repeated n [] is)
+
+  padding-size : (n : ℕ) (f : List Item) → size (padding n f) ≡ onceIf n * size f
+  unfolding onceIf
+  padding-size zero f = size-bytes [] ∙ sym (zero-mul (size f))
+  padding-size (suc n) f = size-repeated (suc n) [] f ∙ sym (one-mul (size f))
+
+  sides-size : (l r : ℕ) (f is : List Item) → size (sides l r f is) ≡ size is + (onceIf l + onceIf r) * size f
+  unfolding sides
+  sides-size l r f is =
+      omega (arith, size-append (padding l f) (is ++ padding r f), size-append is (padding r f), padding-size l f, padding-size r f, add-mul (onceIf l) (onceIf r) (size f))
+
+numbers-append : (a b : List Item) → 4 * entryCount (a ++ b) ≡ 4 * entryCount a + 4 * entryCount b
+numbers-append a b = omega (arith, count-append a b)
+
+sum-bytes : (m : Item → ℕ) → ((b : ℕ) → m (byte b) ≡ 0) → (q : List ℕ) → sumOf m (byteItems q) ≡ 0
+sum-bytes m none [] = refl
+sum-bytes m none (b ∷ q) = omega (arith, none b, sum-bytes m none q)
 
 -- ── three steps write both sides
 module _ (l r : ℕ) (f is : List Item) (o : Out) (fits : Fits (sides l r f is) o) where
@@ -144,28 +148,30 @@ module _ (x : Given) (n : TextSizes) (fine : BothFine x n) (k l : ℕ) (le : l �
       let s : k * length (x .fs) ≡ l * length (dataOf fill) + (k - l) * length (dataOf fill) = (λ i. sym e i * fine .1 .data-size i) ∙ add-mul l (k - l) (length (dataOf fill)) in
       omega (arith, s, fine .0 .data-size, data-size before (is ++ behind), data-size is behind, padding-data l fill, padding-data (k - l) fill)
 
-  sides-entries : (e₁ e₂ : ℕ) → e₁ ≡ onceIf l (length (x .gs)) → e₂ ≡ onceIf (k - l) (length (x .gs)) → (length (x .ns) + e₁) + e₂ ≡ 4 * entryCount all
-  unfolding sides
-  sides-entries e₁ e₂ h₁ h₂ =
-      let once : (j : ℕ) → onceIf j (length (x .gs)) ≡ 4 * entryCount (padding j fill) = λ j. padding-count j (length (x .gs)) fill (fine .1 .entry-size) in
-      omega (arith, h₁, h₂, fine .0 .entry-size, count-append before (is ++ behind), count-append is behind, once l, once (k - l))
+  -- what the entries take, where the fill's come m times
+  module _ (m : ℕ) (em : m ≡ onceIf l + onceIf (k - l)) where
+    sides-entries : length (x .ns) + m * length (x .gs) ≡ 4 * entryCount all
+    sides-entries =
+        (λ i. fine .0 .entry-size i + em i * fine .1 .entry-size i)
+        ∙ sym (sides-size (λ (y : List Item). 4 * entryCount y) numbers-append (λ q. ap (λ (j : ℕ). 4 * j) (count-none q)) l (k - l) fill is)
 
-  sides-text : (t₁ t₂ : ℕ) → t₁ ≡ onceIf l (n .second) → t₂ ≡ onceIf (k - l) (n .second) → (n .content + t₁) + t₂ ≡ length (textOf all)
-  unfolding sides
-  sides-text t₁ t₂ h₁ h₂ =
-      let once : (j : ℕ) → onceIf j (n .second) ≡ length (textOf (padding j fill)) = λ j. padding-text j (n .second) fill (fine .1 .text-size) in
-      omega (arith, h₁, h₂, fine .0 .text-size, text-size before (is ++ behind), text-size is behind, once l, once (k - l))
+    sides-shares : Shares all is fill m
+    sides-shares =
+        let sums : (s : Item → ℕ) → ((b : ℕ) → s (byte b) ≡ 0) → sumOf s all ≡ sumOf s is + m * sumOf s fill =
+        λ s none. sides-size (sumOf s) (sum-append s) (sum-bytes s none) l (k - l) fill is ∙ ap (λ (j : ℕ). sumOf s is + j * sumOf s fill) (sym em) in
+        record { raws = sums rawLen (λ b. refl); labels = λ y. sums (pushOf y) (λ b. refl) }
 
-  pub padded-measured : (s : Side) → x .kind ≡ kindOf s → k ≡ fillCount (x .width) (x .ds) → l ≡ leftOf s k
-      → (e₁ e₂ t₁ t₂ : ℕ) → e₁ ≡ onceIf l (length (x .gs)) → e₂ ≡ onceIf (k - l) (length (x .gs)) → t₁ ≡ onceIf l (n .second) → t₂ ≡ onceIf (k - l) (n .second)
-      → Measured x all (length (x .ds) + k * length (x .fs)) ((length (x .ns) + e₁) + e₂) ((n .content + t₁) + t₂)
-  padded-measured s ek en el e₁ e₂ t₁ t₂ h₁ h₂ h₃ h₄ =
-      record {
-        own = ap (λ (j : Kind). kindFault j (x .fs) (x .ds)) ek ∙ no-own s (x .fs) (x .ds);
-        leaves =
-            ap (λ (j : Kind). resultItems (withSecond j (x .width) (second x)) (content x)) ek ∙ sided s (x .width) (second x) (content x)
-            ∙ ap (λ (m : ℕ). sides (leftOf s m) (m - leftOf s m) fill is) (sym en) ∙ ap (λ (m : ℕ). sides m (k - m) fill is) (sym el);
-        data-size = sides-data;
-        entry-size = sides-entries e₁ e₂ h₁ h₂;
-        text-size = sides-text t₁ t₂ h₃ h₄;
-      }
+    pub padded-measured : (s : Side) → x .kind ≡ kindOf s → k ≡ fillCount (x .width) (x .ds) → l ≡ leftOf s k
+        → (t : ℕ) → Stands (length (x .ot)) (textSize (x .ts) (entriesOf (x .ns)) (x .us) (entriesOf (x .gs)) m) t
+        → Measured x m all (length (x .ds) + k * length (x .fs)) (length (x .ns) + m * length (x .gs)) t
+    padded-measured s ek en el t h =
+        record {
+          own = ap (λ (j : Kind). kindFault j (x .fs) (x .ds)) ek ∙ no-own s (x .fs) (x .ds);
+          leaves =
+              ap (λ (j : Kind). resultItems (withSecond j (x .width) (second x)) (content x)) ek ∙ sided s (x .width) (second x) (content x)
+              ∙ ap (λ (j : ℕ). sides (leftOf s j) (j - leftOf s j) fill is) (sym en) ∙ ap (λ (j : ℕ). sides j (k - j) fill is) (sym el);
+          data-size = sides-data;
+          entry-size = sides-entries;
+          shares = sides-shares;
+          text-size = h;
+        }

@@ -1,4 +1,4 @@
--- Padding as the code does it: the bytes of a piece n times over, what is written once a side, and the three calls as one with a side.
+-- Padding as the code does it: the bytes of a piece n times over, the entries once a side, and the three calls as one with a side.
 use Prim.Native.Nat.{ℕ, zero, suc, _/_}
 use mathlib.Core.List.{List, [], _++_}
 use Rattle.recording.specs.Recording.{Item}
@@ -11,10 +11,10 @@ unfoldable pub repeated : ℕ → List ℕ → List ℕ
 repeated zero p = []
 repeated (suc n) p = p ++ repeated n p
 
--- what is written once a side: nothing at count 0
-unfoldable pub onceIf : ℕ → ℕ → ℕ
-onceIf zero x = 0
-onceIf (suc n) x = x
+-- how often a side has the fill's entries: not at all at count 0
+unfoldable pub onceIf : ℕ → ℕ
+onceIf zero = 0
+onceIf (suc n) = 1
 
 -- the content between l and r times the fill
 unfoldable pub sides : ℕ → ℕ → List Item → List Item → List Item

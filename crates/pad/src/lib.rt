@@ -9,6 +9,7 @@ use recording::Answer;
 use recording::CheckedBoth;
 use recording::entry_at;
 use recording_check::check_both;
+use share::text_size;
 use writer::Cursor;
 use writer::Settled;
 use writer::place_at;
@@ -16,9 +17,8 @@ use writer::put_entry;
 use writer::put_recording;
 use writer::settle;
 ghost use mathlib.Core.Path.{_≡_};
-ghost use Prim.Native.Nat.{_+_, _-_, _*_, _≤_, _<_};
+ghost use Prim.Native.Nat.{_+_, _≤_};
 ghost use Rattle.chars.specs.Leads.{leadTable};
-ghost use mathlib.Core.List.{[], _∷_};
 ghost use lib.ListN.{length};
 ghost use Rattle.buffer.specs.Place.{overAt, part};
 ghost use Rattle.recording.specs.Recording.{recording, items};
@@ -142,14 +142,14 @@ fn left_count(side: Side, n: usize) -> usize
     }
 }
 
-// What a side with `count` times the fill takes of x, which is written once.
-fn once_if(count: usize, x: usize) -> usize
-    ensures { λ r. ⌜ (r ≡ onceIf count x) × (r ≤ x) ⌝ }
+// How often a side with `count` times the fill has the fill's entries.
+fn once_if(count: usize) -> usize
+    ensures { λ r. ⌜ (r ≡ onceIf count) × (r ≤ 1) ⌝ }
 {
     if count == 0 {
         return 0;
     }
-    x
+    1
 }
 
 // Writes the content between `left` and `right` times the fill.
@@ -203,7 +203,7 @@ fn put_padded(
     )
 }
 
-// The three calls. The sizes come first, as exact products: nothing is written and no count is walked before they are granted.
+// The three calls. The sizes come first, by products: nothing is written and no count is walked before they are granted.
 fn write_padded(
     content: &[u8],
     entries: &[u32],
@@ -232,10 +232,20 @@ fn write_padded(
     let count = fill_count(&t, content, min_width);
     let left = left_count(side, count);
     let right = count - left;
+    let times = once_if(left) + once_if(right);
+    let shared = text_size(
+        sizes.content + times * sizes.second,
+        texts.len(),
+        entries,
+        text,
+        fill_entries,
+        fill_text,
+        times,
+    );
     let verdict = settle(
         content.len() + count * fill.len(),
-        entries.len() + once_if(left, fill_entries.len()) + once_if(right, fill_entries.len()),
-        sizes.content + once_if(left, sizes.second) + once_if(right, sizes.second),
+        entries.len() + times * fill_entries.len(),
+        shared,
         0,
         bytes.len(),
         numbers.len(),

@@ -7,13 +7,15 @@ use native.Mathlib.Omega.{arith}
 use lib.Dec.{ltb}
 use lib.ListN.{length, length-append}
 use Rattle.chars.specs.Chars.{textWidth}
-use Rattle.recording.specs.Recording.{Recording, recording, Item, items, dataOf, textOf}
+use Rattle.recording.specs.Recording.{Recording, recording, entriesOf, Item, byte, items, dataOf}
+use Rattle.recording.specs.Share.{sumOf, rawLen, pushOf}
 use Rattle.recording.specs.Edit.{edit}
 use Rattle.recording.proofs.EditLaws.{data-append}
-use Rattle.recording.proofs.SizeLaws.{entryCount, count-append, edit-count, edit-text}
-use Rattle.writer.proofs.Laws.{text-size}
+use Rattle.recording.proofs.SizeLaws.{entryCount, count-append, edit-count}
+use Rattle.recording.proofs.ShareLaws.{sum-append, edit-sum}
+use Rattle.share.specs.Sizes.{textSize, Stands}
 use Rattle.recording.specs.declared.TextSizes.{TextSizes}
-use Rattle.outcomes.proofs.SecondLaws.{Fine, Given, content, second, BothFine, Measured}
+use Rattle.outcomes.proofs.SecondLaws.{Fine, Given, content, second, BothFine, texts-less, Shares, Measured}
 use Rattle.layout.specs.Layout.{Kind, writeTruncatedStart, writeTruncatedEnd, withSecond, cutEnd, cutStart, truncateEnd, truncateStart, resultItems, number, kindFault}
 use Rattle.truncate_plan.specs.declared.Plan.{Plan}
 use Rattle.truncate_plan.specs.Plan.{planEnd, planStart}
@@ -87,15 +89,47 @@ module _ (max : ℕ) (ds es : List ℕ) (p : Plan) where
       ap (λ (x : Plan). x .ellipsis) u
 
 -- ── sizes
-count-if : (t : Bool) (x z : List Item) (a b : ℕ) → 4 * entryCount x ≡ a + b → 4 * entryCount z ≡ a → plusIf t a b ≡ 4 * entryCount (cond t x z)
+size-if : (s : List Item → ℕ) (t : Bool) (x z : List Item) (a b : ℕ) → s x ≡ a + b → s z ≡ a → plusIf t a b ≡ s (cond t x z)
 unfolding plusIf
-count-if true x z a b e f = sym e
-count-if false x z a b e f = sym f
+size-if s true x z a b e f = sym e
+size-if s false x z a b e f = sym f
 
-text-if : (t : Bool) (x z : List Item) (a b : ℕ) → length (textOf x) ≡ a + b → length (textOf z) ≡ a → plusIf t a b ≡ length (textOf (cond t x z))
+-- b more if so, as b times 1 or 0
+plus-times : (t : Bool) (a b : ℕ) → plusIf t a b ≡ a + plusIf t 0 1 * b
 unfolding plusIf
-text-if true x z a b e f = sym e
-text-if false x z a b e f = sym f
+plus-times true a b = omega arith
+plus-times false a b = omega arith
+
+pub once-at-most : (t : Bool) (k : ℕ) → k ≡ plusIf t 0 1 → k ≤ 1
+unfolding plusIf
+once-at-most true k e = omega (arith, e)
+once-at-most false k e = omega (arith, e)
+
+-- a cut drops no entry: the result has the content's, and the ellipsis's once if it is written
+module _ (m : Item → ℕ) (none : (b : ℕ) → m (byte b) ≡ 0) (p : Plan) (r e : Recording) where
+  end-sum : sumOf m (endItems p r e) ≡ sumOf m (items r) + plusIf (p .cut) 0 1 * sumOf m (items e)
+  unfolding endItems
+  end-sum =
+      let x : List Item = edit (cutEnd (p .content) (r .dataBytes)) (items r) in
+      let y : List Item = edit (cutEnd (p .ellipsis) (e .dataBytes)) (items e) in
+      let s : sumOf m (x ++ y) ≡ sumOf m (items r) + sumOf m (items e) =
+      omega (arith, sum-append m x y, edit-sum m none (cutEnd (p .content) (r .dataBytes)) (items r), edit-sum m none (cutEnd (p .ellipsis) (e .dataBytes)) (items e)) in
+      sym (size-if (sumOf m) (p .cut) (x ++ y) (items r) (sumOf m (items r)) (sumOf m (items e)) s refl) ∙ plus-times (p .cut) (sumOf m (items r)) (sumOf m (items e))
+
+  start-sum : sumOf m (startItems p r e) ≡ sumOf m (items r) + plusIf (p .cut) 0 1 * sumOf m (items e)
+  unfolding startItems
+  start-sum =
+      let u : List Item = edit (cutStart (p .ellipsis)) (items e) in
+      let w : List Item = edit (cutStart (p .content)) (items r) in
+      let c = edit-sum m none (cutStart (p .content)) (items r) in
+      let s : sumOf m (u ++ w) ≡ sumOf m (items r) + sumOf m (items e) = omega (arith, sum-append m u w, c, edit-sum m none (cutStart (p .ellipsis)) (items e)) in
+      sym (size-if (sumOf m) (p .cut) (u ++ w) w (sumOf m (items r)) (sumOf m (items e)) s (omega (arith, c))) ∙ plus-times (p .cut) (sumOf m (items r)) (sumOf m (items e))
+
+end-shares : (p : Plan) (r e : Recording) → Shares (endItems p r e) (items r) (items e) (plusIf (p .cut) 0 1)
+end-shares p r e = record { raws = end-sum rawLen (λ b. refl) p r e; labels = λ l. end-sum (pushOf l) (λ b. refl) p r e }
+
+start-shares : (p : Plan) (r e : Recording) → Shares (startItems p r e) (items r) (items e) (plusIf (p .cut) 0 1)
+start-shares p r e = record { raws = start-sum rawLen (λ b. refl) p r e; labels = λ l. start-sum (pushOf l) (λ b. refl) p r e }
 
 data-size-append : (x y : List Item) → length (dataOf (x ++ y)) ≡ length (dataOf x) + length (dataOf y)
 data-size-append x y = ap length (data-append x y) ∙ length-append (dataOf x) (dataOf y)
@@ -117,14 +151,8 @@ module _ (ds ns ts ds₂ ns₂ ts₂ : List ℕ) (n₁ n₂ : ℕ) (f : Fine ds 
   end-count : plusIf (p .cut) (length ns) (length ns₂) ≡ 4 * entryCount (endItems p (recording ds ns ts) (recording ds₂ ns₂ ts₂))
   unfolding endItems
   end-count =
-      count-if (p .cut) (x ++ y) (items r) (length ns) (length ns₂)
+      size-if (λ (l : List Item). 4 * entryCount l) (p .cut) (x ++ y) (items r) (length ns) (length ns₂)
       (omega (arith, count-append x y, edit-count (cutEnd (p .content) ds) (items r), edit-count (cutEnd (p .ellipsis) ds₂) (items e), f .entry-size, g .entry-size)) (sym (f .entry-size))
-
-  end-text : plusIf (p .cut) n₁ n₂ ≡ length (textOf (endItems p (recording ds ns ts) (recording ds₂ ns₂ ts₂)))
-  unfolding endItems
-  end-text =
-      text-if (p .cut) (x ++ y) (items r) n₁ n₂
-      (omega (arith, text-size x y, edit-text (cutEnd (p .content) ds) (items r), edit-text (cutEnd (p .ellipsis) ds₂) (items e), f .text-size, g .text-size)) (sym (f .text-size))
 
   end-data : p ≡ planEnd max ds ds₂ → p .content ≤ length ds → p .ellipsis ≤ length ds₂ → p .content + p .ellipsis ≡ length (dataOf (endItems p (recording ds ns ts) (recording ds₂ ns₂ ts₂)))
   end-data q a b = go (p .cut) refl
@@ -144,14 +172,8 @@ module _ (ds ns ts ds₂ ns₂ ts₂ : List ℕ) (n₁ n₂ : ℕ) (f : Fine ds 
   unfolding startItems
   start-count =
       let c = edit-count (cutStart (p .content)) (items r) in
-      count-if (p .cut) (u ++ w) w (length ns) (length ns₂) (omega (arith, count-append u w, c, edit-count (cutStart (p .ellipsis)) (items e), f .entry-size, g .entry-size))
+      size-if (λ (l : List Item). 4 * entryCount l) (p .cut) (u ++ w) w (length ns) (length ns₂) (omega (arith, count-append u w, c, edit-count (cutStart (p .ellipsis)) (items e), f .entry-size, g .entry-size))
       (omega (arith, c, f .entry-size))
-
-  start-text : plusIf (p .cut) n₁ n₂ ≡ length (textOf (startItems p (recording ds ns ts) (recording ds₂ ns₂ ts₂)))
-  unfolding startItems
-  start-text =
-      let c = edit-text (cutStart (p .content)) (items r) in
-      text-if (p .cut) (u ++ w) w n₁ n₂ (omega (arith, text-size u w, c, edit-text (cutStart (p .ellipsis)) (items e), f .text-size, g .text-size)) (omega (arith, c, f .text-size))
 
   start-data : p ≡ planStart max ds ds₂ → (length ds - p .content) + (length ds₂ - p .ellipsis) ≡ length (dataOf (startItems p (recording ds ns ts) (recording ds₂ ns₂ ts₂)))
   start-data q = go (p .cut) refl
@@ -160,26 +182,34 @@ module _ (ds ns ts ds₂ ns₂ ts₂ : List ℕ) (n₁ n₂ : ℕ) (f : Fine ds 
       go true z = omega (arith, ap (λ (l : List Item). length (dataOf l)) (start-cut p r e z), data-size-append u w, from-data (p .content) ds ns ts, from-data (p .ellipsis) ds₂ ns₂ ts₂)
       go false z = omega (arith, ap (λ (l : List Item). length (dataOf l)) (start-whole p r e z), from-data (p .content) ds ns ts, start-uncut max ds ds₂ p q z)
 
--- ── what a call leaves has the sizes that are settled
-module _ (x : Given) (n : TextSizes) (fine : BothFine x n) (p : Plan) (e t : ℕ) (ee : e ≡ plusIf (p .cut) (length (x .ns)) (length (x .gs))) (et : t ≡ plusIf (p .cut) (n .content) (n .second)) where
+-- ── what a call leaves has the sizes that are settled; k is how often the ellipsis's entries are written
+pub texts-planned : (x : Given) (n : TextSizes) (fine : BothFine x n) (p : Plan) (k t : ℕ) → k ≡ plusIf (p .cut) 0 1 → t ≡ plusIf (p .cut) (n .content) (n .second)
+    → textSize (x .ts) (entriesOf (x .ns)) (x .us) (entriesOf (x .gs)) k ≤ t
+texts-planned x n fine p k t ek et =
+    omega (arith, texts-less x n k fine, et, plus-times (p .cut) (n .content) (n .second), ap (λ (j : ℕ). j * n .second) ek)
+
+module _ (x : Given) (n : TextSizes) (fine : BothFine x n) (p : Plan) (k e t : ℕ) (ek : k ≡ plusIf (p .cut) 0 1) (ee : e ≡ plusIf (p .cut) (length (x .ns)) (length (x .gs)))
+    (stands : Stands (length (x .ot)) (textSize (x .ts) (entriesOf (x .ns)) (x .us) (entriesOf (x .gs)) k) t) where
   pub end-measured : x .kind ≡ writeTruncatedEnd → p ≡ planEnd (x .width) (x .ds) (x .fs) → p .content ≤ length (x .ds) → p .ellipsis ≤ length (x .fs)
-      → Measured x (endItems p (content x) (second x)) (p .content + p .ellipsis) e t
-  end-measured k q a b =
+      → Measured x k (endItems p (content x) (second x)) (p .content + p .ellipsis) e t
+  end-measured h q a b =
       record {
-        own = ap (λ (j : Kind). kindFault j (x .fs) (x .ds)) k;
-        leaves = ap (λ (j : Kind). resultItems (withSecond j (x .width) (second x)) (content x)) k ∙ end-items (x .width) (content x) (second x) p q;
+        own = ap (λ (j : Kind). kindFault j (x .fs) (x .ds)) h;
+        leaves = ap (λ (j : Kind). resultItems (withSecond j (x .width) (second x)) (content x)) h ∙ end-items (x .width) (content x) (second x) p q;
         data-size = end-data (x .ds) (x .ns) (x .ts) (x .fs) (x .gs) (x .us) (n .content) (n .second) (fine .0) (fine .1) (x .width) p q a b;
         entry-size = ee ∙ end-count (x .ds) (x .ns) (x .ts) (x .fs) (x .gs) (x .us) (n .content) (n .second) (fine .0) (fine .1) (x .width) p;
-        text-size = et ∙ end-text (x .ds) (x .ns) (x .ts) (x .fs) (x .gs) (x .us) (n .content) (n .second) (fine .0) (fine .1) (x .width) p;
+        shares = rw ek (end-shares p (content x) (second x));
+        text-size = stands;
       }
 
   pub start-measured : x .kind ≡ writeTruncatedStart → p ≡ planStart (x .width) (x .ds) (x .fs)
-      → Measured x (startItems p (content x) (second x)) ((length (x .ds) - p .content) + (length (x .fs) - p .ellipsis)) e t
-  start-measured k q =
+      → Measured x k (startItems p (content x) (second x)) ((length (x .ds) - p .content) + (length (x .fs) - p .ellipsis)) e t
+  start-measured h q =
       record {
-        own = ap (λ (j : Kind). kindFault j (x .fs) (x .ds)) k;
-        leaves = ap (λ (j : Kind). resultItems (withSecond j (x .width) (second x)) (content x)) k ∙ start-items (x .width) (content x) (second x) p q;
+        own = ap (λ (j : Kind). kindFault j (x .fs) (x .ds)) h;
+        leaves = ap (λ (j : Kind). resultItems (withSecond j (x .width) (second x)) (content x)) h ∙ start-items (x .width) (content x) (second x) p q;
         data-size = start-data (x .ds) (x .ns) (x .ts) (x .fs) (x .gs) (x .us) (n .content) (n .second) (fine .0) (fine .1) (x .width) p q;
         entry-size = ee ∙ start-count (x .ds) (x .ns) (x .ts) (x .fs) (x .gs) (x .us) (n .content) (n .second) (fine .0) (fine .1) (x .width) p;
-        text-size = et ∙ start-text (x .ds) (x .ns) (x .ts) (x .fs) (x .gs) (x .us) (n .content) (n .second) (fine .0) (fine .1) (x .width) p;
+        shares = rw ek (start-shares p (content x) (second x));
+        text-size = stands;
       }

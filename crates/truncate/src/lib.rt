@@ -7,6 +7,7 @@ use chars::LEADS;
 use recording::Answer;
 use recording::CheckedBoth;
 use recording_check::check_both;
+use share::text_size;
 use truncate_plan::Plan;
 use truncate_plan::measure_end;
 use truncate_plan::measure_start;
@@ -330,10 +331,19 @@ pub fn write_truncated_end(
     };
     let t = LEADS;
     let p = measure_end(&t, content, ellipsis, max_width);
+    let shared = text_size(
+        plus_if(p.cut, sizes.content, sizes.second),
+        texts.len(),
+        entries,
+        text,
+        ellipsis_entries,
+        ellipsis_text,
+        plus_if(p.cut, 0, 1), // if cut, all entries of the ellipsis are written
+    );
     let verdict = settle(
         p.content + p.ellipsis,
         plus_if(p.cut, entries.len(), ellipsis_entries.len()),
-        plus_if(p.cut, sizes.content, sizes.second),
+        shared,
         0,
         bytes.len(),
         numbers.len(),
@@ -399,10 +409,19 @@ pub fn write_truncated_start(
     };
     let t = LEADS;
     let p = measure_start(&t, content, ellipsis, max_width);
+    let shared = text_size(
+        plus_if(p.cut, sizes.content, sizes.second),
+        texts.len(),
+        entries,
+        text,
+        ellipsis_entries,
+        ellipsis_text,
+        plus_if(p.cut, 0, 1),
+    );
     let verdict = settle(
         (content.len() - p.content) + (ellipsis.len() - p.ellipsis),
         plus_if(p.cut, entries.len(), ellipsis_entries.len()),
-        plus_if(p.cut, sizes.content, sizes.second),
+        shared,
         0,
         bytes.len(),
         numbers.len(),

@@ -8,11 +8,11 @@ use Rattle.pad.proofs.once_if.Lts as lts
 
 returns : tie.Need-returns
 returns c =
-    (once-none _ _ (c .if1 .taken), omega arith)
+    (once-none _ (c .if1 .taken), omega arith)
 
 returns-2 : tie.Need-returns-2
 returns-2 c =
-    (once-more _ _ (omega arith), omega arith)
+    (once-more _ (omega arith), omega arith)
 
 pub once-if-spec : {M : Type 1} → statement M
 once-if-spec = tie.close (tie.spec returns returns-2)

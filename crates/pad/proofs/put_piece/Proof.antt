@@ -1,7 +1,7 @@
 -- By the length of the piece: none is nothing however often (`piece-none`), one byte is the loop of stores (`piece-one`), any other the loop of copies.
 use native.Mathlib.Omega.{arith}
 use borrow.Author.Needs.{needs}
-use Prim.Native.Nat.{ℕ, _+_, _-_}
+use Prim.Native.Nat.{ℕ, _+_}
 use mathlib.Core.Path.{sym, ap, _∙_}
 use mathlib.Core.List.{List}
 use lib.ListN.{length, getD}

@@ -10,7 +10,7 @@ use Rattle.chars.specs.Leads.{leadTable}
 use Rattle.recording.specs.declared.TextSizes.{TextSizes}
 use Rattle.recording.specs.Recording.{Recording, Item, items}
 use Rattle.layout.specs.Layout.{withSecond, number}
-use Rattle.outcomes.proofs.SecondLaws.{Given, content, second, BothFine, Measured, both-refused, both-fine, sizes-refused, has-room, written}
+use Rattle.outcomes.proofs.SecondLaws.{Given, content, second, BothFine, Measured, both-refused, both-fine, texts-less, sizes-refused, has-room, written}
 use Rattle.pad.specs.declared.Side.{Side}
 use Rattle.pad.specs.declared.Side.the-variants.{Start, End, Centered}
 use Rattle.pad.specs.Padding.{sides, kindOf}
@@ -24,6 +24,7 @@ use Rattle.pad.proofs.left_count.Reads as left-count-reads
 use Rattle.pad.proofs.once_if.Reads as once-if-reads
 use Rattle.pad.proofs.put_padded.Reads as put-padded-reads
 use Rattle.recording_check.proofs.check_both.Reads as check-both-reads
+use Rattle.share.proofs.text_size.Reads as text-size-reads
 use Rattle.writer.proofs.settle.Reads as settle-reads
 
 -- no padding call returns a number
@@ -79,24 +80,36 @@ result c = let l = c .left-count .result in sides l (count c - l) (items (second
 product : (c : tie.After-left-count) → count c * length (call c .fs) ≤ 4503599626321920
 product c = mul-le-mul (c .before .fill-count .ensures .1) (fine (checked c) .1 .data-short)
 
--- once the sizes are settled
-abbrev counted : tie.After-settle → tie.After-left-count
-counted c = c .before .before .before .before .before .before
+-- once it is known on how many sides it comes
+abbrev counted : tie.After-once-if2 → tie.After-left-count
+counted c = c .before .before
 
-abbrev entry-size : tie.After-settle → ℕ
-entry-size c = (length (call (counted c) .ns) + c .before .before .before .before .before .once-if .result) + c .before .before .before .before .once-if2 .result
+abbrev times : tie.After-once-if2 → ℕ
+times c = c .before .once-if .result + c .once-if2 .result
 
-abbrev text-size : tie.After-settle → ℕ
-text-size c = (sizes (checked (counted c)) .content + c .before .before .before .once-if3 .result) + c .before .once-if4 .result
+few : (c : tie.After-once-if2) → times c ≤ 2
+few c = omega (arith, c .before .once-if .ensures .1, c .once-if2 .ensures .1)
 
-measured : (c : tie.After-settle)
-    → Measured (call (counted c)) (result (counted c)) (length (call (counted c) .ds) + count (counted c) * length (call (counted c) .fs)) (entry-size c) (text-size c)
+entry-product : (c : tie.After-once-if2) → times c * length (call (counted c) .gs) ≤ 32768
+entry-product c = mul-le-mul (few c) (fine (checked (counted c)) .1 .entries-short)
+
+text-product : (c : tie.After-once-if2) → times c * sizes (checked (counted c)) .second ≤ 536870912
+text-product c = mul-le-mul (few c) (fine (checked (counted c)) .1 .text-short)
+
+-- once the text is measured
+abbrev sided : tie.After-text-size → tie.After-once-if2
+sided c = c .before .before .before
+
+measured : (c : tie.After-text-size)
+    → let n = sided c in let l = counted n in
+    Measured (call l) (times n) (result l) (length (call l .ds) + count l * length (call l .fs)) (length (call l .ns) + times n * length (call l .gs)) (c .text-size .result)
 measured c =
-    let l = counted c in
+    let n = sided c in
+    let l = counted n in
     let v = checked l in
-    padded-measured (call l) (sizes v) (fine v) (count l) (l .left-count .result) (l .left-count .ensures .1) (start v .args .side) refl (l .before .fill-count .ensures .0) (l .left-count .ensures .0)
-    _ _ _ _ (c .before .before .before .before .before .once-if .ensures .0) (c .before .before .before .before .once-if2 .ensures .0)
-    (c .before .before .before .once-if3 .ensures .0) (c .before .once-if4 .ensures .0)
+    padded-measured (call l) (sizes v) (fine v) (count l) (l .left-count .result) (l .left-count .ensures .1)
+    (times n) (λ i. n .before .once-if .ensures .0 i + n .once-if2 .ensures .0 i)
+    (start v .args .side) refl (l .before .fill-count .ensures .0) (l .left-count .ensures .0) (c .text-size .result) (c .text-size .ensures)
 
 -- ── what is asked on the way
 check-both-requires : tie.Need-check-both-requires
@@ -124,43 +137,45 @@ left-count-requires c κs = search needs
 sub-right : tie.Need-sub-right
 sub-right c = search needs
 
-mul-settle : tie.Need-mul-settle
-mul-settle c = omega (arith, product c)
-
-add-settle : tie.Need-add-settle
-add-settle c = omega (arith, fine (checked c) .0 .data-short, product c)
-
 once-if-requires : tie.Need-once-if-requires
 once-if-requires c κs = search needs
-
-add-settle-2 : tie.Need-add-settle-2
-add-settle-2 c =
-    let f = fine (checked (c .before)) in
-    omega (arith, f .0 .entries-short, f .1 .entries-short, c .once-if .ensures .1)
 
 once-if-requires-2 : tie.Need-once-if-requires-2
 once-if-requires-2 c κs = search needs
 
-add-settle-3 : tie.Need-add-settle-3
-add-settle-3 c =
-    let f = fine (checked (c .before .before)) in
-    omega (arith, f .0 .entries-short, f .1 .entries-short, c .before .once-if .ensures .1, c .once-if2 .ensures .1)
+add-times : tie.Need-add-times
+add-times c = omega (arith, few c)
 
-once-if-requires-3 : tie.Need-once-if-requires-3
-once-if-requires-3 c κs = search needs
+mul-text-size : tie.Need-mul-text-size
+mul-text-size c = omega (arith, text-product (c .before))
 
-add-settle-4 : tie.Need-add-settle-4
-add-settle-4 c =
-    let f = fine (checked (c .before .before .before .before)) in
-    omega (arith, f .0 .text-short, f .1 .text-short, c .before .once-if3 .ensures .1)
+add-text-size : tie.Need-add-text-size
+add-text-size c =
+    let n = c .before .before in
+    omega (arith, fine (checked (counted n)) .0 .text-short, text-product n)
 
-once-if-requires-4 : tie.Need-once-if-requires-4
-once-if-requires-4 c κs = search needs
+text-size-requires : tie.Need-text-size-requires
+text-size-requires c κs =
+    let n = c .before .before in
+    let v = checked (counted n) in
+    let f = fine v in (
+      (f .0 .entries-short, f .0 .own-short, f .0 .parts),
+      ((f .1 .entries-short, f .1 .own-short, f .1 .parts, omega (arith, few n)), texts-less (call (counted n)) (sizes v) (times n) f),
+    )
 
-add-settle-5 : tie.Need-add-settle-5
-add-settle-5 c =
-    let f = fine (checked (c .before .before .before .before .before)) in
-    omega (arith, f .0 .text-short, f .1 .text-short, c .before .before .once-if3 .ensures .1, c .once-if4 .ensures .1)
+mul-settle : tie.Need-mul-settle
+mul-settle c = omega (arith, product (counted (sided c)))
+
+add-settle : tie.Need-add-settle
+add-settle c =
+    let l = counted (sided c) in
+    omega (arith, fine (checked l) .0 .data-short, product l)
+
+mul-settle-2 : tie.Need-mul-settle-2
+mul-settle-2 c = omega (arith, entry-product (sided c))
+
+add-settle-2 : tie.Need-add-settle-2
+add-settle-2 c = omega (arith, fine (checked (counted (sided c))) .0 .entries-short, entry-product (sided c))
 
 settle-requires : tie.Need-settle-requires
 settle-requires c κs = search needs
@@ -171,8 +186,10 @@ enum-known-verdict c = search needs
 returns-2 : tie.Need-returns-2
 returns-2 c =
     let p = c .before .before .before in
-    let v = checked (counted p) in
-    sizes-refused (call (counted p)) (sizes v) (fine v) (result (counted p)) _ _ _ (measured p) (p .settle .result) (p .settle .ensures)
+    let n = sided (p .before) in
+    let l = counted n in
+    let v = checked l in
+    sizes-refused (call l) (sizes v) (fine v) (times n) (result l) _ _ _ (measured (p .before)) (p .settle .result) (p .settle .ensures)
     (c .before .verdict .given .0 .0) (c .before .verdict .given .1)
 
 enum-told : tie.Need-enum-told
@@ -181,9 +198,11 @@ enum-told c = search needs
 put-padded-requires : tie.Need-put-padded-requires
 put-padded-requires c κs =
     let p = c .before .before .before .before .before in
-    let v = checked (counted p) in
+    let n = sided (p .before) in
+    let l = counted n in
+    let v = checked l in
     let f = fine v in
-    let room = has-room (call (counted p)) (sizes v) f (result (counted p)) _ _ _ (measured p) (p .settle .result) (p .settle .ensures) (c .before .before .before .enum-told .given .1) in
+    let room = has-room (call l) (sizes v) f (times n) (result l) _ _ _ (measured (p .before)) (p .settle .result) (p .settle .ensures) (c .before .before .before .enum-told .given .1) in
     ((f .0 .whole, f .1 .whole), room)
 
 same-length : tie.Need-same-length
@@ -200,9 +219,11 @@ returns-3 c =
     let w = c .before .before .before .before .before .before in
     let told = w .before .before .before .before in
     let p = told .before .before in
-    let x = call (counted p) in
-    let v = checked (counted p) in
-    written x (sizes v) (fine v) (result (counted p)) _ _ _ (measured p) (p .settle .result) (p .settle .ensures) (told .enum-told .given .1)
+    let n = sided (p .before) in
+    let l = counted n in
+    let x = call l in
+    let v = checked l in
+    written x (sizes v) (fine v) (times n) (result l) _ _ _ (measured (p .before)) (p .settle .result) (p .settle .ensures) (told .enum-told .given .1)
     0 _ _ _ (w .put-padded .result) (number-of (start v .args .side) (x .width) (second x) (content x)) (w .put-padded .ensures)
 
 pub write-padded-spec : {M : Type 1} → statement M
@@ -216,16 +237,16 @@ write-padded-spec =
     fill-count-requires
     left-count-requires
     sub-right
+    once-if-requires
+    once-if-requires-2
+    add-times
+    mul-text-size
+    add-text-size
+    text-size-requires
     mul-settle
     add-settle
-    once-if-requires
+    mul-settle-2
     add-settle-2
-    once-if-requires-2
-    add-settle-3
-    once-if-requires-3
-    add-settle-4
-    once-if-requires-4
-    add-settle-5
     settle-requires
     enum-known-verdict
     returns-2

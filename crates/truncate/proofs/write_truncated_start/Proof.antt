@@ -14,7 +14,7 @@ use Rattle.layout.specs.Layout.{writeTruncatedStart}
 use Rattle.outcomes.proofs.SecondLaws.{Given, content, second, BothFine, Measured, both-refused, both-fine, sizes-refused, has-room, written}
 use Rattle.truncate_plan.specs.declared.Plan.{Plan}
 use Rattle.truncate.specs.Planned.{startItems}
-use Rattle.truncate.proofs.PlanLaws.{start-number, start-measured}
+use Rattle.truncate.proofs.PlanLaws.{once-at-most, start-number, texts-planned, start-measured}
 use Rattle.truncate.proofs.write_truncated_start.Code.Mir as code
 use Rattle.truncate.proofs.write_truncated_start.Statement.{statement}
 use Rattle.truncate.proofs.write_truncated_start.Tie as tie
@@ -24,6 +24,7 @@ use Rattle.recording_check.proofs.check_both.Reads as check-both-reads
 use Rattle.truncate_plan.proofs.measure_start.Reads as measure-start-reads
 use Rattle.truncate.proofs.plus_if.Reads as plus-if-reads
 use Rattle.truncate.proofs.put_start.Reads as put-start-reads
+use Rattle.share.proofs.text_size.Reads as text-size-reads
 use Rattle.writer.proofs.settle.Reads as settle-reads
 
 -- ── the places on the way, and what is known there
@@ -55,22 +56,33 @@ sizes c = c .checked2 .given .0 .0
 fine : (c : tie.After-checked2) → BothFine (given (start c)) (sizes c)
 fine c = both-fine (given (start c)) (c .before .before .check-both .result) (c .before .before .check-both .ensures) (sizes c) (c .checked2 .given .1)
 
+-- once it is planned what is kept, and known how often the ellipsis's entries are written
+abbrev checked : tie.After-plus-if2 → tie.After-checked2
+checked c = c .before .before .before .before .before
+
+abbrev call : tie.After-plus-if2 → Given
+call c = given (start (checked c))
+
+abbrev plan : tie.After-plus-if2 → Plan
+plan c = c .before .before .measure-start .result
+
+abbrev result : tie.After-plus-if2 → List Item
+result c = startItems (plan c) (content (call c)) (second (call c))
+
 -- once the sizes are settled
-abbrev checked : tie.After-settle → tie.After-checked2
-checked c = c .before .before .before .before .before .before .before .before
+abbrev sized : tie.After-settle → tie.After-text-size
+sized c = c .before .before .before .before
 
-abbrev plan : tie.After-settle → Plan
-plan c = c .before .before .before .before .before .measure-start .result
+abbrev planned : tie.After-settle → tie.After-plus-if2
+planned c = sized c .before
 
-abbrev result : tie.After-settle → List Item
-result c = startItems (plan c) (content (given (start (checked c)))) (second (given (start (checked c))))
-
-measured : (c : tie.After-settle) → Measured (given (start (checked c))) (result c)
-    ((length (given (start (checked c)) .ds) - plan c .content) + (length (given (start (checked c)) .fs) - plan c .ellipsis)) (c .before .before .plus-if .result) (c .before .plus-if2 .result)
+measured : (c : tie.After-settle)
+    → let n = planned c in Measured (call n) (n .plus-if2 .result) (result n) ((length (call n .ds) - plan n .content) + (length (call n .fs) - plan n .ellipsis)) (c .before .plus-if3 .result) (sized c .text-size .result)
 measured c =
-    let m = c .before .before .before .before .before .measure-start in
-    start-measured (given (start (checked c))) (sizes (checked c)) (fine (checked c)) (plan c) (c .before .before .plus-if .result) (c .before .plus-if2 .result)
-    (c .before .before .plus-if .ensures) (c .before .plus-if2 .ensures) refl (m .ensures .0)
+    let n = planned c in
+    let m = n .before .before .measure-start in
+    start-measured (call n) (sizes (checked n)) (fine (checked n)) (plan n) (n .plus-if2 .result) (c .before .plus-if3 .result) (sized c .text-size .result)
+    (n .plus-if2 .ensures) (c .before .plus-if3 .ensures) (sized c .text-size .ensures) refl (m .ensures .0)
 
 -- ── what is asked on the way
 check-both-requires : tie.Need-check-both-requires
@@ -92,6 +104,24 @@ measure-start-requires : tie.Need-measure-start-requires
 unfolding leadTable
 measure-start-requires c κs = refl
 
+plus-if-requires : tie.Need-plus-if-requires
+plus-if-requires c κs =
+    let f = fine (c .before .before .before) in
+    omega (arith, f .0 .text-short, f .1 .text-short)
+
+plus-if-requires-2 : tie.Need-plus-if-requires-2
+plus-if-requires-2 c κs = omega arith
+
+text-size-requires : tie.Need-text-size-requires
+text-size-requires c κs =
+    let f = fine (checked c) in (
+      (f .0 .entries-short, f .0 .own-short, f .0 .parts),
+      (
+        (f .1 .entries-short, f .1 .own-short, f .1 .parts, omega (arith, once-at-most (plan c .cut) (c .plus-if2 .result) (c .plus-if2 .ensures))),
+        texts-planned (call c) (sizes (checked c)) f (plan c) (c .plus-if2 .result) (c .before .plus-if .result) (c .plus-if2 .ensures) (c .before .plus-if .ensures),
+      ),
+    )
+
 sub-settle : tie.Need-sub-settle
 sub-settle c = search needs
 
@@ -100,19 +130,15 @@ sub-settle-2 c = search needs
 
 add-settle : tie.Need-add-settle
 add-settle c =
-    let m = c .before .before .measure-start in
-    let f = fine (c .before .before .before .before .before) in
+    let n = c .before .before .before in
+    let f = fine (checked n) in
+    let m = n .before .before .measure-start in
     omega (arith, f .0 .data-short, f .1 .data-short, m .ensures .1 .0, m .ensures .1 .1)
 
-plus-if-requires : tie.Need-plus-if-requires
-plus-if-requires c κs =
-    let f = fine (c .before .before .before .before .before) in
+plus-if-requires-3 : tie.Need-plus-if-requires-3
+plus-if-requires-3 c κs =
+    let f = fine (checked (c .before .before .before)) in
     omega (arith, f .0 .entries-short, f .1 .entries-short)
-
-plus-if-requires-2 : tie.Need-plus-if-requires-2
-plus-if-requires-2 c κs =
-    let f = fine (c .before .before .before .before .before .before) in
-    omega (arith, f .0 .text-short, f .1 .text-short)
 
 settle-requires : tie.Need-settle-requires
 settle-requires c κs = search needs
@@ -123,7 +149,8 @@ enum-known-verdict c = search needs
 returns-2 : tie.Need-returns-2
 returns-2 c =
     let p = c .before .before .before in
-    sizes-refused (given (start (checked p))) (sizes (checked p)) (fine (checked p)) (result p) _ _ _ (measured p) (p .settle .result) (p .settle .ensures)
+    let n = planned p in
+    sizes-refused (call n) (sizes (checked n)) (fine (checked n)) (n .plus-if2 .result) (result n) _ _ _ (measured p) (p .settle .result) (p .settle .ensures)
     (c .before .verdict .given .0 .0) (c .before .verdict .given .1)
 
 enum-told : tie.Need-enum-told
@@ -132,9 +159,10 @@ enum-told c = search needs
 put-start-requires : tie.Need-put-start-requires
 put-start-requires c κs =
     let p = c .before .before .before .before .before in
-    let m = p .before .before .before .before .before .measure-start in
-    let f = fine (checked p) in
-    let room = has-room (given (start (checked p))) (sizes (checked p)) f (result p) _ _ _ (measured p) (p .settle .result) (p .settle .ensures) (c .before .before .before .enum-told .given .1) in
+    let n = planned p in
+    let m = n .before .before .measure-start in
+    let f = fine (checked n) in
+    let room = has-room (call n) (sizes (checked n)) f (n .plus-if2 .result) (result n) _ _ _ (measured p) (p .settle .result) (p .settle .ensures) (c .before .before .before .enum-told .given .1) in
     (f .0 .whole, (f .1 .whole, (m .ensures .1, room)))
 
 same-length : tie.Need-same-length
@@ -150,11 +178,12 @@ returns-3 : tie.Need-returns-3
 returns-3 c =
     let w = c .before .before .before .before .before .before .put-start in
     let p = c .before .before .before .before .before .before .before .before .before .before .before .before in
-    let x = given (start (checked p)) in
-    let m = p .before .before .before .before .before .measure-start in
-    written x (sizes (checked p)) (fine (checked p)) (result p) _ _ _ (measured p) (p .settle .result) (p .settle .ensures)
+    let n = planned p in
+    let x = call n in
+    let m = n .before .before .measure-start in
+    written x (sizes (checked n)) (fine (checked n)) (n .plus-if2 .result) (result n) _ _ _ (measured p) (p .settle .result) (p .settle .ensures)
     (c .before .before .before .before .before .before .before .before .before .before .enum-told .given .1)
-    (plan p .width) _ _ _ (w .result) (start-number (x .width) (content x) (second x) (plan p) (m .ensures .0)) (w .ensures .0)
+    (plan n .width) _ _ _ (w .result) (start-number (x .width) (content x) (second x) (plan n) (m .ensures .0)) (w .ensures .0)
 
 pub write-truncated-start-spec : {M : Type 1} → statement M
 write-truncated-start-spec =
@@ -165,11 +194,13 @@ write-truncated-start-spec =
     returns
     enum-known-checked-2
     measure-start-requires
+    plus-if-requires
+    plus-if-requires-2
+    text-size-requires
     sub-settle
     sub-settle-2
     add-settle
-    plus-if-requires
-    plus-if-requires-2
+    plus-if-requires-3
     settle-requires
     enum-known-verdict
     returns-2
@@ -182,6 +213,6 @@ write-truncated-start-spec =
 
 -- the lent buffers go by one call; its arrays are the table of lead bytes, as a constant and as the local that is lent to be read
 pub write-truncated-start-lends-on : LendsOn code.function (tyArray (tyInt w16) 256 ∷ tyArray (tyInt w16) 256 ∷ []) 0
-    ("recording_check::check_both" ∷ "truncate_plan::measure_start" ∷ "truncate::plus_if" ∷ "truncate::plus_if" ∷ "writer::settle" ∷ "truncate::put_start" ∷ [])
+    ("recording_check::check_both" ∷ "truncate_plan::measure_start" ∷ "truncate::plus_if" ∷ "truncate::plus_if" ∷ "share::text_size" ∷ "truncate::plus_if" ∷ "writer::settle" ∷ "truncate::put_start" ∷ [])
 unfolding ownArrays acts touches loops calls
 write-truncated-start-lends-on = refl
