@@ -6,7 +6,7 @@ use mathlib.Core.Bool.{Bool, true, false, cond, not, _&&_, _||_, or-false, or-se
 use mathlib.Core.Path.{_≡_, refl, sym, ap, _∙_}
 use mathlib.Core.List.{List, [], _∷_, _++_}
 use lib.Dec.{eqb}
-use lib.ListN.{length, take, drop, length-append}
+use lib.ListN.{length, take, drop}
 use borrow.Author.Tests.{eqb-true}
 use Rattle.recording.specs.Lists.{same}
 use Rattle.recording.specs.declared.Entry.{Entry}
@@ -15,7 +15,8 @@ use Rattle.recording.specs.Coloured.{openAfter, balancedFrom, balanced}
 use Rattle.recording.specs.Edit.{entriesOnly}
 use Rattle.recording.specs.Refusals.{badShape, refuseIf}
 use Rattle.recording.proofs.Lists.{and-left, and-right}
-use Rattle.recording.proofs.SizeLaws.{IsEntry, entryCount, count-append, count-only, text-append, text-only}
+use Rattle.recording.proofs.SizeLaws.{IsEntry, entryCount, count-append, count-only, text-only}
+use Rattle.recording.proofs.CheckLaws as check
 use Rattle.writer.specs.Write.{Valid, itemAt}
 use Rattle.writer.proofs.Carry.{EntryItem, kind-entry, is-entry, valid-parts, only-append, only-bytes, only-none, only-entry}
 use Rattle.view.specs.View.{among, dropRaws}
@@ -112,14 +113,19 @@ opens-entry l (raw t) true s is e h = refl
 opens-entry l (raw t) false s is e h = rw h
 
 -- ── one entry: entry numbers and text, where g says that it goes
-module _ (x : Item) (m : ℕ) (h : EntryItem x m) (is : List Item) where
+module _ (x : Item) (m : ℕ) (h : EntryItem x) (is : List Item) (size : length (textOf (x ∷ is)) ≡ m + length (textOf is)) where
   count-entry : (g : Bool) → 4 * entryCount (cond g [] (x ∷ []) ++ is) ≡ cond g 0 4 + 4 * entryCount is
   count-entry true = omega arith
   count-entry false = omega (arith, count-append (x ∷ []) is, h .one)
 
   text-entry : (g : Bool) → length (textOf (cond g [] (x ∷ []) ++ is)) ≡ cond g 0 m + length (textOf is)
   text-entry true = omega arith
-  text-entry false = omega (arith, ap length (text-append (x ∷ []) is), length-append (textOf (x ∷ [])) (textOf is), h .size)
+  text-entry false = size
+
+-- an entry's text is as long as it says
+entry-size : (t : List ℕ) (e : Entry) (is : List Item) → badShape (e .kind) (e .start) (e .len) ≡ false → e .start + e .len ≤ length t → length (textOf (itemAt t e ∷ is)) ≡ e .len + length (textOf is)
+unfolding itemAt
+entry-size t e is b h = check.text-entry (e .kind) (e .start) (e .len) t is b h
 
 -- ── the state of the loop: `es` are the entries left of all
 pub record Scanning (l ds ts : List ℕ) (all : List Entry) (es : List Entry) (o : Open) (n : Kept) (k : ℕ) : Type 0 where
@@ -175,10 +181,11 @@ module _ (l ds ts : List ℕ) (all : List Entry) (o : Open) (n : Kept) (k : ℕ)
   goes h o′ op d n′ f c b =
       let x : Item = itemAt ts e in
       let st : List Bytes = openAfter (s .stack) (x ∷ []) in
-      let is : EntryItem x (e .len) = is-entry ts e (ok .1) (ok .2) in
+      let is : EntryItem x = is-entry ts e in
       let told′ : Tells l o′ st = op (s .stack) (s .told) in
       let found′ : n′ .found ≡ (n .found || among l st) = f ∙ ap (λ (t : Bool). n .found || t) (sym (told-open l o′ st told′)) in
       let left : List Item = dropRaws l st (marks ts es) in
+      let size = entry-size ts e left (ok .1) (ok .2) in
       let cut : dropRaws l (s .stack) (x ∷ marks ts es) ≡ cond (c .gone) [] (x ∷ []) ++ left = c .drops l ts (s .stack) (marks ts es) (s .told) in
       record {
         at = e .position;
@@ -188,8 +195,8 @@ module _ (l ds ts : List ℕ) (all : List Entry) (o : Open) (n : Kept) (k : ℕ)
         seen = ap (λ (t : Bool). t || among l st) found′ ∙ or-assoc (n .found) (among l st) (among l st) ∙ ap (λ (t : Bool). n .found || t) (or-self (among l st)) ∙ sym found′;
         balance = balance-next h;
         found = ap (λ (t : Bool). t || opens l (marks ts es)) found′ ∙ opens-entry l x (n .found) (s .stack) (marks ts es) (is .kind) (s .seen) ∙ s .found;
-        entries = omega (arith, s .entries, c .entries, ap (λ (i : List Item). 4 * entryCount i) cut, count-entry x (e .len) is left (c .gone));
-        text = omega (arith, s .text, c .text, ap (λ (i : List Item). length (textOf i)) cut, text-entry x (e .len) is left (c .gone));
+        entries = omega (arith, s .entries, c .entries, ap (λ (i : List Item). 4 * entryCount i) cut, count-entry x (e .len) is left size (c .gone));
+        text = omega (arith, s .text, c .text, ap (λ (i : List Item). length (textOf i)) cut, text-entry x (e .len) is left size (c .gone));
         depth = omega (arith, s .depth, d);
         few = omega (arith, s .few, b .0);
         short = omega (arith, s .short, b .1, ok .2);

@@ -122,7 +122,7 @@ module _ (l ds ns ts : List ℕ) (end at₀ k₀ : ℕ) (from : Open) (at k : �
           let z : end - at ≡ length b + (end - e .position) = omega (arith, n, entry-place, ok .0) in
           (λ i. anyUnder l (take (z i) (colouredFrom st (left-turn ds ns ts c e q (ok .0) i))))
           ∙ under-passed l b (end - e .position) st (x ∷ rest) (λ h. a (omega (arith, n, h, entry-place)))
-          ∙ ap (λ (cs : List Coloured). anyUnder l (take (end - e .position) cs)) (coloured-entry st x rest (is-entry ts e (ok .1) (ok .2) .kind))
+          ∙ ap (λ (cs : List Coloured). anyUnder l (take (end - e .position) cs)) (coloured-entry st x rest (is-entry ts e .kind))
 
       pub step : (ltb at p && not (eqb (o .since) 0)) ≡ false → (o′ : Open) → Opened l (itemAt ts e) o o′ → o′ .depth ≤ o .depth + 1
           → (p′ : ℕ) → p′ ≡ placeOf (entriesOf (drop (k + 4) ns)) → Reading l ds ns ts end at₀ k₀ from p (k + 4) o′ p′

@@ -74,8 +74,8 @@ module _ (ds ns ts : List ℕ) (c : Cursor) (r : Ready ds ns ts c) (more : nextP
         let p : nextPlace ns c ≡ e .position = ap placeOf q ∙ placed e (entriesOf (drop (c .k + 4) ns)) in
         omega (arith, p, more, entry-fine .0)
 
-    pub entry-is : EntryItem (itemAt ts e) (e .len)
-    entry-is = is-entry ts e (entry-fine .1) (entry-fine .2)
+    pub entry-is : EntryItem (itemAt ts e)
+    entry-is = is-entry ts e
 
     -- the cursor behind it
     module _ (c′ : Cursor) (a : c′ .at ≡ c .at) (k : c′ .k ≡ c .k + 4) where

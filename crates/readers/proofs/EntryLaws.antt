@@ -6,19 +6,20 @@ use native.Mathlib.Omega.{arith}
 use mathlib.Core.Bool.{Bool, true, false}
 use mathlib.Core.Path.{_≡_, refl, sym, ap, _∙_}
 use mathlib.Core.List.{List, [], _∷_, _++_, append-assoc, append-nil}
-use lib.ListN.{length, drop}
+use lib.ListN.{length, take, drop}
 use Rattle.buffer.specs.Place.{overAt}
 use Rattle.buffer.proofs.Laws.{over-none}
 use Rattle.recording.specs.declared.Entry.{Entry}
-use Rattle.recording.specs.Recording.{Bytes, entriesOf, numbersOf, Item, dataOf, textOf, entriesFrom}
+use Rattle.recording.specs.Recording.{Bytes, entriesOf, Item, dataOf}
 use Rattle.recording.specs.Coloured.{openAfter}
 use Rattle.recording.specs.Edit.{front, back}
 use Rattle.recording.specs.Refusals.{badShape}
 use Rattle.recording.proofs.EditLaws.{open-append, data-front}
 use Rattle.writer.specs.declared.Cursor.{Cursor}
-use Rattle.writer.specs.Write.{Out, out, add, Fits, left, itemAt}
+use Rattle.writer.specs.Write.{Out, out, add, Fits, numbersFor, textFor, left, itemAt}
+use Rattle.share.specs.Placed.{placedFrom}
 use Rattle.writer.proofs.Laws.{same-out, fits-left, add-append}
-use Rattle.writer.proofs.Carry.{is-entry, add-nil, bytes-wrote, turn-wrote, room-turn}
+use Rattle.writer.proofs.Carry.{is-entry, add-nil, bytes-wrote, turn-wrote, room-turn, same-room}
 use Rattle.writer.proofs.Progress.{Progress, room-now, long-now}
 use Rattle.view.specs.View.{dropRaws}
 use Rattle.view.proofs.DropLaws.{drop-data}
@@ -111,12 +112,12 @@ pub gone-put : (goes : Bool) (x : Item) (oe ot : List ℕ) (c c′ : Cursor) →
 unfolding EntriesPut
 gone-put goes x oe ot c c′ g d e t = rw g (λ od. bytes-wrote od od oe ot [] c c′ (sym (over-none (c .d) od)) (omega (arith, d)) e t)
 
-pub kept-put : (goes : Bool) (ts : List ℕ) (n : Entry) (oe ot oe′ ot′ : List ℕ) (c c′ : Cursor) → goes ≡ false → badShape (n .kind) (n .start) (n .len) ≡ false → n .start + n .len ≤ length ts
-    → oe′ ≡ overAt (c .e) (numbersOf (entriesFrom (c .d) (c .t) (itemAt ts n ∷ []))) oe → ot′ ≡ overAt (c .t) (textOf (itemAt ts n ∷ [])) ot
-    → c′ .d ≡ c .d → c′ .e ≡ c .e + 4 → c′ .t ≡ c .t + n .len → EntriesPut (shown goes (itemAt ts n)) oe ot c oe′ ot′ c′
+pub kept-put : (goes : Bool) (ts : List ℕ) (n : Entry) (oe ot oe′ ot′ : List ℕ) (c c′ : Cursor) → goes ≡ false
+    → oe′ ≡ overAt (c .e) (numbersFor (c .d) oe ot c (itemAt ts n)) oe → ot′ ≡ overAt (c .t) (textFor (c .d) oe ot c (itemAt ts n)) ot
+    → c′ .d ≡ c .d → c′ .e ≡ c .e + 4 → c′ .t ≡ c .t + length (textFor (c .d) oe ot c (itemAt ts n)) → EntriesPut (shown goes (itemAt ts n)) oe ot c oe′ ot′ c′
 unfolding EntriesPut
-kept-put goes ts n oe ot oe′ ot′ c c′ g b w ee et d e t =
-    rw g (λ od. turn-wrote od od oe oe′ ot ot′ [] c c c′ (itemAt ts n) (n .len) (is-entry ts n b w) (sym (over-none (c .d) od)) (omega arith) refl refl ee et d e t)
+kept-put goes ts n oe ot oe′ ot′ c c′ g ee et d e t =
+    rw g (λ od. turn-wrote od od oe oe′ ot ot′ [] c c c′ (itemAt ts n) (is-entry ts n) (sym (over-none (c .d) od)) (omega arith) refl refl ee et d e t)
 
 -- the entries passed are written, but for those that go; room for all of them was there
 pub record Putting (l ds ns ts : List ℕ) (w v : Walk) (p : ℕ) (oe₀ ot₀ oe ot : List ℕ) : Type 0 where
@@ -193,7 +194,8 @@ module _ (l ds ns ts : List ℕ) (w v : Walk) (p : ℕ) (oe₀ ot₀ oe ot : Lis
     pub may-put : length ns ≤ 18446744073709551615
         → ((badShape (e .kind) (e .start) (e .len) ≡ false) × (e .start + e .len ≤ length ts) × (e .position ≡ v .c .at))
         × (((v .c .d ≤ 1048576) × (v .c .k + 4 ≤ 18446744073709551615))
-        × (goes ≡ false → (v .c .e + 4 ≤ length oe) × (v .c .t + e .len ≤ length ot) × (v .c .t ≤ 65536)))
+        × (goes ≡ false → (v .c .e + 4 ≤ length oe) × (v .c .t + length (textFor (v .c .d) oe ot (v .c) (itemAt ts e)) ≤ length ot) × (v .c .t ≤ 65536)
+        × (placedFrom 0 [] (entriesOf (take (v .c .e) oe)) ≡ true)))
     unfolding out
     may-put big =
         let f = ok l ds ns ts w v p (s .passing) more e q in (
@@ -201,8 +203,9 @@ module _ (l ds ns ts : List ℕ) (w v : Walk) (p : ℕ) (oe₀ ot₀ oe ot : Lis
           (
             (omega (arith, room-one .data-limit), omega (arith, big, whole l ds ns ts w v p (s .passing) more)),
             (λ g.
-                let r = room-turn (s .fit .bytes) oe ot [] (v .c) (itemAt ts e) (e .len) (is-entry ts e (f .0) (f .1)) (room-kept g) in
-                (r .entryNumbers, r .text, omega (arith, r .text-limit))),
+                let r = room-turn (s .fit .bytes) oe ot [] (v .c) (itemAt ts e) (is-entry ts e) (room-kept g) in
+                let m = same-room oe ot (v .c) (v .c) (v .c .d + 0) (itemAt ts e) (omega arith) refl refl in
+                (r .entryNumbers, omega (arith, r .text, m), omega (arith, r .text-limit), r .placed)),
           ),
         )
 

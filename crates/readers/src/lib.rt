@@ -23,6 +23,7 @@ use recording::Entry;
 use recording::Refusal;
 use recording::entry_at;
 use recording_check::check;
+use share::less_size;
 use well_formed::is_well_formed;
 use writer::Cursor;
 use writer::Settled;
@@ -34,13 +35,14 @@ ghost use mathlib.Core.Path.{_≡_};
 ghost use mathlib.Core.Bool.{true, false};
 ghost use mathlib.Core.List.{[], _∷_};
 ghost use Prim.Native.Nat.{_+_, _≤_, _<_};
-ghost use lib.ListN.{length, drop};
+ghost use lib.ListN.{length, take, drop};
 ghost use Rattle.buffer.specs.Place.{overAt};
 ghost use Rattle.chars.specs.Leads.{leadTable};
-ghost use Rattle.recording.specs.Recording.{recording, items, dataOf, textOf};
+ghost use Rattle.recording.specs.Recording.{recording, entriesOf, items, dataOf, textOf};
 ghost use Rattle.recording.specs.Refusals.{badShape, firstOf, recordingFault, dataLimit, textLimit};
 ghost use Rattle.recording.specs.Outcome.{Promised, roomIn};
-ghost use Rattle.writer.specs.Write.{out, add, blank, Fits, Sound, left, itemAt};
+ghost use Rattle.writer.specs.Write.{out, add, blank, Fits, Sound, textFor, left, itemAt};
+ghost use Rattle.share.specs.Placed.{placedFrom};
 ghost use Rattle.writer.specs.Sizes.{sizesFault, roomOf, settledFault};
 ghost use Rattle.recorder.specs.Recorder.{lentOf, judgedBySize};
 ghost use Rattle.view.specs.View.{floorItems, viewFault, officeOutcome, floorOutcome};
@@ -124,7 +126,8 @@ fn put_unless(
 ) -> Cursor
     requires { ⌜ (badShape (e .kind) (e .start) (e .len) ≡ false) × (e .start + e .len ≤ length (now text)) × (e .position ≡ c .at) ⌝ }
     requires { ⌜ (c .d ≤ dataLimit) × (c .k + 4 ≤ 18446744073709551615) ⌝ }
-    requires { ⌜ (goes ≡ false → (c .e + 4 ≤ length (now numbers)) × (c .t + e .len ≤ length (now texts)) × (c .t ≤ textLimit)) ⌝ }
+    requires { ⌜ (goes ≡ false → (c .e + 4 ≤ length (now numbers)) × (c .t + length (textFor (c .d) (now numbers) (now texts) c (itemAt (now text) e)) ≤ length (now texts)) × (c .t ≤ textLimit)
+        × (placedFrom 0 [] (entriesOf (take (c .e) (now numbers))) ≡ true)) ⌝ }
     ensures { λ r. ⌜ (r .at ≡ c .at) × (r .k ≡ c .k + 4) × EntriesPut (shown goes (itemAt (now (text .entry)) e))
         (now (numbers .entry)) (now (texts .entry)) c (now (numbers .exit)) (now (texts .exit)) r ⌝ }
 {
@@ -256,26 +259,27 @@ fn put_floor(
     w.c
 }
 
-// Refusals 9 and 21 to 23 of what the floor is left. Its data is never longer than the content: if there is room for that, nothing is measured.
+// Refusals 9 and 21 to 23 of what the floor is left, with these entry numbers and a text of this size. Its data is never longer than the content: if there is room for that, nothing is measured.
 fn settle_floor(
     t: &[u16; 256],
     content: &[u8],
     entries: &[u32],
     text: &[u8],
     label: &[u8],
-    floor: Kept,
+    floor_entries: usize,
+    floor_text: usize,
     bytes: usize,
     numbers: usize,
     texts: usize,
 ) -> Settled
     requires { ⌜ (now t ≡ leadTable) × Sound (now content) (now entries) (now text) ⌝ }
     ensures { λ r. ⌜ settledFault r ≡ sizesFault (length (dataOf (floorItems (now (label .entry)) (recording (now (content .entry)) (now (entries .entry)) (now (text .entry))))))
-        (floor .entries) (floor .text) 0 (roomOf bytes numbers texts 0) ⌝ }
+        «floor_entries» «floor_text» 0 (roomOf bytes numbers texts 0) ⌝ }
 {
     let verdict = settle(
         content.len(),
-        floor.entries,
-        floor.text,
+        floor_entries,
+        floor_text,
         0,
         bytes,
         numbers,
@@ -289,7 +293,7 @@ fn settle_floor(
         Settled::Refused(f) => {}
     }
     let d = floor_len(t, content, entries, text, label);
-    settle(d, floor.entries, floor.text, 0, bytes, numbers, texts, 0)
+    settle(d, floor_entries, floor_text, 0, bytes, numbers, texts, 0)
 }
 
 // Refusals 1 to 6 of the recording, then 34 and 35.
@@ -327,12 +331,13 @@ fn put_starred(
     entries: &[u32],
     text: &[u8],
     label: &[u8],
+    office: usize,
     floor: Kept,
     bytes: &mut [u8],
     numbers: &mut [u32],
     texts: &mut [u8],
 ) -> Answer
-    requires { ⌜ recordingFault (recording (now content) (now entries) (now text)) ≡ 0 ⌝ }
+    requires { ⌜ (recordingFault (recording (now content) (now entries) (now text)) ≡ 0) × (office ≡ length (textOf (items (recording (now content) (now entries) (now text))))) ⌝ }
     requires { ⌜ ScanTold (now label) (recording (now content) (now entries) (now text)) (Scanned.Fine floor) ⌝ }
     ensures { λ r. ⌜ Promised
         (judgedBySize (roomIn (lentOf (now (bytes .entry)) (now (numbers .entry)) (now (texts .entry))))
@@ -340,13 +345,15 @@ fn put_starred(
         (lentOf (now (bytes .entry)) (now (numbers .entry)) (now (texts .entry))) (lentOf (now (bytes .exit)) (now (numbers .exit)) (now (texts .exit))) r ⌝ }
 {
     let t = LEADS;
+    let shared = less_size(floor.text, texts.len(), office - floor.text, entries, text);
     let verdict = settle_floor(
         &t,
         content,
         entries,
         text,
         label,
-        floor,
+        floor.entries,
+        shared,
         bytes.len(),
         numbers.len(),
         texts.len(),
@@ -418,5 +425,15 @@ pub fn write_for_floor(
     if !floor.found {
         return put_whole(content, entries, text, sizes.office, bytes, numbers, texts);
     }
-    put_starred(content, entries, text, label, floor, bytes, numbers, texts)
+    put_starred(
+        content,
+        entries,
+        text,
+        label,
+        sizes.office,
+        floor,
+        bytes,
+        numbers,
+        texts,
+    )
 }

@@ -138,7 +138,7 @@ pop-empty s n h = go (eqb s 0) (eqb n 0) refl h
     go true false q g = absurd (false≢true (sym g))
     go false b q g = absurd (false≢true (sym g))
 
-text-entry : (k s n : ℕ) (t : List ℕ) (is : List Item) → badShape k s n ≡ false → s + n ≤ length t → length (textOf (itemOf k (take n (drop s t)) ∷ is)) ≡ n + length (textOf is)
+pub text-entry : (k s n : ℕ) (t : List ℕ) (is : List Item) → badShape k s n ≡ false → s + n ≤ length t → length (textOf (itemOf k (take n (drop s t)) ∷ is)) ≡ n + length (textOf is)
 unfolding badShape
 text-entry zero s n t is b h = simp (length-append, length-take, length-drop) (omega arith)
 text-entry (suc zero) s n t is b h = omega (arith, pop-empty s n b)

@@ -8,28 +8,48 @@ use Rattle.recording.specs.Recording.{Recording, recording, Item, dataOf}
 use Rattle.writer.proofs.Steps.{sound}
 use Rattle.view.specs.View.{floorItems}
 use Rattle.recorder.proofs.LeftLaws.{Sized, left-refused, left-room, left-written}
-use Rattle.readers.proofs.SizedLaws.{floor-sized}
+use Rattle.readers.proofs.SizedLaws.{less-than-office, less-asked, floor-sized}
 use Rattle.readers.proofs.put_starred.Statement.{statement}
 use Rattle.readers.proofs.put_starred.Tie as tie
 use Rattle.readers.proofs.put_starred.Reads as reads
 use Rattle.readers.proofs.put_starred.Lts as lts
 use Rattle.readers.proofs.put_floor.Reads as put-floor-reads
 use Rattle.readers.proofs.settle_floor.Reads as settle-floor-reads
+use Rattle.share.proofs.less_size.Reads as less-size-reads
 
 -- once the sizes are settled: where the function started, the items that are to be written, and that the sizes are theirs
 abbrev start : tie.After-settle-floor → tie.Start
-start c = c .before .before .before .before .before .before .before .before .before
+start c = c .before .before .before .before .before .before .before .before .before .before .before
 
 abbrev starred : tie.After-settle-floor → List Item
 starred c = let a = start c .args in floorItems (a .label .now) (recording (a .content .now) (a .entries .now) (a .text .now))
 
-sized : (c : tie.After-settle-floor) → Sized (starred c) (length (dataOf (starred c))) (start c .args .floor .entries) (start c .args .floor .text)
-sized c = let a = start c .args in floor-sized (a .label .now) (recording (a .content .now) (a .entries .now) (a .text .now)) (a .floor) (start c .pre .1)
+sized : (c : tie.After-settle-floor)
+    → let a = start c .args in
+    Sized (length (a .texts .now)) (starred c) (length (dataOf (starred c))) (a .floor .entries) (c .before .before .less-size .result)
+sized c =
+    let s = start c in
+    let a = s .args in
+    let z = c .before .before .less-size in
+    floor-sized (a .label .now) (recording (a .content .now) (a .entries .now) (a .text .now)) (a .office) (a .floor) (s .pre .0 .1) (s .pre .1) (s .pre .0 .0) (length (a .texts .now))
+    (z .result) (z .ensures)
+
+sub-less-size : tie.Need-sub-less-size
+sub-less-size c =
+    let s = c .before .before .before .before .before .before .before .before in
+    let a = s .args in
+    less-than-office (a .label .now) (recording (a .content .now) (a .entries .now) (a .text .now)) (a .office) (a .floor) (s .pre .0 .1) (s .pre .1)
+
+less-size-requires : tie.Need-less-size-requires
+less-size-requires c κs =
+    let s = c .before .before .before .before .before .before .before .before in
+    let a = s .args in
+    less-asked (a .label .now) (recording (a .content .now) (a .entries .now) (a .text .now)) (a .office) (a .floor) (s .pre .0 .1) (s .pre .1) (s .pre .0 .0)
 
 settle-floor-requires : tie.Need-settle-floor-requires
 unfolding leadTable
 settle-floor-requires c κs =
-    let a = c .before .before .before .before .before .before .before .before in (refl, sound (a .args .content .now) (a .args .entries .now) (a .args .text .now) (a .pre .0))
+    let a = c .before .before .before .before .before .before .before .before .before .before in (refl, sound (a .args .content .now) (a .args .entries .now) (a .args .text .now) (a .pre .0 .0))
 
 enum-known-verdict : tie.Need-enum-known-verdict
 enum-known-verdict c = search needs
@@ -51,7 +71,7 @@ put-floor-requires c κs =
     let s = c .before .before .before .before .before .before in
     let v = s .settle-floor in
     let a = start s .args in (
-      (refl, sound (a .content .now) (a .entries .now) (a .text .now) (start s .pre .0)),
+      (refl, sound (a .content .now) (a .entries .now) (a .text .now) (start s .pre .0 .0)),
       left-room (starred s) (a .bytes .now) (a .numbers .now) (a .texts .now) _ _ _ (sized s) (v .result) (v .ensures) (c .before .before .before .before .enum-told .given .1),
     )
 
@@ -77,6 +97,8 @@ pub put-starred-spec : {M : Type 1} → statement M
 put-starred-spec =
     tie.close
     (tie.spec
+    sub-less-size
+    less-size-requires
     settle-floor-requires
     enum-known-verdict
     returns

@@ -20,7 +20,7 @@ put-entry-requires : tie.Need-put-entry-requires
 put-entry-requires c κs =
     let pre = c .before .before .before .before .before .before .pre in
     let room = pre .1 .1 (c .before .before .if1 .left) in
-    (pre .0 .0, (pre .0 .1, ((room .0, room .1), (pre .1 .0 .0, room .2, pre .1 .0 .1))))
+    (pre .0 .0, (pre .0 .1, ((room .0, room .1), ((pre .1 .0 .0, room .2, pre .1 .0 .1), room .3))))
 
 same-length : tie.Need-same-length
 same-length c = search needs
@@ -35,7 +35,7 @@ returns-2 c =
     let start = at-if .before .before .before .before in
     let pre = start .pre in
     let r = at-put-entry .put-entry .ensures in
-    (omega (arith, r .0 .0, pre .0 .2), r .0 .1, kept-put _ _ _ _ _ _ _ _ _ (at-if .if1 .left) (pre .0 .0) (pre .0 .1) (r .1 .0) (r .1 .1) (r .0 .2) (r .0 .3) (r .0 .4))
+    (omega (arith, r .0 .0, pre .0 .2), r .0 .1, kept-put _ _ _ _ _ _ _ _ _ (at-if .if1 .left) (r .1 .0) (r .1 .1) (r .0 .2) (r .0 .3) (r .0 .4))
 
 pub put-unless-spec : {M : Type 1} → statement M
 put-unless-spec =

@@ -22,7 +22,7 @@ returns : tie.Need-returns
 returns c =
     let s = c .before .before in
     let a = s .before .before .before .before .before .args in
-    floor-roomy (a .label .now) (recording (a .content .now) (a .entries .now) (a .text .now)) (s .settle .result) (a .floor .entries) (a .floor .text)
+    floor-roomy (a .label .now) (recording (a .content .now) (a .entries .now) (a .text .now)) (s .settle .result) (a .floor-entries) (a .floor-text)
     (roomOf (a .bytes) (a .numbers) (a .texts) 0) (s .settle .ensures) (c .enum-told .given .1)
 
 enum-known-verdict : tie.Need-enum-known-verdict
@@ -37,7 +37,7 @@ settle-requires-2 c κs = search needs
 returns-2 : tie.Need-returns-2
 returns-2 c =
     let a = c .before .before .before .before .before .before .before .before .before .before .args in
-    c .settle2 .ensures ∙ ap (λ (d : ℕ). sizesFault d (a .floor .entries) (a .floor .text) 0 (roomOf (a .bytes) (a .numbers) (a .texts) 0)) (c .before .floor-len .ensures)
+    c .settle2 .ensures ∙ ap (λ (d : ℕ). sizesFault d (a .floor-entries) (a .floor-text) 0 (roomOf (a .bytes) (a .numbers) (a .texts) 0)) (c .before .floor-len .ensures)
 
 pub settle-floor-spec : {M : Type 1} → statement M
 settle-floor-spec =

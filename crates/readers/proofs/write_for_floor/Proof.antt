@@ -70,7 +70,7 @@ put-starred-requires c κs =
     let l = start s .args .label .now in
     let g = c .before .before .before .before .before .before .before .admitted2 .given in
     let r = s .admit in (
-      passed l (content s) (r .result) (r .ensures .0) (g .0 .0) (g .1),
+      (passed l (content s) (r .result) (r .ensures .0) (g .0 .0) (g .1), office-size l (content s) (r .result) (r .ensures .0) (g .0 .0) (g .1) (r .ensures .1)),
       scan-told l (content s) (r .result) (r .ensures .0) (g .0 .0) (g .1) (r .ensures .1),
     )
 
