@@ -6,7 +6,7 @@ use Rattle.chars.specs.Utf8.{table37, rowOf, tailLen, complete}
 use Rattle.chars.specs.Width.{ranges, charWidth}
 use Rattle.chars.specs.Chars.{charAt, chars, textWidth, wellFormed}
 use Rattle.chars.specs.Cut.{truncateEndPos, truncateEndWidth, truncateStartPos, truncateStartWidth, zeroWidthLen}
-use Rattle.recording.specs.Recording.{items, encode}
+use Rattle.recording.specs.Recording.{items, pushedIn, startIn, encode}
 use Rattle.recording.specs.Refusals.{badShape, entryFault, recordingFault}
 use Rattle.recording.specs.Outcome.{Outcome, overLimit, noRoom, refusalOf, settle}
 use Rattle.layout.specs.Wrap.{splitWordsAtWidth, firstFit, wrappedLine, wrapLines}
@@ -57,7 +57,7 @@ plain-due (r ∷ rs) = ap (λ (l : List Reply). ofPlain (r .expected) ∷ l) (pl
 
 -- C1 to C16
 pub document-cases : asked table ≡ due table
-unfolding table c15 table37 rowOf tailLen complete ranges charWidth charAt chars textWidth wellFormed truncateEndPos truncateEndWidth truncateStartPos truncateStartWidth zeroWidthLen items encode badShape entryFault recordingFault overLimit noRoom refusalOf settle splitWordsAtWidth firstFit wrappedLine wrapLines trimmedStartPos fillCount resultItems linesLeft number resultOf secondFault prefixFault ownFault faultsOf outcome fitAtEnd fitAtStart trimmed elideEnd elideStart completeNewline plainFaults elideEndOutcome elideStartOutcome completeNewlineOutcome
+unfolding table c15 table37 rowOf tailLen complete ranges charWidth charAt chars textWidth wellFormed truncateEndPos truncateEndWidth truncateStartPos truncateStartWidth zeroWidthLen items pushedIn startIn encode badShape entryFault recordingFault overLimit noRoom refusalOf settle splitWordsAtWidth firstFit wrappedLine wrapLines trimmedStartPos fillCount resultItems linesLeft number resultOf secondFault prefixFault ownFault faultsOf outcome fitAtEnd fitAtStart trimmed elideEnd elideStart completeNewline plainFaults elideEndOutcome elideStartOutcome completeNewlineOutcome
 document-cases = refl
 
 -- the whole table

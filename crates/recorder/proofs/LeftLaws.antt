@@ -16,7 +16,7 @@ use borrow.Author.Tests.{ltb-false}
 use Rattle.recording.proofs.FaultLaws.{no-fault, inside-of}
 use Rattle.recording.specs.Share.{Inside}
 use Rattle.share.specs.Sizes.{ownSize, Stands}
-use Rattle.share.proofs.SizeLaws.{own-of-items, own-less}
+use Rattle.share.proofs.SizeLaws.{own-whole, own-less}
 use Rattle.writer.specs.declared.Cursor.{Cursor}
 use Rattle.writer.specs.declared.Settled.{Settled}
 use Rattle.writer.specs.declared.Settled.the-variants as S
@@ -86,7 +86,7 @@ whole-sized ds ns ts room t h e =
     record {
       data-size = sym (data-size ds ns ts);
       entry-size = sym (numbers-items ds ns ts (quads-of ds ns ts h)) ∙ count-numbers (items (recording ds ns ts)) 0 [] [];
-      text-size = subst (λ (k : ℕ). Stands room k t) (own-of-items ds ns ts (items (recording ds ns ts)) h refl (λ l. refl)) e;
+      text-size = subst (λ (k : ℕ). Stands room k t) (own-whole ds ns ts h) e;
     }
 
 -- what `own_size` asks

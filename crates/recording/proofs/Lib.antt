@@ -8,3 +8,4 @@ pub mod OutcomeLaws
 pub mod CheckLaws
 pub mod PinsHold
 pub mod ShareLaws
+pub mod Shown

@@ -7,3 +7,4 @@ pub mod Outcome
 pub mod Check
 pub mod Pins
 pub mod Share
+pub mod Shown

@@ -18,8 +18,9 @@ use Rattle.recording.specs.Check.{faultOf}
 use Rattle.recording.specs.Outcome.{Lent, roomIn, answerOf}
 use Rattle.recording.proofs.FaultLaws.{firstOf-zero}
 use Rattle.recording.proofs.OutcomeLaws.{first-hit, first-on, first-one}
-use Rattle.share.specs.Sizes.{ownSize, Stands}
-use Rattle.share.proofs.SizeLaws.{own-of-items, exact}
+use Rattle.share.specs.Sizes.{ownSize, Stands, Counts}
+use mathlib.Core.Logic.{inl}
+use Rattle.share.proofs.SizeLaws.{own-whole, exact}
 use Rattle.writer.specs.declared.Cursor.{Cursor}
 use Rattle.writer.specs.declared.Settled.{Settled}
 use Rattle.writer.specs.declared.Settled.the-variants as S
@@ -67,7 +68,8 @@ module _ (ds ns ts new od oe ot : List ℕ) (xs : List Replacement) (s : Scan) (
   size = length (encode (items content) .text)
 
   stands : recordingFault content ≡ 0 → Stands (length ot) (ownSize ts (entriesOf ns)) size
-  stands a = exact (length ot) (ownSize ts (entriesOf ns)) size (sym (own-of-items ds ns ts a))
+  unfolding Counts
+  stands a = exact (length ot) (ownSize ts (entriesOf ns)) size (inl (sym (own-whole ds ns ts a)))
 
   told-of : (f : Refusal) → numberOf f ≡ recordingFault content → faultOf (CV.Refused f) ≡ recordingFault content
   unfolding faultOf

@@ -16,7 +16,7 @@ use Rattle.recording.specs.Outcome.{Room}
 use Rattle.recording.proofs.CheckLaws.{refused-number, fine-zero, fine-count, fine-within}
 use Rattle.recording.proofs.OutcomeLaws.{number-pos, first-hit, first-on, first-one}
 use Rattle.share.specs.Sizes.{ownSize, Stands}
-use Rattle.share.proofs.SizeLaws.{own-of-items}
+use Rattle.share.proofs.SizeLaws.{own-whole}
 use Rattle.writer.specs.declared.Settled.{Settled}
 use Rattle.writer.specs.declared.Settled.the-variants as S
 use Rattle.writer.specs.Sizes.{sizesFault, settledFault}
@@ -61,7 +61,7 @@ module _ (ds ns ts : List ℕ) (s : Scan) (o : Room) (v : Checked) (found : faul
         → settledFault w ≡ sizesFault d (length ns) t 0 o → settledFault w ≡ planFault ds ns ts s o
     unfolding sizeFault
     by-sizes b d sum t h w g =
-        let e = own-of-items ds ns ts no-fault in
+        let e = own-whole ds ns ts no-fault in
         g ∙ ap (λ (m : ℕ). sizesFault m (length ns) t 0 o) sum
         ∙ same-verdict (capped (s .size + (length ds - s .at))) (length ns) (length (encode (items (recording ds ns ts)) .text)) t 0 o (subst (λ (k : ℕ). Stands (o .text) k t) e h)
         ∙ sym (passed ∙ ap (λ (x : Bool). firstOf (refuseIf x 8 ∷ sizes ∷ [])) b ∙ first-one sizes)

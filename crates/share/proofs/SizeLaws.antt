@@ -313,10 +313,13 @@ own-of-items ds ns ts is h r t =
     size-of-items ds ns ts [] [] [] 0 h no-fault-none
     ∙ sym (shared-size is (items (recording ds ns ts)) none 0 (omega (arith, r, zero-mul (sumOf rawLen none))) (λ l. omega (arith, t l, zero-mul (times l none))))
 
+-- and so of all of a content, written anew
+pub own-whole : (ds ns ts : List ℕ) → recordingFault (recording ds ns ts) ≡ 0 → ownSize ts (entriesOf ns) ≡ length (encode (items (recording ds ns ts)) .text)
+own-whole ds ns ts h = own-of-items ds ns ts (items (recording ds ns ts)) h refl (λ l. refl)
+
 pub own-less : (ds ns ts : List ℕ) → recordingFault (recording ds ns ts) ≡ 0 → ownSize ts (entriesOf ns) ≤ length (textOf (items (recording ds ns ts)))
 own-less ds ns ts h =
-    let is : List Item = items (recording ds ns ts) in
-    omega (arith, own-of-items ds ns ts is h refl (λ l. refl), text-shorter is)
+    omega (arith, own-whole ds ns ts h, text-shorter (items (recording ds ns ts)))
 
 -- a second recording of which nothing is written
 pub size-none : (t u : Bytes) (es fs : List Entry) → ownSize t es ≡ textSize t es u fs 0
@@ -330,7 +333,7 @@ unfolding lessSize
 less-of-items ds ns ts is gone h r t =
     let all : List Item = items (recording ds ns ts) in
     let f = no-fault (recording ds ns ts) h .entries in
-    let a = own-of-items ds ns ts all h refl (λ l. refl) in
+    let a = own-whole ds ns ts h in
     let b = labels-same is all (λ l p. omega (arith, p, t l)) (λ l p. omega (arith, p, t l)) in
     let c : sumOf rawLen all ≡ rawsIn (entriesOf ns) = unfold items in raws-items (entriesOf ns) 0 0 ds ds ts f in
     omega (arith, a, b, c, r, own-sum ts (entriesOf ns), encode-length is, encode-length all)
