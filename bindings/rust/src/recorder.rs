@@ -56,6 +56,8 @@ struct Labels {
     first: HashMap<Box<[u8]>, First>,
     /// How many entry numbers are read.
     read: usize,
+    /// The part of the label pushed last: the same one often comes again.
+    last: Option<(usize, usize)>,
 }
 
 /// Where a label comes first.
@@ -63,26 +65,39 @@ struct First {
     /// The place of the push among the entry numbers.
     entry: usize,
     /// The start of its text.
-    start: u32,
+    start: usize,
 }
 
 impl Labels {
     /// The start of the first push with this text.
-    fn start_of(&mut self, label: &[u8], entries: &[u32], text: &[u8]) -> Option<u32> {
+    #[inline]
+    fn start_of(&mut self, label: &[u8], entries: &[u32], text: &[u8]) -> Option<usize> {
+        match self.last {
+            Some((start, len)) if text[start..start + len] == *label => Some(start),
+            _ => self.find(label, entries, text),
+        }
+    }
+
+    fn find(&mut self, label: &[u8], entries: &[u32], text: &[u8]) -> Option<usize> {
         for (k, entry) in entries[self.read..].chunks_exact(ENTRY_NUMBERS).enumerate() {
-            if entry[1] == PUSH_LABEL {
-                let part = &text[entry[2] as usize..][..entry[3] as usize];
-                self.add(part, self.read + ENTRY_NUMBERS * k, entry[2]);
+            let (start, len) = (entry[2] as usize, entry[3] as usize);
+            let part = &text[start..start + len];
+            if entry[1] == PUSH_LABEL && !self.first.contains_key(part) {
+                self.first.insert(part.into(), First { entry: self.read + ENTRY_NUMBERS * k, start });
             }
         }
         self.read = entries.len();
         self.first.get(label).map(|first| first.start)
     }
 
-    fn add(&mut self, label: &[u8], entry: usize, start: u32) {
-        if !self.first.contains_key(label) {
-            self.first.insert(label.into(), First { entry, start });
+    /// The label is pushed: the recording was so long before, and this start was found.
+    #[inline]
+    fn pushed(&mut self, label: &[u8], before: Used, found: Option<usize>) {
+        if found.is_none() {
+            self.first.insert(label.into(), First { entry: before.entries, start: before.text });
         }
+        self.read = before.entries + ENTRY_NUMBERS;
+        self.last = Some((found.unwrap_or(before.text), label.len()));
     }
 
     /// The recording ends there now.
@@ -90,6 +105,7 @@ impl Labels {
         if self.read > entries {
             self.first.retain(|_, first| first.entry < entries);
             self.read = entries;
+            self.last = None;
         }
     }
 }
@@ -311,24 +327,21 @@ impl FormatRecorder {
     #[inline]
     fn push_label_at(&mut self, position: u32, label: &[u8]) -> Result<(), Refusal> {
         let before = self.used;
-        let first = self.labels.start_of(label, &self.entries[..before.entries], &self.text[..before.text]);
-        self.push_entry(position, PUSH_LABEL, first, label)?;
-        if first.is_none() {
-            self.labels.add(label, before.entries, before.text as u32);
-        }
-        self.labels.read = self.used.entries;
+        let found = self.labels.start_of(label, &self.entries[..before.entries], &self.text[..before.text]);
+        self.push_entry(position, PUSH_LABEL, found, label)?;
+        self.labels.pushed(label, before, found);
         Ok(())
     }
 
     /// One entry. `start`: its text is there already; otherwise it goes to the text's end.
     #[inline]
-    fn push_entry(&mut self, position: u32, kind: u32, start: Option<u32>, text: &[u8]) -> Result<(), Refusal> {
+    fn push_entry(&mut self, position: u32, kind: u32, start: Option<usize>, text: &[u8]) -> Result<(), Refusal> {
         let added = if start.is_some() { &[] } else { text };
         let entries = within(self.used.entries, ENTRY_NUMBERS, MAX_ENTRY_NUMBERS)?;
         let end = within(self.used.text, added.len(), MAX_TEXT)?;
         self.entries.truncate(self.used.entries);
         self.text.truncate(self.used.text);
-        self.entries.extend_from_slice(&[position, kind, start.unwrap_or(self.used.text as u32), text.len() as u32]);
+        self.entries.extend_from_slice(&[position, kind, start.unwrap_or(self.used.text) as u32, text.len() as u32]);
         self.text.extend_from_slice(added);
         self.used = Used { entries, text: end, ..self.used };
         Ok(())

@@ -50,7 +50,7 @@ fn results_up_to_the_limits() {
     row.write_data(line.as_bytes()).unwrap();
     let mut prefix = FormatRecorder::new();
     // Raw sequences, each of which is stored: equal labels are stored once.
-    prefix.raw(&vec![b'x'; MAX_TEXT / (MAX_ENTRIES / 2)]).unwrap();
+    prefix.raw(&[b'x'; MAX_TEXT / (MAX_ENTRIES / 2)]).unwrap();
     prefix.pop_label().unwrap();
     let mut out = FormatRecorder::new();
     write_indented(&mut out, &row, &prefix).unwrap();
