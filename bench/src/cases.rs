@@ -63,7 +63,18 @@ pub const CASES: &[Case] = &[
     Case { name: "complete_newline_from_bytes", sizes: &ROWS, sides: complete_newline_from_bytes },
     Case { name: "typed_write_truncated_end", sizes: &ROWS, sides: typed_write_truncated_end },
     Case { name: "made_by_adding", sizes: &SHORT_ROWS, sides: made_by_adding },
+    Case { name: "replay_8_labels", sizes: &PAGE, sides: |input| replay_pages(input, 8) },
+    Case { name: "replay_4096_labels", sizes: &PAGE, sides: |input| replay_pages(input, PUSHES) },
+    Case { name: "write_indented_8_labels", sizes: &PAGE, sides: |input| write_indented_pages(input, 8) },
+    Case { name: "write_indented_4096_labels", sizes: &PAGE, sides: |input| write_indented_pages(input, PUSHES) },
+    Case { name: "write_indented_labelled_prefix", sizes: &PAGE, sides: write_indented_labelled },
+    Case { name: "typed_pushes_8_labels", sizes: &PAGE, sides: |input| typed_pushes(input, 8) },
+    Case { name: "typed_pushes_4096_labels", sizes: &PAGE, sides: |input| typed_pushes(input, PUSHES) },
 ];
+
+/// Pages with as many pushes as there may be entries (document 02, Q-8). With 16 bytes a label, 4,096 different ones fill the text.
+const PAGE: [Size; 1] = [(64 << 10, "64 KiB")];
+const PUSHES: usize = 4096;
 
 /// Those of the line index, for lines of about so many bytes: each against both forms of ours, lists that surely have room or are exactly full.
 macro_rules! line_index_cases {
@@ -311,6 +322,66 @@ fn write_indented(input: &Input) -> Result<Pair, String> {
         |row, out| PREFIX.with(|p| original::write_indented(out, &row.recorder, |out| p.1.replay(out))).map(|_| 0),
         |row, room| PREFIX.with(|p| lent::write_indented(view(&row.lists), view(&p.0), room.lent())),
     )
+}
+
+/// A page of 4,096 pushes, evenly apart, with so many labels in turn: numbered grades, which differ in their last bytes.
+fn page(text: &[u8], labels: usize) -> Row {
+    let mut data = text.to_vec();
+    (1..data.len() / LINE).for_each(|i| data[i * LINE] = b'\n');
+    let push = |i: usize| Entry { at: data.len() * i / PUSHES, kind: Kind::Push, text: format!("grade No. {:06}", i % labels).into_bytes() };
+    let entries = (0..PUSHES).map(push).collect();
+    of_recording(Recording { data, entries })
+}
+
+fn pages(input: &Input, labels: usize) -> Vec<Row> {
+    input.texts.iter().map(|text| page(text, labels)).collect()
+}
+
+fn replay_pages(input: &Input, labels: usize) -> Result<Pair, String> {
+    let rust = |row: &Row, out: &mut FormatRecorder| row.recorder.replay(out).map(|()| 0);
+    recorded_rows(pages(input, labels), rust, |row, room| lent::replay(view(&row.lists), room.lent()))
+}
+
+fn write_indented_pages(input: &Input, labels: usize) -> Result<Pair, String> {
+    let rust = |row: &Row, out: &mut FormatRecorder| PREFIX.with(|p| original::write_indented(out, &row.recorder, |out| p.1.replay(out))).map(|_| 0);
+    recorded_rows(pages(input, labels), rust, |row, room| PREFIX.with(|p| lent::write_indented(view(&row.lists), view(&p.0), room.lent())))
+}
+
+/// A prefix with a label, pushed and popped before each of some 1,600 lines.
+fn write_indented_labelled(input: &Input) -> Result<Pair, String> {
+    const SHORT_LINE: usize = 40;
+    let row = |text: &Vec<u8>| {
+        let mut data: Vec<u8> = text.iter().map(|b| if *b == b'\n' { b' ' } else { *b }).collect();
+        data.iter_mut().skip(SHORT_LINE - 1).step_by(SHORT_LINE).for_each(|b| *b = b'\n');
+        of_recording(Recording::plain(&data))
+    };
+    let rows = input.texts.iter().map(row).collect();
+    let (prefix, recorder) = second(b"> ");
+    let prefix: &'static Lists = Box::leak(Box::new(prefix));
+    let recorder: &'static FormatRecorder = Box::leak(Box::new(recorder));
+    let rust = |row: &Row, out: &mut FormatRecorder| original::write_indented(out, &row.recorder, |out| recorder.replay(out)).map(|_| 0);
+    recorded_rows(rows, rust, |row, room| lent::write_indented(view(&row.lists), view(prefix), room.lent()))
+}
+
+/// The same pages recorded by the type, which has to know its labels, and by the original.
+fn typed_pushes(input: &Input, labels: usize) -> Result<Pair, String> {
+    let rust = |row: &Row| row.recording.to_recorder();
+    let rattle = |row: &Row| {
+        let (mut made, mut at) = (ruszvedok::FormatRecorder::new(), 0);
+        for entry in &row.recording.entries {
+            made.write_data(&row.recording.data[at..entry.at]).unwrap();
+            made.push_label(std::str::from_utf8(&entry.text).unwrap()).unwrap();
+            at = entry.at;
+        }
+        made.write_data(&row.recording.data[at..]).unwrap();
+        made
+    };
+    let check = move |row: &Row| {
+        let (made, lists) = (rattle(row), &row.lists);
+        let View { data, entries, text } = made.view();
+        if (data, entries, text) == (&lists.data, &lists.entries, &lists.text) { Ok(()) } else { Err("other results".into()) }
+    };
+    Pair::new(pages(input, labels), check, rust, rattle)
 }
 
 /// The text in lines of half to one and a half times that many bytes, or in one if it is shorter. They begin with the prefix; a rest that has

@@ -76,7 +76,8 @@ pub fn recording(numbers: &mut Numbers, most: u64) -> Recording {
     Recording { data, entries }
 }
 
-fn label(numbers: &mut Numbers) -> Vec<u8> {
+/// One of a few, so that equal ones come often.
+pub fn label(numbers: &mut Numbers) -> Vec<u8> {
     const LABELS: [&str; 6] = ["", "a", "node", "working_copy", "ä木", "\u{301}"];
     LABELS[numbers.within(0, 5) as usize].as_bytes().to_vec()
 }
@@ -116,12 +117,17 @@ pub fn scattered(recording: &Recording, numbers: &mut Numbers) -> Lists {
     Lists { data: recording.data.clone(), entries, text }
 }
 
-/// Data, entries or text as long as the limit or one longer.
+/// Data, entries or text as long as the limit or one longer; or so the text of a result, with a label that comes three times and is stored once.
 pub fn at_a_limit(numbers: &mut Numbers) -> Lists {
     let over = numbers.within(0, 1) as usize;
-    match numbers.within(0, 2) {
+    match numbers.within(0, 3) {
         0 => Lists { data: b"oak 12 ft".repeat(1 << 17)[..LIMITS.0 + over].to_vec(), ..Lists::default() },
         1 => Lists { data: b"ab".to_vec(), entries: [1, 1, 0, 0].repeat(LIMITS.1 / 4 + over), text: vec![] },
+        2 => {
+            let half = LIMITS.2 as u32 / 2;
+            let entries = [[0, 0, 0, half], [0, 2, 1, half + over as u32], [1, 0, 1, half], [1, 0, 0, half]];
+            Lists { data: b"ab".to_vec(), entries: entries.concat(), text: vec![b'x'; half as usize + 2] }
+        }
         _ => Lists { data: b"ab".to_vec(), entries: vec![1, 2, 0, LIMITS.2 as u32 - 2], text: vec![0x1B; LIMITS.2 + over] },
     }
 }
@@ -182,6 +188,21 @@ pub fn listed(data: &[u8], width: usize, break_words: bool) -> (u64, Vec<u32>) {
     (lines.len() as u64, lines.into_iter().flat_map(|(start, end, width)| [start as u32, end as u32, width as u32]).collect())
 }
 
+/// Where the first push with this label has its part (document 02, Q-8).
+fn start_of(lists: &Lists, label: &[u8]) -> Option<u32> {
+    let has = |row: &&[u32]| row[1] == 0 && lists.text.get(row[2] as usize..).is_some_and(|rest| rest.get(..row[3] as usize) == Some(label));
+    lists.entries.chunks_exact(4).find(has).map(|row| row[2])
+}
+
+/// A label to push onto a recording: half of them one that it has, if it has any.
+pub fn label_for(content: &Recording, other: Vec<u8>, numbers: &mut Numbers) -> Vec<u8> {
+    let labels: Vec<_> = content.entries.iter().filter(|entry| entry.kind == Kind::Push).map(|entry| &entry.text).collect();
+    match labels.len() as u64 {
+        count @ 1.. if numbers.within(0, 1) == 0 => labels[numbers.within(0, count - 1) as usize].clone(),
+        _ => other,
+    }
+}
+
 /// The refusal of what is added (6 for a label, 3 for a raw sequence) and the lists with it at their ends; `kind`: 0 data, 1 a label, 2 a pop,
 /// 3 a raw sequence. Where nothing is refused, the original adds the same, and what it has must be these lists, read back.
 pub fn with_added(lists: &Lists, content_fault: u64, content: &Recording, kind: u64, added: &[u8]) -> Result<(u64, Lists), String> {
@@ -192,13 +213,14 @@ pub fn with_added(lists: &Lists, content_fault: u64, content: &Recording, kind: 
     };
     let mut result = lists.clone();
     let (at, start, len) = (lists.data.len() as u32, lists.text.len() as u32, added.len() as u32);
+    let shared = if kind == 1 { start_of(lists, added) } else { None };
     match kind {
         0 => result.data.extend(added),
-        1 => result.entries.extend([at, 0, start, len]),
+        1 => result.entries.extend([at, 0, shared.unwrap_or(start), len]),
         2 => result.entries.extend([at, 1, 0, 0]),
         _ => result.entries.extend([at, 2, start, len]),
     }
-    if kind == 1 || kind == 3 {
+    if kind == 3 || kind == 1 && shared.is_none() {
         result.text.extend(added);
     }
     if (content_fault, fault) == (0, 0) {

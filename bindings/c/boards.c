@@ -399,6 +399,8 @@ static void parts(void)
     static const char *const wanted[] = {"ab", "x", "cd", "", "\x1B[", "e"};
     RUSZVEDOK_RECORDING(row, 8, 4, 8);
     RUSZVEDOK_RECORDING(copy, 8, 4, 8);
+    RUSZVEDOK_RECORDING(twice, 8, 5, 1);
+    RUSZVEDOK_RECORDING(filled, 8, 8, 1);
     ruszvedok_cursor at = {0, 0};
     ruszvedok_part part;
     size_t k;
@@ -414,6 +416,14 @@ static void parts(void)
     expect("whole or not at all", ruszvedok_labeled_to(&row, "y", "f").refusal == RUSZVEDOK_ENTRY_BUFFER_TOO_SHORT);
     holds("what it held", ruszvedok_pop_label_to(&row), &row, "abcde", 0);
     expect("entries", row.entries_len == 4 * RUSZVEDOK_ENTRY_SIZE && row.text_len == 3);
+    /* An equal label takes the part of the first one, though the text is full; another has no room, and a raw sequence neither. */
+    holds("a label", ruszvedok_labeled_to(&twice, "x", "a"), &twice, "a", 0);
+    holds("the same again", ruszvedok_labeled_to(&twice, "x", "b"), &twice, "ab", 0);
+    expect("stored once", twice.text_len == 1 && twice.entries_len == 4 * RUSZVEDOK_ENTRY_SIZE && twice.entries[10] == 0 && twice.entries[11] == 1);
+    expect("another label", ruszvedok_push_label_to(&twice, BYTES("y")).refusal == RUSZVEDOK_TEXT_BUFFER_TOO_SHORT);
+    expect("a raw sequence", ruszvedok_raw_to(&twice, BYTES("x")).refusal == RUSZVEDOK_TEXT_BUFFER_TOO_SHORT);
+    holds("in a result too", ruszvedok_write_padded_end_to(&filled, ruszvedok_view_of(&twice), ruszvedok_view_of(&twice), 3), &filled, "abab", 0);
+    expect("stored once in a result", filled.text_len == 1 && filled.entries_len == 8 * RUSZVEDOK_ENTRY_SIZE);
     expect("ill-formed label", ruszvedok_push_label_to(&row, BYTES("\xFF")).refusal == RUSZVEDOK_LABEL_ILL_FORMED);
 }
 

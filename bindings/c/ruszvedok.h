@@ -14,7 +14,8 @@
  * written may overlap another argument. `res` gets five numbers, at the places RUSZVEDOK_RES_*:
  *   the refusal (0: none), data length, number of entry numbers, text length, and the call's number (a width or a count, or 0).
  * After a refusal the other four are 0 and every buffer holds what it held. Otherwise each buffer holds the result from its first
- * place on, and all beyond it is untouched. The texts of a result's entries lie one after another from 0, in entry order.
+ * place on, and all beyond it is untouched. The texts of a result's entries lie one after another from 0, in entry order; equal labels
+ * have one part, stored at the first of them, and each raw sequence has its own.
  * A question writes no buffer: its `res` gets three numbers, the refusal (0: none) and the two asked for, 0 after a refusal.
  *
  * No call allocates, keeps a pointer, or has a state of its own; calls over different buffers may run at the same time.

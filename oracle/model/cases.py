@@ -1,6 +1,6 @@
 """The model's own tests: document 01's cases C1 to C16, with document 02's widths of lines, tab stops, indent taken off, pictures, two readers and line
 index; its reading of UTF-8 against Python's decoder; and laws, on random inputs (those of the two readers are in `views.py`, of the line index in
-`indexes.py`)."""
+`indexes.py`, of shared label texts in `sharing.py`)."""
 import random
 from contextlib import contextmanager
 
@@ -196,11 +196,12 @@ def lent(data, numbers, text, lines):
 
 
 def entry_list(parts):
-    """Entry numbers and text of entries given by place, kind and text."""
+    """Entry numbers and text of entries given by place, kind and text, as a result has them: an equal label has the part of the first one."""
     numbers, text = [], b""
-    for position, (kind, part) in parts:
-        numbers += (position, kind, 0 if kind == 1 else len(text), len(part))
-        text += part
+    for k, (position, (kind, part)) in enumerate(parts):
+        same = next((i for i, (_, what) in enumerate(parts[:k]) if kind == PUSH and what == (PUSH, part)), None)
+        numbers += (position, kind, 0 if kind == 1 else len(text) if same is None else numbers[4 * same + 2], len(part))
+        text += part if same is None else b""
     return numbers, text
 
 
@@ -228,8 +229,8 @@ def document_cases():
     numbers, (data, entries, text, _) = call("write_tabs_expanded", TABBED, 4, room=(5, 8, 1))
     if entries != (1, 0, 0, 1, 4, 1, 0, 0) or coloured(recording(data, entries, text)) != [(0x61, ()), *[(0x20, (b"x",))] * 3, (0x62, ())]:
         wrong.append("Q-2, the tab's labels")
-    numbers, (data, entries, text, _) = call("write_unindented", QUOTED, QUOTE, room=(3, 28, 4))
-    if (numbers[0], data, text) != (0, b"a\nb", b"xRxy") or entries != (0, 0, 0, 1, 0, 2, 1, 1, 0, 1, 0, 0, 2, 0, 2, 1, 2, 0, 3, 1, 2, 1, 0, 0, 3, 1, 0, 0):
+    numbers, (data, entries, text, _) = call("write_unindented", QUOTED, QUOTE, room=(3, 28, 3))
+    if (numbers[0], data, text) != (0, b"a\nb", b"xRy") or entries != (0, 0, 0, 1, 0, 2, 1, 1, 0, 1, 0, 0, 2, 0, 0, 1, 2, 0, 2, 1, 2, 1, 0, 0, 3, 1, 0, 0):
         wrong.append("Q-3, the entries")
     for name, content, parts, data, left in FLOOR:
         given, expected = recording(content, *entry_list(parts)), recording(data, *entry_list(left))

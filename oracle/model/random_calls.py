@@ -1,7 +1,7 @@
 """Random calls for `compare_calls`: recordings of short texts rich in what is hard, some of them faulty, a few as long as a limit or longer.
 
 `LAYOUT` has for each layout call what it takes after its content, `LAYOUT_WITH_CONTENT` what it takes together with it; a new call is a line of one of them. `VIEWS` has the two readers, which no
-list holds. `list_of_calls` makes a list for `run_calls`.
+list holds. `list_of_calls` makes a list for `run_calls`, `adding` what the calls that add take.
 """
 import views
 from runs import NAMES, Pools
@@ -14,8 +14,10 @@ PIECES = [p.encode() if isinstance(p, str) else p for p in [
     "\x7F", "\x85", b"\x9C", b"\xA8", b"\xE6", b"\xE6\x9C", b"\xF0", b"\xF0\x9F\x98", b"\xC3", b"\xFF", b"\xC0\x89", b"\xE0\x80\x89", b"\xED\xA0\x80", b"\xF4\x90",
     # Pictures (document 02, Q-5): both sides of the ends of their ranges, and parts of them.
     "\U0001F5FF", "\U0001F600", "\U0001F64F", "\U0001F650", "\U0001F67F", "\U0001F680", "\U0001F6C5", "\U0001F6C6", b"\xF0\x9F", b"\xF0\x9F\x9A", b"\x98\x80", b"\x80"]]
-LABELS = [b"x", b"x", b"yz", b"", "木".encode(), b"\t", b"working_copy"]
-RAWS = [b"R", b"\xFF", b"\x1B[1m", b"\t\n", b"\x9C"]
+# Some differ in their first or last byte only, or are the end or the beginning of another.
+LABELS = [b"x", b"x", b"x", b"yz", b"yx", b"xz", b"xx", b"", b"", "木".encode(), b"\t", b"working_copy", b"working"]
+# Two are labels too.
+RAWS = [b"R", b"\xFF", b"\x1B[1m", b"\t\n", b"\x9C", b"x", b"yz"]
 
 
 def text(pick, most=10):
@@ -29,19 +31,23 @@ def content(pick, most=10):
 
 
 def with_entries(pick, data, places=None):
-    """A recording: entries at any of the places, their texts in order with some unused before them, or a part that an earlier entry has."""
-    count = int(pick.random() * 6)
+    """A recording: entries at any of the places, their texts in order with some unused before them, or a part that an earlier entry has, or one that lies anywhere in the text. Mostly few labels,
+    so that equal ones are often there, stored once or more than once (document 02, Q-8); some recordings have many entries."""
+    count = int(pick.random() * (6 if pick.random() < 0.85 else 25))
+    few = pick.choices(LABELS, k=pick.choice((1, 2, 3, 9)))
     numbers, texts, parts = [], b"", {0: [], 2: []}
     for position in sorted(pick.choices(places or range(len(data) + 1), k=count)):
         kind = pick.choice((0, 0, 1, 1, 2))
         if kind == 1:
             numbers += (position, 1, 0, 0)
             continue
-        if parts[kind] and pick.random() < 0.2:
+        new, way = pick.choice(few if kind == 0 else RAWS), pick.random()
+        if parts[kind] and way < 0.2:
             part = pick.choice(parts[kind])
+        elif way < 0.35 and new in texts:
+            part = (pick.choice((texts.find(new), texts.rfind(new))), len(new))
         else:
             texts += b"" if pick.random() < 0.7 else b"?\xFF"
-            new = pick.choice(LABELS if kind == 0 else RAWS)
             part = (len(texts), len(new))
             parts[kind].append(part)
             texts += new
@@ -66,7 +72,7 @@ def damaged(pick, data, numbers, texts):
 def long_content(pick):
     """At a limit of the recording or of the result, one below it or above it."""
     more = pick.choice((-1, 0, 0, 1, 1))
-    way = int(pick.random() * 5)
+    way = int(pick.random() * 7)
     if way == 0:
         return recording(b"\t" * (16384 + min(more, 0)) + b"a" * pick.choice((0, 1, 63, 64, 65)), (0, 0, 0, 1), b"x")
     if way == 1:
@@ -75,7 +81,12 @@ def long_content(pick):
         return recording(b"a\tb", (1, 1, 0, 0) * (4096 + more))
     if way == 3:
         return recording(b"a\tb", (1, 0, 1, 3), b"x" * (65536 + more))
-    return recording(b"a\tb", (1, 0, 0, 32768 + more, 2, 2, 0, 32768), b"x" * (32768 + max(more, 0)))
+    if way == 4:
+        return recording(b"a\tb", (1, 0, 0, 32768 + more, 2, 2, 0, 32768), b"x" * (32768 + max(more, 0)))
+    if way == 5:
+        # A label three times and a raw sequence: the text has one of the three.
+        return recording(b"a\tb", (1, 0, 0, 32768 + more) * 2 + (1, 2, 1, 32768, 2, 0, 1, 32768 + more), b"x" * 32770)
+    return recording(b"a\tb", sum(((1, 0, 3 * (i % 8), 3) for i in range(4096)), ()), b"No.123456789abcdefghijkl")
 
 
 def any_content(pick):
@@ -218,6 +229,27 @@ def viewing(pick):
     return damaged(pick, made.data, list(made.numbers), made.text) if way > 0.94 else made, views.label(pick)
 
 
+# ── recordings to add to
+
+def full_text(pick):
+    """A recording whose text is at the limit or one below it, with two parts that are equal or nearly so, and a label that is there, or is not."""
+    texts, first = (b"working_copy" * 5462)[:65536 - pick.choice((0, 0, 1))], pick.choice((0, 12, 1))
+    return recording(b"ab", (0, 0, first, 12, 1, 0, 24, 12, 1, 2, 0, 5), texts), pick.choice((b"working_copy", b"working_copy", b"orking_copyw", b"working_cop", b"y", b""))
+
+
+def adding(pick, name):
+    """A content, and what is added: of labels mostly one that the content has."""
+    way = pick.random()
+    if name == "push_label" and way < 0.002:
+        return full_text(pick)
+    r = content(pick) if way > 0.001 else long_content(pick)
+    labels = [r.text[start:start + length] for _, kind, start, length in zip(*[iter(r.numbers)] * 4) if kind == 0]
+    if name == "push_label":
+        way = pick.random()
+        return r, pick.choice(labels) if labels and way < 0.6 else pick.choice(LABELS) if way < 0.93 else pick.choice((b"\xFF", b"x\xE6", text(pick, 2)))
+    return r, b"" if name == "pop_label" else pick.choice((*RAWS, *RAWS, b"")) if name == "raw" else text(pick, 3)
+
+
 # What a layout call takes after its content.
 LAYOUT = {
     "replay": lambda pick, r: (),
@@ -235,6 +267,8 @@ LAYOUT = {
 LAYOUT_WITH_CONTENT = {"write_unindented": unindenting}
 # What the two readers take (document 02, Q-6): a content and a label.
 VIEWS = {"write_for_office": viewing, "write_for_floor": viewing}
+# The calls that add.
+ADDING = ("write", "push_label", "pop_label", "raw")
 # All calls whose content is made for them.
 WITH_CONTENT = {**LAYOUT_WITH_CONTENT, **VIEWS}
 # Those of them that are lent a line list.

@@ -68,7 +68,7 @@ FAULTY = POOLS.add(b".", (0, 1, 0))
 QUOTE = POOLS.add(b"> ", (0, 0, 0, 1, 2, 1, 0, 0), b"g")
 NONE = (0,) * 6
 LIST = [(0, 9, ARROW), (8, 0, OAK), (1, 8, CUT), (2, 10, WIDE), (3, 4294967295, DASH), (3, 14, DASH), (4, 60, ARROW), (4, 17, BAR), (6, 8, NONE), (7, 1, NONE), (7, 7, NONE),
-        (7, 7, NONE), (0, 3, FAULTY), (5, 0, BAR), (5, 0, QUOTE), (8, 0, TWO), (9, 65, NONE), (9, 4, NONE), (10, 4294967295, QUOTE), (1, 12, CUT)]
+        (7, 7, NONE), (0, 3, FAULTY), (5, 0, CUT), (5, 0, QUOTE), (8, 0, TWO), (9, 65, NONE), (9, 4, NONE), (10, 4294967295, QUOTE), (1, 12, CUT)]
 CALLS = sum(((kind, width, *ranges) for kind, width, ranges in LIST), ())
 # A call that can be run, one of no kind, ranges that run backwards, and ranges that pass their pools.
 NUMBERS = ((0, 9) + ARROW + (11, 9) + ARROW + (0, 9, 2, 0, 0, 8, 2, 3) + (0, 9, 0, 2, 8, 0, 2, 3) + (0, 9, 0, 2, 0, 8, 3, 2)

@@ -190,19 +190,22 @@ class Result:
     def data(self):
         return b"".join(data * times for data, times in self.strings)
 
-    def numbers(self):
-        """Each entry's text copied, in entry order, one after another from 0; a pop has 0 and 0."""
-        numbers, start = [], 0
+    def parts(self):
+        """The start of each entry's part, and the texts that are stored, in order, one after another from 0; a pop has 0. A raw sequence has a part of its own.
+        Equal texts of push entries share one, placed at the first push that has it (document 02, Q-8)."""
+        starts, stored, length, first = [], [], 0, {}
         for e in self.entries:
-            numbers += [e.position, e.kind, 0 if e.kind == POP else start, len(e.text)]
-            start += len(e.text)
-        return numbers
-
-    def text(self):
-        return b"".join(e.text for e in self.entries)
-
-    def text_length(self):
-        return sum(len(e.text) for e in self.entries)
+            if e.kind == POP:
+                starts.append(0)
+            elif e.kind == PUSH and e.text in first:
+                starts.append(first[e.text])
+            else:
+                if e.kind == PUSH:
+                    first[e.text] = length
+                starts.append(length)
+                stored.append(e.text)
+                length += len(e.text)
+        return starts, stored
 
 
 class Copy:
@@ -683,16 +686,19 @@ def overwrite(buffer, new):
 
 
 def settle(out, number, lines, buffers):
-    """9, then 21 to 24, then the answer and what the buffers hold. The line list takes three numbers a line."""
+    """9, then 21 to 24, then the answer and what the buffers hold. The line list takes three numbers a line. A result's text is what is stored: of equal labels one."""
     data, numbers, text, line_list = buffers
-    check_lengths(out.length, 4 * len(out.entries), out.text_length())
+    starts, stored = out.parts()
+    text_length = sum(map(len, stored))
+    check_lengths(out.length, 4 * len(out.entries), text_length)
     line_numbers = [n for line in lines for n in line]
     refuse_if(out.length > len(data), 21)
     refuse_if(4 * len(out.entries) > len(numbers), 22)
-    refuse_if(out.text_length() > len(text), 23)
+    refuse_if(text_length > len(text), 23)
     refuse_if(len(line_numbers) > len(line_list), 24)
-    after = (overwrite(data, out.data()), overwrite(numbers, out.numbers()), overwrite(text, out.text()), overwrite(line_list, line_numbers))
-    return (0, out.length, 4 * len(out.entries), out.text_length(), number), after
+    entry_numbers = [n for e, start in zip(out.entries, starts) for n in (e.position, e.kind, start, len(e.text))]
+    after = (overwrite(data, out.data()), overwrite(numbers, entry_numbers), overwrite(text, b"".join(stored)), overwrite(line_list, line_numbers))
+    return (0, out.length, len(entry_numbers), text_length, number), after
 
 
 def layout_call(write):
@@ -796,9 +802,10 @@ def adding_call(own_check, parts):
     """A call that adds at the ends: `used` says how much of each buffer is the content, and `added` is what comes."""
     def run(used, added=b"", *, buffers):
         refuse_if(any(n > len(b) for n, b in zip(used, buffers)), 10)
-        check_recording(Recording(*(b[:n] for n, b in zip(used, buffers))))
+        content = Recording(*(b[:n] for n, b in zip(used, buffers)))
+        check_recording(content)
         own_check(added)
-        new = parts(added, *used)
+        new = parts(added, content)
         lengths = [n + len(p) for n, p in zip(used, new)]
         check_lengths(*lengths)
         for length, buffer, number in zip(lengths, buffers, (21, 22, 23)):
@@ -810,7 +817,15 @@ def adding_call(own_check, parts):
 
 def entry_at_end(kind):
     """One entry at the current end, its text at the text's end; a pop has 0 and 0."""
-    return lambda added, data, numbers, text: (b"", (data, kind, 0 if kind == POP else text, len(added)), added)
+    return lambda added, content: (b"", (len(content.data), kind, 0 if kind == POP else len(content.text), len(added)), added)
+
+
+def push_at_end(label, content):
+    """A push takes the part of the content's first push with equal text, and then no text is added (document 02, Q-8)."""
+    for e, start in zip(entries(content), content.numbers[2::4]):
+        if e.kind == PUSH and e.text == label:
+            return b"", (len(content.data), PUSH, start, len(label)), b""
+    return entry_at_end(PUSH)(label, content)
 
 
 CALLS = {
@@ -834,7 +849,7 @@ CALLS = {
     "elide_end": plain_call(elide_end),
     "complete_newline": plain_call(lambda text: (complete_newline(text), 0)),
     "write": adding_call(lambda added: None, lambda added, *used: (added, (), b"")),
-    "push_label": adding_call(lambda added: refuse_if(not well_formed(added), 6), entry_at_end(PUSH)),
+    "push_label": adding_call(lambda added: refuse_if(not well_formed(added), 6), push_at_end),
     "pop_label": adding_call(lambda added: None, entry_at_end(POP)),
     "raw": adding_call(lambda added: refuse_if(len(added) == 0, 3), entry_at_end(RAW)),
 }

@@ -53,6 +53,60 @@ def buffer(value, unwritten):
     return held + [unwritten] * (int(length) - len(held))
 
 
+# ── Lists as they are written: the other way round
+
+def in_runs(units, longest, least):
+    """Parts of a list, each with how often it comes: a block of up to `longest` members counts as repeated where the repeats have at least `least` members."""
+    result, at, plain = [], 0, 0
+    while at < len(units):
+        for size in range(1, longest + 1):
+            end = at + size
+            while end + size <= len(units) and units[end:end + size] == units[at:at + size]:
+                end += size
+            if end - at >= max(least, 2 * size):
+                result += [(units[plain:at], 1)] * (plain < at) + [(units[at:at + size], (end - at) // size)]
+                at = plain = end
+                break
+        else:
+            at += 1
+    return result + [(units[plain:], 1)] * (plain < at)
+
+
+def is_shown(c):
+    """Which characters of more than one byte stand for themselves: Latin letters, and those of two columns but for the wide space."""
+    return c.ok and c.length > 1 and (0xC0 <= c.code <= 0x24F or model.width_of(c) == 2 and c.code != 0x3000)
+
+
+def quoted(data):
+    names, result, at = {value: f"\\{letter}" for letter, value in ESCAPES.items()} | {0x5C: "\\\\"}, "", 0
+    for c in model.chars(data):
+        part = data[at:at + c.length]
+        whole = is_shown(c) or c.length == 1 and 0x20 <= part[0] < 0x7F and part not in (b'"', b"\\")
+        result += part.decode() if whole else "".join(names.get(b, f"\\x{b:02x}") for b in part)
+        at += c.length
+    return f'"{result}"'
+
+
+def bytes_list(data):
+    return "+".join(quoted(part) + f"*{times}" * (times > 1) for part, times in in_runs(data, 16, 12))
+
+
+def numbers_list(numbers, of_row, kinds):
+    """Numbers in rows, with words for the kinds of entries."""
+    words = {value: word for word, value in WORDS.items()} if kinds else {}
+    rows = [numbers[i:i + of_row] for i in range(0, len(numbers), of_row)]
+    shown = [",".join(words.get(n, str(n)) if k == 1 else str(n) for k, n in enumerate(row)) for row in rows]
+    return "+".join(";".join(part) + f"*{times}" * (times > 1) for part, times in in_runs(shown, 32, 3))
+
+
+def buffer_list(members, unwritten, written):
+    """A lent buffer: its length, and what it holds up to the last place that was written."""
+    end = len(members)
+    while end > 0 and members[end - 1] == unwritten:
+        end -= 1
+    return f"{len(members)}:{written(members[:end])}"
+
+
 class Line:
     """A line: the call, its inputs, the buffers lent, and what is expected."""
 
@@ -140,6 +194,21 @@ class Line:
         if len(held) > length:
             raise ValueError(f"more numbers than places: {self.fields['index'][:80]}")
         return held + (0xA5A5A5A5,) * (length - len(held))
+
+    def filled_in(self):
+        """The line with what the model expects, in place of what it has; a call that adds lends its content's buffers."""
+        (answer, (data, entries, text, lines)), of_line = self.expected(), 1 if self.name in ("build_line_index", "extend_line_index") else 3
+        while len(answer) > 1 and answer[-1] == 0:
+            answer = answer[:-1]
+        expected = {
+            "answer": ",".join(map(str, answer)),
+            "out": buffer_list(data, 0xA5, bytes_list),
+            "out_entries": buffer_list(entries, 0xA5A5A5A5, lambda n: numbers_list(n, 4, True)),
+            "out_text": buffer_list(text, 0xA5, bytes_list),
+            "lines": buffer_list(lines, 0xA5A5A5A5, lambda n: numbers_list(n, of_line, False)),
+        }
+        fields = {key: value for key, value in self.fields.items() if key not in expected} | {key: value for key, value in expected.items() if value != "0:"}
+        return " ".join([self.name, *(f"{key}={value}" for key, value in fields.items())])
 
     def agrees(self):
         if self.name == "read_char":

@@ -1,5 +1,6 @@
 //! A recording as plain data, and its two other forms: the original's `FormatRecorder`, and the three lists of numbers and bytes
 //! that the library's calls take and leave.
+use std::collections::HashMap;
 use std::io::Write as _;
 
 use crate::formatter::FormatRecorder;
@@ -75,17 +76,23 @@ impl Recording {
         Self { data: recorder.data().to_vec(), entries }
     }
 
-    /// The library's form, each entry's text copied in entry order, one after another from 0: the form in which layout calls and
-    /// `replay` leave their results.
+    /// The library's form, in which layout calls and `replay` leave their results: the texts one after another from 0 in entry order,
+    /// but equal texts of pushes share the part of the first one (document 02, Q-8). The original has no starts; it gives each entry's
+    /// text, and where that is stored, and so how long the text is, comes from the document.
     pub fn to_lists(&self) -> Lists {
         let mut lists = Lists { data: self.data.clone(), ..Lists::default() };
+        let mut labels = HashMap::new();
         for entry in &self.entries {
-            let (start, len) = match entry.kind {
-                Kind::Pop => (0, 0),
-                _ => (lists.text.len(), entry.text.len()),
+            let end = lists.text.len();
+            let start = match entry.kind {
+                Kind::Push => *labels.entry(&entry.text[..]).or_insert(end),
+                Kind::Pop => 0,
+                Kind::Raw => end,
             };
-            lists.entries.extend([entry.at as u32, entry.kind as u32, start as u32, len as u32]);
-            lists.text.extend_from_slice(&entry.text);
+            lists.entries.extend([entry.at as u32, entry.kind as u32, start as u32, entry.text.len() as u32]);
+            if start == end {
+                lists.text.extend_from_slice(&entry.text);
+            }
         }
         lists
     }

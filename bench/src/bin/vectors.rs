@@ -5,7 +5,7 @@ use std::collections::{HashMap, HashSet};
 use std::fmt::Write as _;
 
 use bench::inputs::{About, Numbers, damaged};
-use bench::recordings::{Expected, content, fault, listed, maybe_damaged, recording, scattered, with_added};
+use bench::recordings::{Expected, content, fault, label_for, listed, maybe_damaged, recording, scattered, with_added};
 use oracle::{Lists, Recording, Replacement};
 
 /// Makes one vector of a call.
@@ -462,6 +462,7 @@ fn adding(numbers: &mut Numbers, kind: u64) -> Vector {
     let added = text(numbers);
     let added = if kind == 1 && numbers.within(0, 7) != 0 { String::from_utf8_lossy(&added).into_owned().into_bytes() } else { added };
     let added = if kind == 2 || kind == 3 && numbers.within(0, 9) == 0 { vec![] } else { added };
+    let added = if kind == 1 { label_for(&content, added, numbers) } else { added };
     let (added_fault, result) = with_added(&lists, content_fault, &content, kind, &added).expect("the original adds the same");
     let mut expected = Expected { faults: vec![content_fault, added_fault], result, lines: vec![], number: 0 };
     let room = expected.room(numbers);

@@ -7,7 +7,7 @@ use ruszvedok::{FormatRecorder, Refusal};
 
 const ROWS: usize = 2_000;
 
-/// The three slices as vectors, without a limit.
+/// The three slices as vectors, without a limit, for one label: its text is stored once.
 #[derive(Default)]
 struct Vectors {
     data: Vec<u8>,
@@ -17,9 +17,10 @@ struct Vectors {
 
 impl Vectors {
     fn entry(&mut self, kind: u32, text: &str) {
-        let start = if kind == 1 { 0 } else { self.text.len() as u32 };
-        self.entries.extend_from_slice(&[self.data.len() as u32, kind, start, text.len() as u32]);
-        self.text.extend_from_slice(text.as_bytes());
+        self.entries.extend_from_slice(&[self.data.len() as u32, kind, 0, text.len() as u32]);
+        if self.text.is_empty() {
+            self.text.extend_from_slice(text.as_bytes());
+        }
     }
 }
 

@@ -609,7 +609,7 @@ pub fn write(to: Buffers, used: Used, added: &[u8]) -> Result<Done, Refusal> {
     add!(ruszvedok_write, to, used, added)
 }
 
-/// Pushes a label at the current end.
+/// Pushes a label at the current end. It takes the part of the first push with equal text, if there is one, and then adds no text.
 ///
 /// # Errors
 ///

@@ -1,5 +1,6 @@
 //! The recorder: data and labels in buffers of its own.
 use std::borrow::Cow;
+use std::collections::HashMap;
 use std::fmt;
 use std::io;
 use std::ops::Range;
@@ -47,9 +48,72 @@ impl<'a> Span<'a> {
     }
 }
 
+/// The labels of a recording, each with the first push that has it: what a push of an equal one takes its text from. They are read from
+/// the entries when a label is pushed, and only those that are not read yet, so that recording takes linear time whatever filled the
+/// buffers before.
+#[derive(Default)]
+struct Labels {
+    first: HashMap<Box<[u8]>, First>,
+    /// How many entry numbers are read.
+    read: usize,
+    /// The part of the label pushed last: the same one often comes again.
+    last: Option<(usize, usize)>,
+}
+
+/// Where a label comes first.
+struct First {
+    /// The place of the push among the entry numbers.
+    entry: usize,
+    /// The start of its text.
+    start: usize,
+}
+
+impl Labels {
+    /// The start of the first push with this text.
+    #[inline]
+    fn start_of(&mut self, label: &[u8], entries: &[u32], text: &[u8]) -> Option<usize> {
+        match self.last {
+            Some((start, len)) if text[start..start + len] == *label => Some(start),
+            _ => self.find(label, entries, text),
+        }
+    }
+
+    fn find(&mut self, label: &[u8], entries: &[u32], text: &[u8]) -> Option<usize> {
+        for (k, entry) in entries[self.read..].chunks_exact(ENTRY_NUMBERS).enumerate() {
+            let (start, len) = (entry[2] as usize, entry[3] as usize);
+            let part = &text[start..start + len];
+            if entry[1] == PUSH_LABEL && !self.first.contains_key(part) {
+                self.first.insert(part.into(), First { entry: self.read + ENTRY_NUMBERS * k, start });
+            }
+        }
+        self.read = entries.len();
+        self.first.get(label).map(|first| first.start)
+    }
+
+    /// The label is pushed: the recording was so long before, and this start was found.
+    #[inline]
+    fn pushed(&mut self, label: &[u8], before: Used, found: Option<usize>) {
+        if found.is_none() {
+            self.first.insert(label.into(), First { entry: before.entries, start: before.text });
+        }
+        self.read = before.entries + ENTRY_NUMBERS;
+        self.last = Some((found.unwrap_or(before.text), label.len()));
+    }
+
+    /// The recording ends there now.
+    fn shorten(&mut self, entries: usize) {
+        if self.read > entries {
+            self.first.retain(|_, first| first.entry < entries);
+            self.read = entries;
+            self.last = None;
+        }
+    }
+}
+
 /// Records data, labels and raw sequences, to be laid out and replayed.
 ///
 /// What is added goes to the ends of its own buffers: what they hold is a recording at any time, so only the limits are looked at.
+/// The text of a label is stored once: a push of an equal one takes the part of the first (as the library's own call does), and no text.
 /// The buffers grow as needed and are kept: a recorder that is used again as the `out` of layout calls allocates nothing. (The
 /// original's `maybe_color` is left out, as all painting is.)
 ///
@@ -70,6 +134,7 @@ pub struct FormatRecorder {
     entries: Vec<u32>,
     text: Vec<u8>,
     used: Used,
+    labels: Labels,
     /// Room for the line list of `write_wrapped`.
     lines: Vec<u32>,
 }
@@ -134,7 +199,18 @@ impl FormatRecorder {
         Ok(())
     }
 
-    /// Opens a label at the current end of the data.
+    /// Opens a label at the current end of the data. If a label with the same text was opened before, its text is not stored again.
+    ///
+    /// ```
+    /// use ruszvedok::{FormatRecorder, Refusal};
+    ///
+    /// let mut row = FormatRecorder::new();
+    /// for grade in ["FAS", "No. 1", "FAS"] {
+    ///     row.write_labeled("grade", grade)?;
+    /// }
+    /// assert_eq!(row.view().text, b"grade");
+    /// # Ok::<(), Refusal>(())
+    /// ```
     ///
     /// # Errors
     ///
@@ -142,7 +218,7 @@ impl FormatRecorder {
     /// over [`MAX_TEXT`].
     #[inline]
     pub fn push_label(&mut self, label: &str) -> Result<(), Refusal> {
-        self.push_entry(PUSH_LABEL, label.as_bytes())
+        self.push_label_at(self.used.data as u32, label.as_bytes())
     }
 
     /// Closes the last label still open, at the current end of the data.
@@ -152,7 +228,7 @@ impl FormatRecorder {
     /// [`Refusal::ResultOverLimit`] if there would be more than [`MAX_ENTRIES`](crate::MAX_ENTRIES) entries.
     #[inline]
     pub fn pop_label(&mut self) -> Result<(), Refusal> {
-        self.push_entry(POP_LABEL, b"")
+        self.push_entry(self.used.data as u32, POP_LABEL, Some(0), b"")
     }
 
     /// Appends a raw sequence as one entry at the current end of the data.
@@ -165,7 +241,7 @@ impl FormatRecorder {
         if sequence.is_empty() {
             return Err(Refusal::EntryShape);
         }
-        self.push_entry(RAW, sequence)
+        self.push_entry(self.used.data as u32, RAW, None, sequence)
     }
 
     /// Appends data under a label.
@@ -207,7 +283,7 @@ impl FormatRecorder {
         added
     }
 
-    /// Appends another recording.
+    /// Appends another recording. Its labels are stored as by [`push_label`](Self::push_label).
     ///
     /// ```
     /// use ruszvedok::{FormatRecorder, Refusal};
@@ -223,46 +299,58 @@ impl FormatRecorder {
     /// [`Refusal::ResultOverLimit`] if both together would be over a limit.
     pub fn append(&mut self, other: &Self) -> Result<(), Refusal> {
         let View { data, entries, text } = other.view();
-        let end = Used {
-            data: within(self.used.data, data.len(), MAX_DATA)?,
-            entries: within(self.used.entries, entries.len(), MAX_ENTRY_NUMBERS)?,
-            text: within(self.used.text, text.len(), MAX_TEXT)?,
-        };
-        let (data_before, text_before) = (self.used.data as u32, self.used.text as u32);
-        self.truncate();
+        let before = self.used;
+        let end = within(before.data, data.len(), MAX_DATA)?;
+        for entry in entries.chunks_exact(ENTRY_NUMBERS) {
+            let (position, part) = (before.data as u32 + entry[0], &text[entry[2] as usize..][..entry[3] as usize]);
+            let added = match entry[1] {
+                PUSH_LABEL => self.push_label_at(position, part),
+                POP_LABEL => self.push_entry(position, POP_LABEL, Some(0), b""),
+                kind => self.push_entry(position, kind, None, part),
+            };
+            if added.is_err() {
+                self.shorten(before);
+                return added;
+            }
+        }
+        self.data.truncate(before.data);
         self.data.extend_from_slice(data);
-        self.text.extend_from_slice(text);
-        self.entries.extend(entries.chunks_exact(ENTRY_NUMBERS).flat_map(|entry| {
-            let start = if entry[1] == POP_LABEL { 0 } else { text_before + entry[2] };
-            [data_before + entry[0], entry[1], start, entry[3]]
-        }));
-        self.used = end;
+        self.used.data = end;
         Ok(())
     }
 
     /// Takes everything out. The buffers are kept.
     pub fn clear(&mut self) {
-        self.used = Used::default();
+        self.shorten(Used::default());
     }
 
     #[inline]
-    fn push_entry(&mut self, kind: u32, text: &[u8]) -> Result<(), Refusal> {
+    fn push_label_at(&mut self, position: u32, label: &[u8]) -> Result<(), Refusal> {
+        let before = self.used;
+        let found = self.labels.start_of(label, &self.entries[..before.entries], &self.text[..before.text]);
+        self.push_entry(position, PUSH_LABEL, found, label)?;
+        self.labels.pushed(label, before, found);
+        Ok(())
+    }
+
+    /// One entry. `start`: its text is there already; otherwise it goes to the text's end.
+    #[inline]
+    fn push_entry(&mut self, position: u32, kind: u32, start: Option<usize>, text: &[u8]) -> Result<(), Refusal> {
+        let added = if start.is_some() { &[] } else { text };
         let entries = within(self.used.entries, ENTRY_NUMBERS, MAX_ENTRY_NUMBERS)?;
-        let end = within(self.used.text, text.len(), MAX_TEXT)?;
+        let end = within(self.used.text, added.len(), MAX_TEXT)?;
         self.entries.truncate(self.used.entries);
         self.text.truncate(self.used.text);
-        let start = if kind == POP_LABEL { 0 } else { self.used.text as u32 };
-        self.entries.extend_from_slice(&[self.used.data as u32, kind, start, text.len() as u32]);
-        self.text.extend_from_slice(text);
+        self.entries.extend_from_slice(&[position, kind, start.unwrap_or(self.used.text) as u32, text.len() as u32]);
+        self.text.extend_from_slice(added);
         self.used = Used { entries, text: end, ..self.used };
         Ok(())
     }
 
-    /// Ends the buffers where the recording ends.
-    fn truncate(&mut self) {
-        self.data.truncate(self.used.data);
-        self.entries.truncate(self.used.entries);
-        self.text.truncate(self.used.text);
+    /// Makes the recording end there.
+    fn shorten(&mut self, end: Used) {
+        self.labels.shorten(end.entries);
+        self.used = end;
     }
 
     /// Makes the recording as long as it was, unless it was replaced by another one that has no end there.
@@ -272,12 +360,11 @@ impl FormatRecorder {
         if shorter {
             return;
         }
-        // Positions never fall and texts lie in order: the last entry, and the last one with a text, say where they end.
-        let mut last = self.entries[..before.entries].rchunks_exact(ENTRY_NUMBERS);
-        let position = last.clone().next().map_or(0, |entry| entry[0]);
-        let text = last.find(|entry| entry[1] != POP_LABEL).map_or(0, |entry| entry[2] + entry[3]);
-        if position as usize <= before.data && text as usize <= before.text {
-            self.used = before;
+        // Positions never fall, so the last entry says whether its data is there; a text may lie anywhere.
+        let mut left = self.entries[..before.entries].chunks_exact(ENTRY_NUMBERS);
+        let position = left.clone().next_back().map_or(0, |entry| entry[0]);
+        if position as usize <= before.data && left.all(|entry| (entry[2] + entry[3]) as usize <= before.text) {
+            self.shorten(before);
         }
     }
 }
@@ -428,6 +515,8 @@ impl FormatRecorder {
             let buffers = Buffers { data: &mut self.data, entries: &mut self.entries, text: &mut self.text };
             let refusal = match call(buffers, &mut self.lines) {
                 Ok(done) => {
+                    // Other entries: none of them is read.
+                    self.labels.shorten(0);
                     self.used = done.used;
                     return Ok(done.number as usize);
                 }
@@ -557,7 +646,7 @@ impl io::Write for FormatRecorder {
 impl Clone for FormatRecorder {
     fn clone(&self) -> Self {
         let View { data, entries, text } = self.view();
-        Self { data: data.to_vec(), entries: entries.to_vec(), text: text.to_vec(), used: self.used, lines: vec![] }
+        Self { data: data.to_vec(), entries: entries.to_vec(), text: text.to_vec(), used: self.used, ..Self::default() }
     }
 }
 

@@ -21,8 +21,11 @@ impl Numbers {
         (0..size).map(|k| (b'a' + ((start + k) % 26) as u8) as char).collect()
     }
 
-    /// The smaller of two, so that not every list is full at once.
+    /// One of a few, so that equal labels come often; or the smaller of two, so that not every list is full at once.
     fn label(&mut self) -> String {
+        if self.below(2) == 0 {
+            return ["", "a", "ab", "b", "grade", "grades"][self.below(6)].into();
+        }
         let (a, b) = (self.text(MAX_TEXT), self.text(MAX_TEXT));
         if a.len() < b.len() { a } else { b }
     }
@@ -156,6 +159,69 @@ fn as_the_proved_calls() {
         }
     }
     assert!(done > 500 && over > 100 && shapes > 5, "{done} done, {over} over a limit, {shapes} empty sequences");
+}
+
+/// Whatever filled the buffers before: results, what was taken back, and other recordings that were appended.
+#[test]
+fn equal_labels_once() {
+    let mut row = FormatRecorder::new();
+    for (label, text) in [("x", "x"), ("yz", "xyz"), ("x", "xyz"), ("", "xyz"), ("z", "xyzz"), ("yz", "xyzz"), ("", "xyzz")] {
+        row.push_label(label).unwrap();
+        assert_eq!(row.view().text, text.as_bytes());
+    }
+    row.raw(b"x").unwrap();
+    let starts: Vec<_> = row.view().entries.chunks(4).map(|entry| entry[2]).collect();
+    assert_eq!((&starts[..], row.view().text), (&[0, 1, 0, 3, 3, 1, 3, 4][..], &b"xyzzx"[..]));
+
+    // Taken back: a label of it is stored anew, the others are still there.
+    let failed = row.labeled("new", |row| row.push_label("newer").and_then(|()| row.push_label("x")).and(Err(Refusal::Other(99))));
+    assert_eq!((failed, row.view().text), (Err(Refusal::Other(99)), &b"xyzzx"[..]));
+    for (label, text) in [("yz", "xyzzx"), ("newer", "xyzzxnewer"), ("new", "xyzzxnewernew")] {
+        row.push_label(label).unwrap();
+        assert_eq!(row.view().text, text.as_bytes());
+    }
+
+    // Appended, and not appended for its last entry: 4,096 bytes are left, and a raw sequence has one more.
+    let mut other = FormatRecorder::new();
+    for label in ["z", "a", "z", "newest"] {
+        other.push_label(label).unwrap();
+    }
+    row.append(&other).unwrap();
+    assert_eq!(row.view().text, b"xyzzxnewernewanewest");
+    row.raw(&vec![b'R'; MAX_TEXT - 4096 - row.view().text.len()]).unwrap();
+    let before = row.view().text.to_vec();
+    other.push_label("b").unwrap();
+    other.raw(&[b'S'; 4096]).unwrap();
+    assert_eq!((row.append(&other), row.view().text), (Err(Refusal::ResultOverLimit), &before[..]));
+    row.push_label("b").unwrap();
+    assert_eq!(row.view().text, [&before[..], b"b"].concat());
+
+    // A result in its place, another one with other labels, and nothing.
+    for label in ["result", "b"] {
+        let mut content = FormatRecorder::with_data("ab").unwrap();
+        content.write_labeled(label, "c").unwrap();
+        content.replay(&mut row).unwrap();
+        row.push_label("b").unwrap();
+        row.push_label(label).unwrap();
+        let wanted = if label == "b" { "b" } else { "resultb" };
+        assert_eq!(row.view().text, wanted.as_bytes());
+    }
+    row.clear();
+    row.push_label("b").unwrap();
+    assert_eq!((row.view().text, row.clone().push_label("b")), (&b"b"[..], Ok(())));
+}
+
+/// With the text full a label that is there can be pushed, up to the limit of entries, and no other.
+#[test]
+fn pushed_though_the_text_is_full() {
+    let mut row = FormatRecorder::new();
+    row.push_label("x").unwrap();
+    row.raw(&vec![b'R'; MAX_TEXT - 1]).unwrap();
+    assert_eq!((row.push_label("y"), row.raw(b"x")), (Err(Refusal::ResultOverLimit), Err(Refusal::ResultOverLimit)));
+    for _ in 2..MAX_ENTRIES {
+        row.push_label("x").unwrap();
+    }
+    assert_eq!((row.push_label("x"), row.view().text.len()), (Err(Refusal::ResultOverLimit), MAX_TEXT));
 }
 
 /// Each limit by itself, one beyond it; what is added by several calls is added whole or not at all.

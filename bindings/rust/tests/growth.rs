@@ -31,9 +31,8 @@ fn entries_up_to_their_limit() {
 #[test]
 fn text_up_to_its_limit() {
     let mut row = FormatRecorder::new();
-    let label = "x".repeat(1000);
-    while row.view().text.len() + label.len() <= MAX_TEXT {
-        row.push_label(&label).unwrap();
+    for number in 0..MAX_TEXT / 1000 {
+        row.push_label(&format!("{number:01000}")).unwrap();
     }
     let rest = MAX_TEXT - row.view().text.len();
     row.raw(&vec![0x1B; rest]).unwrap();
@@ -50,7 +49,8 @@ fn results_up_to_the_limits() {
     let line = "a\n".repeat(MAX_ENTRIES / 2);
     row.write_data(line.as_bytes()).unwrap();
     let mut prefix = FormatRecorder::new();
-    prefix.push_label(&"x".repeat(MAX_TEXT / (MAX_ENTRIES / 2))).unwrap();
+    // Raw sequences, each of which is stored: equal labels are stored once.
+    prefix.raw(&[b'x'; MAX_TEXT / (MAX_ENTRIES / 2)]).unwrap();
     prefix.pop_label().unwrap();
     let mut out = FormatRecorder::new();
     write_indented(&mut out, &row, &prefix).unwrap();
@@ -59,6 +59,13 @@ fn results_up_to_the_limits() {
     row.write_data(b"a").unwrap();
     assert_eq!(write_indented(&mut out, &row, &prefix), Err(Refusal::ResultOverLimit));
     assert_eq!(out.view().text.len(), MAX_TEXT);
+
+    // The longest label before as many lines.
+    let (rows, mut prefix) = (FormatRecorder::with_data(line.as_bytes()).unwrap(), FormatRecorder::new());
+    prefix.write_labeled(&"x".repeat(MAX_TEXT), "").unwrap();
+    let mut out = FormatRecorder::new();
+    write_indented(&mut out, &rows, &prefix).unwrap();
+    assert_eq!((out.view().entries.len(), out.view().text.len()), (4 * MAX_ENTRIES, MAX_TEXT));
 
     let fill = FormatRecorder::with_data(".").unwrap();
     write_padded_end(&mut out, &FormatRecorder::new(), &fill, MAX_DATA).unwrap();

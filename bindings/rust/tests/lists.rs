@@ -343,7 +343,8 @@ fn layouts_as_one_by_one() {
 fn up_to_the_limits() {
     let (row, dot) = (FormatRecorder::with_data("a\n".repeat(MAX_ENTRIES / 2)).unwrap(), FormatRecorder::with_data(".").unwrap());
     let mut prefix = FormatRecorder::new();
-    prefix.push_label(&"x".repeat(MAX_TEXT / (MAX_ENTRIES / 2))).unwrap();
+    // A raw sequence, which is stored for each line.
+    prefix.raw(&[b'x'; MAX_TEXT / (MAX_ENTRIES / 2)]).unwrap();
     prefix.pop_label().unwrap();
     let mut out = FormatRecorder::new();
     let (indent, feeds) = (Layout::Indent { prefix: &prefix }, FormatRecorder::with_data("\n").unwrap());

@@ -131,7 +131,7 @@ fn of_prefixes() {
     }
     // Over the limit of text, as its parts overlap: 9.
     let long = vec![b'x'; MAX_TEXT];
-    let entries: Vec<u32> = [[0, 0, 0, MAX_TEXT as u32]; 2].concat();
+    let entries: Vec<u32> = [[0, 2, 0, MAX_TEXT as u32]; 2].concat();
     let row_over = View { data: b"> a", entries: &entries, text: &long };
     assert_eq!((of(row_over, broken, ENOUGH), of(row_over, other, ENOUGH), of(row_over, marked, ENOUGH)), (32, 33, 9));
     for (sizes, number) in [((4, 8, 1), 0), ((3, 8, 1), 21), ((4, 7, 1), 22), ((4, 8, 0), 23)] {

@@ -540,16 +540,16 @@ fn lists(
         55,
         29,
         29,
-        // Indent with a long label: more than the text's room, refused (23).
+        // Indent with a raw sequence, which each line stores anew: more than the text's room, refused (23).
         5,
         0,
-        16,
-        18,
-        28,
-        36,
-        18,
-        23,
-        // Indent.
+        3,
+        4,
+        8,
+        20,
+        4,
+        7,
+        // Indent with a label, which is stored once.
         5,
         0,
         29,

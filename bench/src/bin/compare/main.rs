@@ -12,7 +12,7 @@ use std::process::ExitCode;
 
 use bench::inputs::{About, Numbers, damaged};
 use bench::ours;
-use bench::recordings::{Answer, Expected, Left, at_a_limit, content, fault, listed, maybe_damaged, recording, scattered, view, with_added};
+use bench::recordings::{Answer, Expected, Left, at_a_limit, content, fault, label_for, listed, maybe_damaged, recording, scattered, view, with_added};
 use bench::room::{LIMITS, Room};
 use oracle::original::{FormatRecorder, Formatter};
 use oracle::{Entry, Kind, Lists, Recording};
@@ -233,7 +233,7 @@ fn write_indented(numbers: &mut Numbers) -> Result<(), String> {
     let (mut lists, mut fault, mut content) = input(numbers, 8);
     let (second_lists, second_fault, second) = input(numbers, 4);
     if numbers.within(0, 2999) == 0 {
-        // Results about the limits of entries and text.
+        // Results about the limit of entries, and with raw sequences in the prefix of text.
         let lines = numbers.within(800, 5000) as usize;
         content = Recording::plain(&b"a\n".repeat(lines));
         (lists, fault) = (content.to_lists(), 0);
@@ -512,6 +512,7 @@ fn adding(numbers: &mut Numbers, kind: u64) -> Result<(), String> {
     let (lists, fault, content) = input(numbers, 8);
     let added = damaged(numbers);
     let added = if kind == 1 && numbers.within(0, 7) != 0 { String::from_utf8_lossy(&added).into_owned().into_bytes() } else { added };
+    let added = if kind == 1 { label_for(&content, added, numbers) } else { added };
     let (added_fault, result) = with_added(&lists, fault, &content, kind, &added)?;
     let expected = Expected { faults: vec![fault, added_fault], result, lines: vec![], number: 0 };
     let sizes = expected.room(numbers);

@@ -3,7 +3,7 @@
 use std::mem::swap;
 
 use bench::inputs::{Numbers, damaged};
-use bench::recordings::{content, recording, view};
+use bench::recordings::{content, label, recording, view};
 use bench::room::LIMITS;
 use oracle::original::{self, Formatter as _};
 use oracle::{Entry, Kind, Recording};
@@ -36,7 +36,9 @@ impl Sides {
     /// Data, a label, a pop or a raw sequence.
     fn add(&mut self, numbers: &mut Numbers) -> Result<(), String> {
         let added = content(numbers);
-        let label = String::from_utf8_lossy(&added[..added.len().min(40)]).into_owned();
+        // Half of the labels are of a few, so that equal ones come often.
+        let label = if numbers.within(0, 1) == 0 { label(numbers) } else { added[..added.len().min(40)].to_vec() };
+        let label = String::from_utf8_lossy(&label).into_owned();
         let done = match numbers.within(0, 3) {
             0 => self.ours.push_label(&label).map(|()| self.theirs.push_label(&label)),
             1 => self.ours.pop_label().map(|()| self.theirs.pop_label()),
