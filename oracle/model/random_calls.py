@@ -72,7 +72,7 @@ def damaged(pick, data, numbers, texts):
 def long_content(pick):
     """At a limit of the recording or of the result, one below it or above it."""
     more = pick.choice((-1, 0, 0, 1, 1))
-    way = int(pick.random() * 7)
+    way = int(pick.random() * 5)
     if way == 0:
         return recording(b"\t" * (16384 + min(more, 0)) + b"a" * pick.choice((0, 1, 63, 64, 65)), (0, 0, 0, 1), b"x")
     if way == 1:
@@ -81,16 +81,23 @@ def long_content(pick):
         return recording(b"a\tb", (1, 1, 0, 0) * (4096 + more))
     if way == 3:
         return recording(b"a\tb", (1, 0, 1, 3), b"x" * (65536 + more))
-    if way == 4:
-        return recording(b"a\tb", (1, 0, 0, 32768 + more, 2, 2, 0, 32768), b"x" * (32768 + max(more, 0)))
-    if way == 5:
-        # A label three times and a raw sequence: the text has one of the three.
-        return recording(b"a\tb", (1, 0, 0, 32768 + more) * 2 + (1, 2, 1, 32768, 2, 0, 1, 32768 + more), b"x" * 32770)
-    return recording(b"a\tb", sum(((1, 0, 3 * (i % 8), 3) for i in range(4096)), ()), b"No.123456789abcdefghijkl")
+    return recording(b"a\tb", (1, 0, 0, 32768 + more, 2, 2, 0, 32768), b"x" * (32768 + max(more, 0)))
+
+
+def long_labels(pick):
+    """Balanced, with labels that come more than once: they are about a limit if each is stored once, and far beyond it, or not, if each entry's text is copied."""
+    half, more = 32768, pick.choice((-1, 0, 0, 1, 1))
+    if pick.random() < 0.2:
+        return recording(b"a\tb", sum(((1, 0, 3 * (i % 8), 3) for i in range(2048)), ()) + (2, 1, 0, 0) * (2048 + min(more, 0)), b"No.123456789abcdefghijkl")
+    entries = [(0, 0, 0, half), (0, 2, 1, half + more), (1, 1, 0, 0), (1, 0, 1, half), (2, 1, 0, 0)]
+    if pick.random() < 0.3:
+        entries[1:2] = [(0, 0, 0, half + more), (1, 1, 0, 0)] if more else [(0, 2, 0, half // 2)] * 2
+    return recording(b"a\tb", sum(entries, ()), b"x" * (half + 2))
 
 
 def any_content(pick):
-    return content(pick) if pick.random() > 0.001 else long_content(pick)
+    way = pick.random()
+    return long_content(pick) if way < 0.001 else long_labels(pick) if way < 0.004 else content(pick)
 
 
 def second(pick):
@@ -193,8 +200,10 @@ def unindenting(pick):
     """A content and a prefix that it mostly has; a few are any, or at a limit."""
     way = pick.random()
     if way < 0.002:
+        return long_labels(pick), recording(b"")
+    if way < 0.004:
         made = long_content(pick), long_content(pick)
-        return made[0], recording(made[0].data[:pick.choice((0, 1, len(made[0].data)))]) if way < 0.0015 else made[1]
+        return made[0], recording(made[0].data[:pick.choice((0, 1, len(made[0].data)))]) if way < 0.0035 else made[1]
     if way < 0.08:
         return content(pick), second(pick)
     prefix = prefix_bytes(pick)
@@ -223,26 +232,29 @@ def long_view(pick):
 def viewing(pick):
     """A content, mostly balanced, and a label that it mostly has; a few are any, damaged, or at a limit."""
     way = pick.random()
-    if way < 0.001:
-        return long_view(pick), pick.choice((b"x", b"x", b"y"))
+    if way < 0.002:
+        return long_view(pick) if way < 0.001 else long_labels(pick), pick.choice((b"x", b"x", b"y"))
     made = content(pick) if way < 0.06 else views.content(pick)
     return damaged(pick, made.data, list(made.numbers), made.text) if way > 0.94 else made, views.label(pick)
 
 
 # ── recordings to add to
 
-def full_text(pick):
-    """A recording whose text is at the limit or one below it, with two parts that are equal or nearly so, and a label that is there, or is not."""
+def full(pick):
+    """A recording and a label to push: its entries or its text are at the limit or one below it, with two parts that are equal or nearly so; the label is there, or is not."""
+    label = pick.choice((b"working_copy", b"working_copy", b"orking_copyw", b"working_cop", b"y", b""))
+    if pick.random() < 0.3:
+        return recording(b"ab", (0, 0, 0, 12) * (4096 - pick.choice((0, 0, 1))), b"working_copy"), label
     texts, first = (b"working_copy" * 5462)[:65536 - pick.choice((0, 0, 1))], pick.choice((0, 12, 1))
-    return recording(b"ab", (0, 0, first, 12, 1, 0, 24, 12, 1, 2, 0, 5), texts), pick.choice((b"working_copy", b"working_copy", b"orking_copyw", b"working_cop", b"y", b""))
+    return recording(b"ab", (0, 0, first, 12, 1, 0, 24, 12, 1, 2, 0, 5), texts), label
 
 
 def adding(pick, name):
     """A content, and what is added: of labels mostly one that the content has."""
     way = pick.random()
-    if name == "push_label" and way < 0.002:
-        return full_text(pick)
-    r = content(pick) if way > 0.001 else long_content(pick)
+    if name == "push_label" and way < 0.01:
+        return full(pick)
+    r = long_content(pick) if way > 0.999 else content(pick)
     labels = [r.text[start:start + length] for _, kind, start, length in zip(*[iter(r.numbers)] * 4) if kind == 0]
     if name == "push_label":
         way = pick.random()

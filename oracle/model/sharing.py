@@ -194,9 +194,8 @@ def laws_broken(count=20_000):
 
 
 def limit_inputs(pick, name):
-    """A content whose text is about the limit if each label is stored once, and far beyond it otherwise; balanced, and with no prefix, for the calls that ask for that."""
-    half, more = 32768, pick.choice((-1, 0, 0, 1))
-    r = recording(b"ab", (0, 0, 0, half, 0, 2, 0, half + more, 1, 1, 0, 0, 1, 0, 1, half, 2, 1, 0, 0), b"x" * (half + 1))
+    """A content whose text is about the limit if each label is stored once; a label that is not there, and no prefix, for the calls that ask for that."""
+    r = random_calls.long_labels(pick)
     if name in random_calls.VIEWS:
         return r, b"y"
     return (r, recording(b"")) if name == "write_unindented" else (r, *random_calls.LAYOUT[name](pick, r))
@@ -219,7 +218,7 @@ def pushes_unlike(count=20_000):
             found += bool(same)
             start = r.numbers[4 * same[0] + 2] if same else len(r.text)
             right = right and after == recording(r.data, r.numbers + (len(r.data), PUSH, start, len(label)), r.text + (b"" if same else label))
-            right = right and replayed(after).text == replayed(r).text + (b"" if same else label)
+            right = right and (stored(after) > 65536 or replayed(after).text == replayed(r).text + (b"" if same else label))
         if not right:
             wrong.append((r, label, room))
     return wrong + [f"too few: {found}"] * (found < count // 4)
