@@ -18,7 +18,7 @@ use Rattle.recording.proofs.EditLaws.{AllPuts, data-append, edit-data}
 use Rattle.recording.proofs.FaultLaws.{no-fault, in-limits, Roomy, roomy}
 use Rattle.recording.proofs.ItemsLaws.{data-items, data-bytes}
 use Rattle.recording.proofs.SizeLaws.{entryCount, putCount}
-use Rattle.recording.specs.Share.{sumOf, rawLen, pushOf, times}
+use Rattle.recording.specs.Share.{sumOf, rawLen, pushOf}
 use Rattle.recording.proofs.ShareLaws.{putSum, edit-sum, text-by-sums}
 use Rattle.layout.specs.Layout.{trimmedStartPos, cutEnd, cutStart, copies, repeatPieces, padding, fillCount, indentOps, Kind, writeTruncatedStart}
 use Rattle.layout.specs.Layout.{writeTruncatedEnd, writePaddedStart, writePaddedEnd, writePaddedCentered, writeIndented, writeUnindented, Single, Job, withSecond}

@@ -1,7 +1,7 @@
 -- A call on a content alone: what its check found, and the sizes of what it leaves. It is one edit that puts bytes in and nothing else, so the entry numbers and the text are the content's.
 use mathlib.Core.Path.{_≡_, refl, sym, ap, subst, _∙_}
 use mathlib.Core.List.{List, [], _∷_}
-use Prim.Native.Nat.{ℕ, _≤_}
+use Prim.Native.Nat.{ℕ}
 use native.Mathlib.Omega.{arith}
 use lib.ListN.{length}
 use Rattle.buffer.specs.Place.{over}

@@ -54,7 +54,7 @@ entries-snoc (y ∷ es) at d t e l h f =
     let g = no-entry-fault at d t y (a .0) in
     rw (a .0, entries-snoc es (y .position) d t e (g .high) (b .0) f)
 
-entriesOf-snoc : (ns : List ℕ) (e : Entry) → length ns % 4 ≡ 0 → entriesOf (ns ++ numbersOf (e ∷ [])) ≡ entriesOf ns ++ (e ∷ [])
+pub entriesOf-snoc : (ns : List ℕ) (e : Entry) → length ns % 4 ≡ 0 → entriesOf (ns ++ numbersOf (e ∷ [])) ≡ entriesOf ns ++ (e ∷ [])
 entriesOf-snoc [] e h = refl
 entriesOf-snoc (p ∷ []) e h = absurd (omega (arith, h))
 entriesOf-snoc (p ∷ k ∷ []) e h = absurd (omega (arith, h))

@@ -1,1 +1,3 @@
 pub mod Recorder
+pub mod Shown
+pub mod Pins

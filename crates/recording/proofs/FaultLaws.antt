@@ -3,7 +3,7 @@
 use Prim.Native.Nat.{ℕ, zero, suc, _+_, _-_, _*_, _%_, _≤_}
 use native.Mathlib.Omega.{arith}
 use mathlib.Core.Bool.{Bool, true, false, cond, _&&_, _||_, not, false≢true}
-use mathlib.Core.Path.{_≡_, refl, sym, ap, _∙_}
+use mathlib.Core.Path.{_≡_, refl, sym, ap}
 use mathlib.Core.List.{List, [], _∷_, _++_, append-assoc, append-nil}
 use lib.Dec.{ltb, eqb, eqb·suc-zero}
 use lib.ListN.{length, take, drop, length-append, length-take}
@@ -19,7 +19,7 @@ use Rattle.recording.specs.Refusals.{firstOf, refuseIf, badShape, entryF
 use Rattle.recording.specs.Outcome.{Room, Result, Faults, Outcome, done, overLimit, noRoom, refusalOf, Lent, lentAfter, returned, readBack}
 use Rattle.recording.proofs.EditLaws.{AllPuts}
 use Rattle.recording.proofs.Lists.{all-append, or-left, or-right, not-false}
-use Rattle.recording.proofs.ItemsLaws.{part-at, push-part, placed-at, entries-numbers}
+use Rattle.recording.proofs.ItemsLaws.{push-part, placed-at, entries-numbers}
 use Rattle.recording.proofs.SizeLaws.{entryCount, count-numbers}
 
 -- ── the first of some tests

@@ -3,19 +3,18 @@
 use Prim.Native.Nat.{ℕ, zero, suc, _+_, _-_}
 use native.Mathlib.Nat.{add-zero, add-suc}
 use native.Mathlib.Omega.{arith}
-use mathlib.Core.Bool.{Bool, true, false, cond, _&&_, _||_, false≢true}
+use mathlib.Core.Bool.{Bool, true, false, cond, _&&_, _||_}
 use mathlib.Core.Path.{_≡_, refl, sym, ap, _∙_}
 use mathlib.Core.List.{List, [], _∷_, _++_, tail, append-assoc, append-nil}
 use lib.Dec.{eqb}
-use lib.ListN.{length, take, drop, length-append, take-append-drop}
-use borrow.Author.Tests.{eqb-true}
+use lib.ListN.{length, take, drop, take-append-drop}
 use lib.Seq.{take-append-seam, drop-append-seam, drop-at}
 use Rattle.recording.specs.declared.Entry.{Entry}
 use Rattle.recording.specs.Lists.{same}
 use Rattle.recording.specs.Recording.{Bytes, Recording, entriesOf, numbersOf, partOf, Item, byte, push, pop, raw, byteItems, itemOf, itemsFrom, items, dataOf, entry, isPush, pushedIn, startIn, pushAt, newText, entriesFrom, textFrom, encode}
 use Rattle.recording.specs.Coloured.{Coloured, colouredFrom, coloured, values}
 use Rattle.recording.specs.Edit.{Op, keep, skip, put, edit, labelsAt, under, editColoured, editData}
-use Rattle.recording.proofs.Lists.{and-left, and-right, same-equal}
+use Rattle.recording.proofs.Lists.{and-right, same-equal}
 use Rattle.recording.proofs.EditLaws.{data-append, edit-data}
 
 pub bytes-append : (a b : Bytes) → byteItems (a ++ b) ≡ byteItems a ++ byteItems b

@@ -1,21 +1,21 @@
 -- How long a result's text is (`shared-size`): it does not depend on the order of the entries (`text-by-sums`), only on the raw sequences in all and on which labels there are.
 -- The idea: a label's text is new exactly when no push before has it (`text-length`); labels not yet seen can be taken out of a list at any place (`taken-out`).
-use Prim.Native.Nat.{ℕ, zero, suc, _+_, _-_, _*_, _≤_, _<_}
+use Prim.Native.Nat.{ℕ, zero, suc, _+_, _*_, _≤_, _<_}
 use native.Mathlib.Nat.{zero-mul, suc-mul, mul-zero, mul-le-mul}
 use native.Mathlib.Omega.{arith}
 use mathlib.Core.Path.{_≡_, refl, sym, ap, _∙_}
 use mathlib.Core.Bool.{Bool, true, false, cond, _&&_, _||_, false≢true}
 use mathlib.Core.Logic.{_⊎_, inl, inr, ⊎-elim}
-use mathlib.Core.List.{List, [], _∷_, _++_, append-assoc, append-nil}
+use mathlib.Core.List.{List, [], _∷_, _++_, append-nil}
 use lib.Dec.{eqb, eqb·suc-zero}
 use lib.ListN.{length, take, drop, length-append}
-use borrow.Author.Tests.{eq-eqb, eqb-true}
+use borrow.Author.Tests.{eq-eqb}
 use Rattle.recording.specs.declared.Entry.{Entry}
 use Rattle.recording.specs.Lists.{same}
-use Rattle.recording.specs.Recording.{Bytes, entry, partOf, Item, byte, push, pop, raw, textOf, isPush, pushedIn, startIn, pushAt, newText, entriesFrom, textFrom, encode}
+use Rattle.recording.specs.Recording.{Bytes, entry, partOf, Item, byte, push, pop, raw, textOf, isPush, pushedIn, startIn, pushAt, newText, textFrom, encode}
 use Rattle.recording.specs.Edit.{Op, keep, skip, put, front, back, entriesOnly, edit}
 use Rattle.recording.specs.Share.{Inside, sumOf, rawLen, pushOf, times, member, labelLen, sharedSize}
-use Rattle.recording.proofs.Lists.{and-left, and-right, same-self, same-equal}
+use Rattle.recording.proofs.Lists.{same-self, same-equal}
 use Rattle.recording.proofs.ItemsLaws.{placed-at}
 use Rattle.recording.proofs.SizeLaws.{text-append}
 use Rattle.recording.proofs.FaultLaws.{inside-none, inside-next, start-inside}

@@ -2,7 +2,7 @@
 -- The ideas. What is written next keeps both properties of the entries written so far: each push starts where the first push with its text does (`FirstBy`), and any two parts stand side by
 -- side or are one (`pairs-after`). The length of the text is a sum over the items (`encode-length`), so their order does not matter. Of two results that differ in their texts alone the one
 -- with the shorter text is refused 9 or 23 only where the other is (`no-new`).
-use Prim.Native.Nat.{ℕ, suc, _+_, _*_, _≤_, _<_}
+use Prim.Native.Nat.{ℕ, suc, _+_, _*_, _≤_}
 use native.Mathlib.Omega.{arith}
 use mathlib.Core.Bool.{Bool, true, false, cond, _&&_, _||_, false≢true}
 use mathlib.Core.Path.{_≡_, refl, sym, ap, _∙_}
@@ -13,15 +13,15 @@ use lib.ListN.{length, take, drop, length-append, length-take, length-drop}
 use borrow.Author.Tests.{eqb-true, eq-eqb, ltb-true, lt-ltb}
 use Rattle.recording.specs.declared.Entry.{Entry}
 use Rattle.recording.specs.Lists.{AllOf, same}
-use Rattle.recording.specs.Recording.{Bytes, Recording, entry, entriesOf, numbersOf, partOf, Item, byte, push, pop, raw, dataOf, textOf, items, isPush, pushedIn, startIn, pushAt, newText, entriesFrom, textFrom, encode}
+use Rattle.recording.specs.Recording.{Bytes, Recording, entry, entriesOf, partOf, Item, byte, push, pop, raw, items, isPush, pushedIn, startIn, pushAt, newText, entriesFrom, textFrom, encode}
 use Rattle.recording.specs.Coloured.{coloured, colouredFrom}
 use Rattle.recording.specs.Refusals.{firstOf, refuseIf, dataLimit, entryLimit, textLimit}
 use Rattle.recording.specs.Outcome.{Room, Result, Faults, overLimit, noRoom, refusalOf}
-use Rattle.recording.specs.Share.{Inside, sumOf, rawLen, pushOf, times}
+use Rattle.recording.specs.Share.{Inside, sumOf, rawLen, pushOf}
 use Rattle.recording.specs.Shown.{AtFirst, OneStart, Beside, OnePart, AllPairs, Parted, entriesBefore, encodeBefore, Rearranged, left, NoNewRefusals, Shown}
 use Rattle.recording.specs.Shown as rearranged
 use Rattle.recording.proofs.Lists.{all-append, and-left, and-right, same-self}
-use Rattle.recording.proofs.ItemsLaws.{push-part, placed-at, items-encode, encode-again, entries-numbers}
+use Rattle.recording.proofs.ItemsLaws.{placed-at, items-encode, encode-again, entries-numbers}
 use Rattle.recording.proofs.FaultLaws.{inside-none, inside-next, start-inside}
 use Rattle.recording.proofs.SizeLaws.{append-cons, entryCount, count-numbers, length-numbers}
 use Rattle.recording.proofs.ShareLaws.{or-comm, part-more, pushed-more, pushed-snoc, text-by-sums, text-shorter}

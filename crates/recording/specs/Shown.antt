@@ -6,7 +6,7 @@ use mathlib.Core.List.{List, [], _∷_}
 use lib.ListN.{length}
 use Rattle.recording.specs.declared.Entry.{Entry}
 use Rattle.recording.specs.Lists.{AllOf}
-use Rattle.recording.specs.Recording.{Bytes, Recording, entry, entriesOf, numbersOf, partOf, Item, byte, push, pop, raw, dataOf, textOf, items, startIn, encode}
+use Rattle.recording.specs.Recording.{Recording, entry, entriesOf, numbersOf, partOf, Item, byte, push, pop, raw, dataOf, textOf, items, startIn, encode}
 use Rattle.recording.specs.Coloured.{coloured, colouredFrom}
 use Rattle.recording.specs.Outcome.{Room, Result, Faults, refusalOf}
 

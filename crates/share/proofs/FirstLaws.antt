@@ -15,7 +15,7 @@ use Rattle.recording.specs.declared.Entry.{Entry}
 use Rattle.recording.specs.Lists.{same}
 use Rattle.recording.specs.Recording.{Bytes, entriesOf, numbersOf, partOf, isPush, pushedIn, newText}
 use Rattle.recording.proofs.EntryLaws.{entries-few}
-use Rattle.recording.proofs.Lists.{same-self, same-equal}
+use Rattle.recording.proofs.Lists.{same-equal}
 use Rattle.recording.proofs.ItemsLaws.{}
 use Rattle.recording.proofs.Lists.{and-left, and-right}
 use Rattle.recording.proofs.ShareLaws.{or-comm, pushed-snoc}

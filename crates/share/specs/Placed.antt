@@ -1,6 +1,5 @@
 -- Entries as a result has them: a push has its text at or beyond all texts before it, or it has the part of a push before it. Who searches a label there need not compare a part twice.
-use Prim.Native.Nat.{ℕ, _+_, _≤_}
-use mathlib.Core.Path.{_≡_}
+use Prim.Native.Nat.{ℕ, _+_}
 use mathlib.Core.Bool.{Bool, true, false, cond, _&&_, _||_, not}
 use mathlib.Core.List.{List, [], _∷_, _++_}
 use lib.Dec.{eqb, leb}

@@ -4,16 +4,14 @@ use native.Mathlib.Omega.{arith}
 use borrow.Author.Needs.{needs}
 use borrow.Author.Tests.{not-true, not-false}
 use mathlib.Core.Bool.{not}
-use mathlib.Core.List.{List}
-use mathlib.Core.Path.{_≡_, refl, sym, ap, _∙_}
+use mathlib.Core.Path.{_≡_, refl, ap, _∙_}
 use Prim.Native.Nat.{ℕ, _+_, _-_, _≤_}
 use lib.ListN.{length, take, drop, length-append}
 use Rattle.chars.specs.Chars.{wellFormed}
 use Rattle.buffer.specs.Place.{overAt}
-use Rattle.recording.specs.declared.Entry.{Entry}
 use Rattle.recording.specs.declared.Refusal.the-variants.{LabelIllFormed}
 use Rattle.recording.specs.Recording.{Bytes, Recording, entriesOf, startIn, newText}
-use Rattle.recording.specs.Refusals.{numberOf, refuseIf, recordingFault}
+use Rattle.recording.specs.Refusals.{numberOf, refuseIf}
 use Rattle.recording.specs.Outcome.{Lent, roomIn}
 use Rattle.recording.proofs.FaultLaws.{no-fault, inside-of, start-inside}
 use Rattle.writer.proofs.Sizes.{Fitting}
