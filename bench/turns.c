@@ -9,13 +9,14 @@
 
 #include "ruszvedok.h"
 
-enum { SHORT = 80, LONG = 1 << 16, LINE = 100, ROWS = 64, MOST_ENTRIES = LONG / 512, MOST_LINES = LONG + 1, ROOM = 2 * LONG };
+enum { SHORT = 80, LONG = 1 << 16, LINE = 100, ROWS = 64, FEW_ENTRIES = LONG / 512, MOST_ENTRIES = 4096, LABEL = 16, MOST_LINES = LONG + 1,
+    ROOM = 2 * LONG };
 
-/* A text with entries: six in a short row, one for each 512 bytes of a long text. */
+/* A text with entries: six in a short row, one for each 512 bytes of a long text, or a page full of labels. */
 typedef struct row {
     ruszvedok_view view;
     uint32_t entries[RUSZVEDOK_ENTRY_SIZE * MOST_ENTRIES];
-    uint8_t text[12 * MOST_ENTRIES];
+    uint8_t text[LABEL * MOST_ENTRIES];
     uint32_t records[LONG / 32 * 4];
     size_t records_len, half, lines;
     uint32_t index[MOST_LINES]; /* where its lines start; how many, and how many of its first nine tenths */
@@ -206,6 +207,20 @@ static void fill_row(row *r, uint8_t *data, size_t size, bool broken, size_t cou
         }
 }
 
+/* A page full of pushes with so many different labels, which are alike but for their last four bytes. */
+static void fill_page(row *r, uint8_t *data, size_t labels)
+{
+    char label[LABEL + 1];
+    fill_row(r, data, LONG, true, 0);
+    for (uint32_t i = 0; i < MOST_ENTRIES; i++) {
+        uint32_t entry[] = {LONG / MOST_ENTRIES * i, RUSZVEDOK_KIND_PUSH_LABEL, LABEL * i, LABEL};
+        memcpy(r->entries + RUSZVEDOK_ENTRY_SIZE * i, entry, sizeof entry);
+        snprintf(label, sizeof label, "board grade %04zu", i % labels);
+        memcpy(r->text + LABEL * i, label, LABEL);
+    }
+    r->view = (ruszvedok_view){data, LONG, r->entries, RUSZVEDOK_ENTRY_SIZE * MOST_ENTRIES, r->text, LABEL * MOST_ENTRIES};
+}
+
 /* ---- timing ---- */
 static void *sides[2];
 static size_t numbers[2];
@@ -244,8 +259,8 @@ static void compare(const call *c, const char *of, row *rows, size_t count, task
             memset(res, 0, sizeof res); /* a question writes three numbers */
             c->run(f[s], rows + i, (task){t.width, t.break_words, false});
             rows[i].lines = res[RUSZVEDOK_RES_NUMBER];
-            for (int k = 0; k < 5; k++)
-                answers[s][k] += res[k] * (i + 1);
+            for (int k = 0; k < 5; k++) /* an archive from before document 02's Q-8 stores equal labels again */
+                answers[s][k] += k == RUSZVEDOK_RES_TEXT ? 0 : res[k] * (i + 1);
         }
     }
     if (must_agree && memcmp(answers[0], answers[1], sizeof answers[0]) != 0)
@@ -275,15 +290,23 @@ static bool asked(const char *name, int argc, char **argv)
     return argc <= 4;
 }
 
-/* Takes a kind's option out of the words; returns the kind, or RANDOM, the last of those that are taken without one. */
+/* Takes an option out of the words, if it is there. */
+static bool taken(const char *option, int *argc, char **argv)
+{
+    for (int i = 3; i < *argc; i++)
+        if (strcmp(argv[i], option) == 0) {
+            memmove(argv + i, argv + i + 1, (size_t)(--*argc - i) * sizeof *argv);
+            return true;
+        }
+    return false;
+}
+
+/* The kind whose option is among the words, or RANDOM, the last of those that are taken without one. */
 static int last_kind(int *argc, char **argv)
 {
     for (int kind = FOUR_BYTE; kind <= PICTURES; kind++)
-        for (int i = 3; i < *argc; i++)
-            if (strcmp(argv[i], kinds[kind].option) == 0) {
-                memmove(argv + i, argv + i + 1, (size_t)(--*argc - i) * sizeof *argv);
-                return kind;
-            }
+        if (taken(kinds[kind].option, argc, argv))
+            return kind;
     return RANDOM;
 }
 
@@ -297,6 +320,7 @@ int main(int argc, char **argv)
         {"spaces", " ", 80, false}, {"line ends", "\n", 80, false}};
     static row rows[ROWS];
     static uint8_t data[LONG];
+    bool full = taken("--labels", &argc, argv);
     int last = last_kind(&argc, argv), first = last == RANDOM ? ASCII : last;
     if (argc > 3)
         rounds = atoi(argv[3]);
@@ -309,7 +333,17 @@ int main(int argc, char **argv)
             CALL(ruszvedok_wrap_bytes)(data, 0, 1, false, out_lines, ++numbers[s], res);
     }
     puts("| call | input | old, ns a byte | shortest, new of old | median, new of old |\n|---|---|---|---|---|");
-    for (const call *c = calls; c < calls + sizeof calls / sizeof *calls; c++)
+    for (size_t labels = 8; full && labels <= MOST_ENTRIES; labels *= MOST_ENTRIES / 8)
+        for (const call *c = named("replay"); c <= named("write_tabs_expanded"); c++)
+            if (c->run != write_unindented && c->run != wrap_bytes && asked(c->name, argc, argv)) {
+                char of[40];
+                sprintf(of, "64 KiB, 4,096 pushes, %zu labels", labels);
+                take(0);
+                text(ASCII, data, LONG);
+                fill_page(rows, data, labels);
+                compare(c, of, rows, 1, (task){72, false, false}, true);
+            }
+    for (const call *c = calls; !full && c < calls + sizeof calls / sizeof *calls; c++)
         for (int n = 2 * first; n < 2 * last + 2 && asked(c->name, argc, argv); n++) {
             int kind = n / 2;
             size_t size = n % 2 == 0 ? SHORT : LONG, count = n % 2 == 0 ? ROWS : 1;
@@ -326,14 +360,14 @@ int main(int argc, char **argv)
                     put_tabs(kind, data + i * size, size);
                 if (c->run == write_unindented)
                     put_prefixes(data + i * size, size);
-                fill_row(rows + i, data + i * size, size, !c->plain && size == LONG, size == SHORT ? 6 : MOST_ENTRIES);
+                fill_row(rows + i, data + i * size, size, !c->plain && size == LONG, size == SHORT ? 6 : FEW_ENTRIES);
             }
             sprintf(of, "%s, %s", kinds[kind].name, size == SHORT ? "80 B" : "64 KiB");
             /* of pictures the two may have other numbers of lines, so no list is exact for both */
             for (int exact = 0; exact <= (c->lined && kind != PICTURES); exact++)
                 compare(c, of, rows, count, (task){size == SHORT ? 30 : 72, false, exact}, kind != PICTURES);
         }
-    for (size_t n = 0; n < sizeof hard / sizeof *hard && last == RANDOM && asked("wrap_bytes", argc, argv); n++) {
+    for (size_t n = 0; n < sizeof hard / sizeof *hard && last == RANDOM && !full && asked("wrap_bytes", argc, argv); n++) {
         size_t unit = strlen(hard[n].unit), size = LONG / unit * unit;
         for (size_t i = 0; i < size; i++)
             data[i] = (uint8_t)hard[n].unit[i % unit];
