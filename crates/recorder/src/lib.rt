@@ -13,7 +13,7 @@ use share::set_entry;
 use well_formed::is_well_formed;
 use writer::Cursor;
 use writer::Settled;
-use writer::put_recording;
+use writer::keep_entries;
 use writer::settle;
 ghost use mathlib.Core.Path.{_≡_};
 ghost use Prim.Native.Nat.{_+_, _≤_};
@@ -66,7 +66,7 @@ pub fn put_whole(
         e: 0,
         t: 0,
     };
-    let c = put_recording(
+    let c = keep_entries(
         out_data,
         out_entries,
         out_text,
@@ -74,6 +74,7 @@ pub fn put_whole(
         entries,
         text,
         start,
+        content.len(),
     );
     Answer::Done {
         data: c.d,

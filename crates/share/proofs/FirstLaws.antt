@@ -184,13 +184,6 @@ module _ (t : Bytes) (es : List Entry) (u : Bytes) (fs : List Entry) (n a b : �
   size-raws h = inr (omega (arith, h, ra, ap (λ (k : ℕ). n * k) rb), h)
 
   module _ (r : ℕ) (c : Counts ((a + n * b) + labelsIn [] [] t [] es) r) where
-    pub size-alone : n ≡ 0 → Counts (textSize t es u fs n) r
-    unfolding textSize
-    size-alone z =
-        let e : (a + n * b) + labelsIn [] [] t [] es ≡ (rawsIn es + n * rawsIn fs) + (labelsIn [] [] t [] es + cond (eqb n 0) 0 (labelsIn t es u [] fs)) =
-        rw (eq-eqb n 0 z) (omega (arith, ra, ap (λ (k : ℕ). n * k) rb)) in
-        rw e at c
-
     pub size-over : 65536 < r → Counts (textSize t es u fs n) r
     unfolding Counts textSize
     size-over h = inr (⊎-elim (λ q. omega (arith, h, q, ra, ap (λ (k : ℕ). n * k) rb)) (λ q. omega (arith, q .0, ra, ap (λ (k : ℕ). n * k) rb)) c, h)

@@ -354,6 +354,13 @@ module _ (t : Bytes) (es : List Entry) (gone raws : ℕ) (e : raws ≡ rawsIn es
   unfolding lessSize
   less-counted r c = subst (λ (k : ℕ). Counts (k + labelsIn [] [] t [] es) r) e c
 
+-- nothing goes, and nothing of a second recording is written
+pub less-none : (t u : Bytes) (es fs : List Entry) (n r : ℕ) → n ≡ 0 → Counts (lessSize t es 0) r → Counts (textSize t es u fs n) r
+unfolding lessSize
+less-none t u es fs n r z c =
+    let e : (rawsIn es - 0) + labelsIn [] [] t [] es ≡ textSize t es u fs n = omega (arith, own-sum t es, size-none t u es fs) ∙ ap (textSize t es u fs) (sym z) in
+    rw e at c
+
 -- ── a size that settles as the exact one
 pub exact : (room t r : ℕ) → Counts t r → Stands room t r
 unfolding Stands

@@ -240,12 +240,36 @@ fn more_labels(
     f
 }
 
+// The text of a result that has all entries of a recording but raw sequences of `gone` bytes; above the limit, any number above it.
+fn exact_less(gone: usize, entries: &[u32], text: &[u8]) -> usize
+    requires { ⌜ (length (now entries) ≤ 16384) × (length (now text) ≤ 65536) × Inside (now text) (entriesOf (now entries)) ⌝ }
+    requires { ⌜ gone ≤ rawsIn (entriesOf (now entries)) ⌝ }
+    ensures { λ r. ⌜ Counts (lessSize (now (text .entry)) (entriesOf (now (entries .entry))) gone) r ⌝ }
+{
+    let raws = raw_size(entries, text) - gone;
+    if 65536 < raws {
+        return raws;
+    }
+    let mut firsts = [0u32; 16384];
+    more_labels(
+        raws,
+        &entries[0..0],
+        &text[0..0],
+        entries,
+        text,
+        &mut firsts,
+    ).size
+}
+
 // The text of a result that has all entries of one recording, and those of a second one n times; above the limit, any number above it.
 fn exact_size(entries: &[u32], text: &[u8], second: &[u32], own: &[u8], n: usize) -> usize
     requires { ⌜ (length (now entries) ≤ 16384) × (length (now text) ≤ 65536) × Inside (now text) (entriesOf (now entries)) ⌝ }
     requires { ⌜ (length (now second) ≤ 16384) × (length (now own) ≤ 65536) × Inside (now own) (entriesOf (now second)) × (n ≤ 1048576) ⌝ }
     ensures { λ r. ⌜ Counts (textSize (now (text .entry)) (entriesOf (now (entries .entry))) (now (own .entry)) (entriesOf (now (second .entry))) n) r ⌝ }
 {
+    if n == 0 {
+        return exact_less(0, entries, text);
+    }
     let raws = raw_size(entries, text) + n * raw_size(second, own);
     if 65536 < raws {
         return raws;
@@ -259,9 +283,6 @@ fn exact_size(entries: &[u32], text: &[u8], second: &[u32], own: &[u8], n: usize
         text,
         &mut firsts,
     );
-    if n == 0 {
-        return one.size;
-    }
     if 65536 < one.size {
         return one.size;
     }
@@ -271,6 +292,7 @@ fn exact_size(entries: &[u32], text: &[u8], second: &[u32], own: &[u8], n: usize
 }
 
 // A text size that settles the call as the exact one: all texts side by side, `plain`, if there is room for them, and else the exact size.
+// This and the two below only test `plain`, so that calls have the test in place; what counts is called from several places and stays a call.
 pub fn text_size(
     plain: usize,
     room: usize,
@@ -299,28 +321,12 @@ pub fn own_size(plain: usize, room: usize, entries: &[u32], text: &[u8]) -> usiz
     requires { ⌜ ownSize (now text) (entriesOf (now entries)) ≤ plain ⌝ }
     ensures { λ r. ⌜ Stands room (ownSize (now (text .entry)) (entriesOf (now (entries .entry)))) r ⌝ }
 {
-    text_size(plain, room, entries, text, &entries[0..0], &text[0..0], 0)
-}
-
-// The text of a result that has all entries of a recording but raw sequences of `gone` bytes; above the limit, any number above it.
-fn exact_less(gone: usize, entries: &[u32], text: &[u8]) -> usize
-    requires { ⌜ (length (now entries) ≤ 16384) × (length (now text) ≤ 65536) × Inside (now text) (entriesOf (now entries)) ⌝ }
-    requires { ⌜ gone ≤ rawsIn (entriesOf (now entries)) ⌝ }
-    ensures { λ r. ⌜ Counts (lessSize (now (text .entry)) (entriesOf (now (entries .entry))) gone) r ⌝ }
-{
-    let raws = raw_size(entries, text) - gone;
-    if 65536 < raws {
-        return raws;
+    if plain <= 65536 {
+        if plain <= room {
+            return plain;
+        }
     }
-    let mut firsts = [0u32; 16384];
-    more_labels(
-        raws,
-        &entries[0..0],
-        &text[0..0],
-        entries,
-        text,
-        &mut firsts,
-    ).size
+    exact_size(entries, text, &entries[0..0], &text[0..0], 0)
 }
 
 // As `own_size`, of a result that has all entries of a recording but raw sequences of `gone` bytes.

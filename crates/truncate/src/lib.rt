@@ -16,7 +16,7 @@ use writer::Settled;
 use writer::keep;
 use writer::put_recording;
 use writer::settle;
-use writer::skip;
+use writer::skip_entries;
 ghost use mathlib.Core.Path.{_≡_};
 ghost use mathlib.Core.Bool.{true};
 ghost use Prim.Native.Nat.{_+_, _-_, _≤_};
@@ -67,7 +67,7 @@ fn put_up_to(
         t: c.t,
     };
     let there = keep(bytes, numbers, texts, content, entries, text, from, n);
-    skip(
+    skip_entries(
         bytes,
         numbers,
         texts,
@@ -104,7 +104,7 @@ fn put_from(
         e: c.e,
         t: c.t,
     };
-    let there = skip(bytes, numbers, texts, content, entries, text, from, n);
+    let there = skip_entries(bytes, numbers, texts, content, entries, text, from, n);
     keep(
         bytes,
         numbers,

@@ -269,6 +269,24 @@ module _ (at n t : ℕ) (ds ts : List ℕ) (a : at ≤ n) (l : n ≤ length ds) 
   back-stop es h v =
       (λ i. back (sym size-there i) (further es h i)) ∙ back-bytes (part at n ds) 0 (itemsFrom n ts (drop n ds) es) ∙ back-zero es h v
 
+-- ── no entry is left up to the byte n
+module _ (ds ns ts : List ℕ) (n : ℕ) (c : Cursor) (r : Ready ds ns ts c) (h : c .at ≤ n) (l : n ≤ length ds) (later : n < placeOf (entriesOf (drop (c .k) ns))) where
+  pub front-plain : front (n - c .at) (left ds ns ts c) ≡ byteItems (part (c .at) n ds)
+  unfolding left
+  front-plain = front-stop (c .at) n (length ts) ds ts h l (entriesOf (drop (c .k) ns)) later (r .valid)
+
+  -- the cursor at n
+  pub back-plain : (c′ : Cursor) → c′ .at ≡ n → c′ .k ≡ c .k → (left ds ns ts c′ ≡ back (n - c .at) (left ds ns ts c)) × Ready ds ns ts c′
+  unfolding left
+  back-plain c′ ea ek = (
+    (λ i. itemsFrom (ea i) ts (drop (ea i) ds) (entriesOf (drop (ek i) ns))) ∙ sym (back-stop (c .at) n (length ts) ds ts h l (entriesOf (drop (c .k) ns)) later (r .valid)),
+    record {
+      within = omega (arith, ek, r .within);
+      valid = rw (ea, ek) (valid-there (c .at) n (length ts) ds ts h l (entriesOf (drop (c .k) ns)) later (r .valid));
+      short = r .short;
+    },
+  )
+
 -- ── the state of the loop: `sel` says what of the items is written
 pub record State (sel : List Item → List Item) (ds ns ts : List ℕ) (n : ℕ) (o₀ : Out) (c₀ : Cursor) (o : Out) (c : Cursor) (p : ℕ) : Type 0 where
   pub done : List Item
@@ -351,23 +369,16 @@ module _ (sel : List Item → List Item) (sel-append : (a b : List Item) → sel
     later = omega (arith, s .next)
 
     pub front-last : front (n - c .at) (left ds ns ts c) ≡ byteItems (part (c .at) n ds)
-    unfolding left
-    front-last = front-stop (c .at) n (length ts) ds ts (s .here) l (entriesOf (drop (c .k) ns)) later (s .ready .valid)
+    front-last = front-plain ds ns ts n c (s .ready) (s .here) l later
 
     pub finish : (o′ : Out) (c′ : Cursor) → o′ ≡ add (sel (byteItems (part (c .at) n ds))) o → c′ .at ≡ n → c′ .k ≡ c .k
         → (o′ ≡ add (sel (front (n - c₀ .at) (left ds ns ts c₀))) o₀) × (left ds ns ts c′ ≡ back (n - c₀ .at) (left ds ns ts c₀)) × Ready ds ns ts c′
-    unfolding left
     finish o′ c′ eo ea ek =
-        let e : s .done ++ sel (byteItems (part (c .at) n ds)) ≡ sel (front (n - c₀ .at) (left ds ns ts c₀)) = rw front-last at (s .rest) in (
+        let e : s .done ++ sel (byteItems (part (c .at) n ds)) ≡ sel (front (n - c₀ .at) (left ds ns ts c₀)) = rw front-last at (s .rest) in
+        let b = back-plain ds ns ts n c (s .ready) (s .here) l later c′ ea ek in (
           eo ∙ ap (λ (x : Out). add (sel (byteItems (part (c .at) n ds))) x) (s .wrote) ∙ add-append (s .done) (sel (byteItems (part (c .at) n ds))) o₀ fits-done ∙ ap (λ (x : List Item). add x o₀) e,
-          (λ i. itemsFrom (ea i) ts (drop (ea i) ds) (entriesOf (drop (ek i) ns))) ∙ sym
-              (back-stop (c .at) n (length ts) ds ts (s .here) l (entriesOf (drop (c .k) ns)) later (s .ready .valid)) ∙ s .behind,
-          record {
-            within = omega (arith, ek, s .ready .within);
-            valid = rw (ea, ek)
-                (valid-there (c .at) n (length ts) ds ts (s .here) l (entriesOf (drop (c .k) ns)) later (s .ready .valid));
-            short = s .ready .short;
-          },
+          b .0 ∙ s .behind,
+          b .1,
         )
 
 -- ── the entries alone

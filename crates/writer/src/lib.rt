@@ -125,9 +125,8 @@ pub fn put_entry(numbers: &mut [u32], texts: &mut [u8], text: &[u8], e: Entry, c
     }
 }
 
-// Carries the items before the byte n on, the entries at that place included.
-// The contract says what is left of the content (`left`), not the entry's index in the cursor: later steps see the index only through that, and as a value it would be this loop over again.
-pub fn keep(
+// `keep`, entry by entry.
+pub fn keep_entries(
     bytes: &mut [u8],
     numbers: &mut [u32],
     texts: &mut [u8],
@@ -164,9 +163,44 @@ pub fn keep(
     }
 }
 
-// Carries on the entries before the byte n, those at that place included, and leaves the bytes.
-// `bytes` is lent for the shape of the contract alone: all steps have the same. As in `keep`, the index is told by what is left.
-pub fn skip(
+// Carries the items before the byte n on, the entries at that place included. A stretch without entries is one copy; what goes entry by entry is a call, so that callers have the copy in place.
+// The contract says what is left of the content (`left`), not the entry's index in the cursor: later steps see the index only through that, and as a value it would be this loop over again.
+pub fn keep(
+    bytes: &mut [u8],
+    numbers: &mut [u32],
+    texts: &mut [u8],
+    content: &[u8],
+    entries: &[u32],
+    text: &[u8],
+    from: Cursor,
+    n: usize,
+) -> Cursor
+    requires { ⌜ Ready (now content) (now entries) (now text) from ⌝ }
+    requires { ⌜ (from .at ≤ n) × (n ≤ length (now content)) ⌝ }
+    requires { ⌜ Fits (front (n - from .at) (left (now content) (now entries) (now text) from)) (out (now bytes) (now numbers) (now texts) from) ⌝ }
+    ensures { λ r. ⌜ out (now (bytes .exit)) (now (numbers .exit)) (now (texts .exit)) r ≡ add
+        (front (n - from .at) (left (now (content .entry)) (now (entries .entry)) (now (text .entry)) from)) (out (now (bytes .entry)) (now (numbers .entry)) (now (texts .entry)) from) ⌝ }
+    ensures { λ r. ⌜ left (now (content .entry)) (now (entries .entry)) (now (text .entry)) r ≡ back (n - from .at) (left (now (content .entry)) (now (entries .entry)) (now (text .entry)) from) ⌝ }
+    ensures { λ r. ⌜ Ready (now (content .entry)) (now (entries .entry)) (now (text .entry)) r × (r .at ≡ n)
+        × RunHeld (from .d) (r .d) (part (from .at) n (now (content .entry))) (now (bytes .entry)) (now (bytes .exit)) ⌝ }
+{
+    let mut c = from;
+    if n < place_at(entries, c.k) {
+        c = put_bytes(bytes, content, c.at, n, c);
+        return Cursor {
+            at: n,
+            k: c.k,
+            d: c.d,
+            e: c.e,
+            t: c.t,
+        };
+    }
+    c = keep_entries(bytes, numbers, texts, content, entries, text, c, n);
+    c
+}
+
+// `skip`, entry by entry.
+pub fn skip_entries(
     bytes: &mut [u8],
     numbers: &mut [u32],
     texts: &mut [u8],
@@ -199,6 +233,39 @@ pub fn skip(
         e: c.e,
         t: c.t,
     }
+}
+
+// Carries on the entries before the byte n, those at that place included, and leaves the bytes.
+// `bytes` is lent for the shape of the contract alone: all steps have the same. As in `keep`, the index is told by what is left.
+pub fn skip(
+    bytes: &mut [u8],
+    numbers: &mut [u32],
+    texts: &mut [u8],
+    content: &[u8],
+    entries: &[u32],
+    text: &[u8],
+    from: Cursor,
+    n: usize,
+) -> Cursor
+    requires { ⌜ Ready (now content) (now entries) (now text) from ⌝ }
+    requires { ⌜ (from .at ≤ n) × (n ≤ length (now content)) ⌝ }
+    requires { ⌜ Fits (entriesOnly (front (n - from .at) (left (now content) (now entries) (now text) from))) (out (now bytes) (now numbers) (now texts) from) ⌝ }
+    ensures { λ r. ⌜ out (now (bytes .exit)) (now (numbers .exit)) (now (texts .exit)) r ≡ add
+        (entriesOnly (front (n - from .at) (left (now (content .entry)) (now (entries .entry)) (now (text .entry)) from)))
+        (out (now (bytes .entry)) (now (numbers .entry)) (now (texts .entry)) from) ⌝ }
+    ensures { λ r. ⌜ left (now (content .entry)) (now (entries .entry)) (now (text .entry)) r ≡ back (n - from .at) (left (now (content .entry)) (now (entries .entry)) (now (text .entry)) from) ⌝ }
+    ensures { λ r. ⌜ Ready (now (content .entry)) (now (entries .entry)) (now (text .entry)) r × (r .at ≡ n) ⌝ }
+{
+    if n < place_at(entries, from.k) {
+        return Cursor {
+            at: n,
+            k: from.k,
+            d: from.d,
+            e: from.e,
+            t: from.t,
+        };
+    }
+    skip_entries(bytes, numbers, texts, content, entries, text, from, n)
 }
 
 // Writes all of a recording at the ends; the place in the content that is read comes back as it was.

@@ -1,18 +1,27 @@
 -- `put_whole` stops at the refusal of the sizes, or leaves the encoded items (LeftLaws); the sizes are the content's (`whole-sized`).
 use borrow.Author.Needs.{needs}
+use native.Mathlib.Omega.{arith}
+use Prim.Native.Nat.{ℕ, _-_}
 use mathlib.Core.List.{List}
+use mathlib.Core.Path.{_≡_, refl, ap, _∙_}
+use Rattle.recording.specs.Edit.{front}
 use lib.ListN.{length}
 use Rattle.recording.specs.Recording.{Item, recording, items}
-use Rattle.writer.specs.Write.{out}
-use Rattle.writer.proofs.Steps.{sound}
+use Rattle.writer.specs.declared.Cursor.{Cursor}
+use Rattle.writer.specs.Write.{out, add, left}
+use Rattle.writer.proofs.Steps.{sound, front-start, ready-start, keep-all}
 use Rattle.recorder.proofs.LeftLaws.{Sized, whole-sized, own-asked, left-refused, left-room, left-written}
 use Rattle.recorder.proofs.put_whole.Statement.{statement}
 use Rattle.recorder.proofs.put_whole.Tie as tie
 use Rattle.recorder.proofs.put_whole.Reads as reads
 use Rattle.recorder.proofs.put_whole.Lts as lts
 use Rattle.share.proofs.own_size.Reads as own-size-reads
-use Rattle.writer.proofs.put_recording.Reads as put-recording-reads
+use Rattle.writer.proofs.keep_entries.Reads as keep-entries-reads
 use Rattle.writer.proofs.settle.Reads as settle-reads
+
+-- the place that is written from, in the content and in the buffers
+abbrev begin : Cursor
+begin = record { at = 0; k = 0; d = 0; e = 0; t = 0 }
 
 -- once the sizes are settled: where the function started, the items that are to be written, and that the sizes are theirs
 abbrev start : tie.After-settle → tie.Start
@@ -51,13 +60,21 @@ returns c =
 enum-told : tie.Need-enum-told
 enum-told c = search needs
 
-put-recording-requires : tie.Need-put-recording-requires
+-- all items of the recording are those before its data's end
+all-items : (ds ns ts : List ℕ) → front (length ds - 0) (left ds ns ts begin) ≡ items (recording ds ns ts)
+all-items ds ns ts = front-start ds ns ts begin refl refl (length ds) ∙ keep-all ds ns ts
+
+keep-entries-requires : tie.Need-keep-entries-requires
 unfolding out
-put-recording-requires c κs =
+keep-entries-requires c κs =
     let s = c .before .before .before .before .before in
     let a = start s .args in (
-      sound (a .content .now) (a .entries .now) (a .text .now) (start s .pre .0),
-      left-room (whole s) (a .out-data .now) (a .out-entries .now) (a .out-text .now) _ _ _ (sized s) (s .settle .result) (s .settle .ensures) (c .before .before .before .enum-told .given .1),
+      ready-start (a .content .now) (a .entries .now) (a .text .now) begin refl refl (sound (a .content .now) (a .entries .now) (a .text .now) (start s .pre .0)),
+      (
+        (omega arith, omega arith),
+        rw (all-items (a .content .now) (a .entries .now) (a .text .now))
+        (left-room (whole s) (a .out-data .now) (a .out-entries .now) (a .out-text .now) _ _ _ (sized s) (s .settle .result) (s .settle .ensures) (c .before .before .before .enum-told .given .1)),
+      ),
     )
 
 same-length : tie.Need-same-length
@@ -77,7 +94,8 @@ returns-2 c =
     let a = start s .args in
     left-written (whole s) (a .out-data .now) (a .out-entries .now) (a .out-text .now) _ _ _ (sized s) (s .settle .result) (s .settle .ensures)
     (p .before .before .before .before .enum-told .given .1) _ _ _
-    (p .put-recording .result) (p .put-recording .ensures .0)
+    (p .keep-entries .result)
+    (p .keep-entries .ensures .0 ∙ ap (λ (is : List Item). add is (out (a .out-data .now) (a .out-entries .now) (a .out-text .now) begin)) (all-items (a .content .now) (a .entries .now) (a .text .now)))
 
 pub put-whole-spec : {M : Type 1} → statement M
 put-whole-spec =
@@ -88,7 +106,7 @@ put-whole-spec =
     enum-known-verdict
     returns
     enum-told
-    put-recording-requires
+    keep-entries-requires
     same-length
     same-length-2
     same-length-3

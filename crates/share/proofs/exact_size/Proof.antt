@@ -2,14 +2,32 @@
 use native.Mathlib.Omega.{arith}
 use borrow.Author.Needs.{needs}
 use Rattle.recording.specs.Recording.{entriesOf}
-use Rattle.share.proofs.SizeLaws.{product-small}
-use Rattle.share.proofs.FirstLaws.{size-raws, size-alone, size-over, size-both}
+use Rattle.share.proofs.SizeLaws.{product-small, less-none}
+use Rattle.share.proofs.FirstLaws.{size-raws, size-over, size-both}
 use Rattle.share.proofs.exact_size.Statement.{statement}
 use Rattle.share.proofs.exact_size.Tie as tie
 use Rattle.share.proofs.exact_size.Reads as reads
 use Rattle.share.proofs.exact_size.Lts as lts
+use Rattle.share.proofs.exact_less.Reads as exact-less-reads
 use Rattle.share.proofs.more_labels.Reads as more-labels-reads
 use Rattle.share.proofs.raw_size.Reads as raw-size-reads
+
+-- ── the places on the way
+-- once the raw sequences are measured
+abbrev start : tie.After-raw-size2 → tie.Start
+start c = c .before .before .before .before .before .before .before
+
+-- once the labels of the first recording are counted
+abbrev measured : tie.After-more-labels → tie.After-raw-size2
+measured c = c .before .before .before .before .before
+
+exact-less-requires : tie.Need-exact-less-requires
+exact-less-requires c κs = search needs
+
+returns : tie.Need-returns
+returns c =
+    let a = c .before .before .before .before .before .before .args in
+    less-none (a .text .now) (a .own .now) (entriesOf (a .entries .now)) (entriesOf (a .second .now)) (a .n) _ (c .before .if1 .taken) (c .exact-less .ensures)
 
 raw-size-requires : tie.Need-raw-size-requires
 raw-size-requires c κs = search needs
@@ -19,16 +37,17 @@ raw-size-requires-2 c κs = search needs
 
 mul-raws : tie.Need-mul-raws
 mul-raws c =
-    omega (arith, product-small _ _ (c .before .before .before .before .before .before .pre .1 .3) (c .raw-size2 .ensures .1), c .before .raw-size .ensures .1)
+    omega (arith, product-small _ _ (start c .pre .1 .3) (c .raw-size2 .ensures .1), c .before .raw-size .ensures .1)
 
 add-raws : tie.Need-add-raws
 add-raws c =
-    omega (arith, product-small _ _ (c .before .before .before .before .before .before .pre .1 .3) (c .raw-size2 .ensures .1), c .before .raw-size .ensures .1)
+    omega (arith, product-small _ _ (start c .pre .1 .3) (c .raw-size2 .ensures .1), c .before .raw-size .ensures .1)
 
-returns : tie.Need-returns
-returns c =
-    let a = c .before .before .before .before .before .before .before .args in
-    size-raws (a .text .now) (entriesOf (a .entries .now)) (a .own .now) (entriesOf (a .second .now)) (a .n) _ _ (c .before .before .raw-size .ensures .0) (c .before .raw-size2 .ensures .0) (c .if1 .taken)
+returns-2 : tie.Need-returns-2
+returns-2 c =
+    let m = c .before in
+    let a = start m .args in
+    size-raws (a .text .now) (entriesOf (a .entries .now)) (a .own .now) (entriesOf (a .second .now)) (a .n) _ _ (m .before .raw-size .ensures .0) (m .raw-size2 .ensures .0) (c .if2 .taken)
 
 sub-more-labels : tie.Need-sub-more-labels
 sub-more-labels c = search needs
@@ -54,15 +73,13 @@ slice-aggregate-more-labels c = search needs
 more-labels-requires : tie.Need-more-labels-requires
 more-labels-requires c κs = search needs
 
-returns-2 : tie.Need-returns-2
-returns-2 c =
-    let a = c .before .before .before .before .before .before .before .before .before .before .before .before .before .args in
-    size-alone (a .text .now) (entriesOf (a .entries .now)) (a .own .now) (entriesOf (a .second .now)) (a .n) _ _ (c .before .before .before .before .before .before .before .before .raw-size .ensures .0) (c .before .before .before .before .before .before .before .raw-size2 .ensures .0) _ (c .before .before .more-labels .ensures .0) (c .if2 .taken)
-
 returns-3 : tie.Need-returns-3
 returns-3 c =
-    let a = c .before .before .before .before .before .before .before .before .before .before .before .before .before .before .before .args in
-    size-over (a .text .now) (entriesOf (a .entries .now)) (a .own .now) (entriesOf (a .second .now)) (a .n) _ _ (c .before .before .before .before .before .before .before .before .before .before .raw-size .ensures .0) (c .before .before .before .before .before .before .before .before .before .raw-size2 .ensures .0) _ (c .before .before .before .before .more-labels .ensures .0) (c .if3 .taken)
+    let l = c .before .before .before in
+    let m = measured l in
+    let a = start m .args in
+    size-over (a .text .now) (entriesOf (a .entries .now)) (a .own .now) (entriesOf (a .second .now)) (a .n) _ _ (m .before .raw-size .ensures .0) (m .raw-size2 .ensures .0) _
+    (l .more-labels .ensures .0) (c .if3 .taken)
 
 sub-more-labels-3 : tie.Need-sub-more-labels-3
 sub-more-labels-3 c = search needs
@@ -81,18 +98,25 @@ more-labels-requires-2 c κs = search needs
 
 returns-4 : tie.Need-returns-4
 returns-4 c =
-    let a = c .before .before .before .before .before .before .before .before .before .before .before .before .before .before .before .before .before .before .before .before .args in
-    size-both (a .text .now) (entriesOf (a .entries .now)) (a .own .now) (entriesOf (a .second .now)) (a .n) _ _ (c .before .before .before .before .before .before .before .before .before .before .before .before .before .before .before .raw-size .ensures .0) (c .before .before .before .before .before .before .before .before .before .before .before .before .before .before .raw-size2 .ensures .0) _ (c .before .before .before .before .before .before .before .before .before .more-labels .ensures .0) (c .before .before .before .before .before .before .before .if2 .left) (c .before .before .before .before .before .if3 .left) (c .before .before .before .before .before .before .before .before .before .more-labels .last .1 .1 .1 .1 .1 .0) (c .before .before .before .before .before .before .before .before .before .more-labels .result .end) (c .before .before .before .before .before .before .before .before .before .more-labels .ensures .1 .1) _ (c .before .more-labels2 .ensures .0)
+    let o = c .before .before .before .before .before in
+    let l = o .before .before .before in
+    let m = measured l in
+    let a = start m .args in
+    size-both (a .text .now) (entriesOf (a .entries .now)) (a .own .now) (entriesOf (a .second .now)) (a .n) _ _ (m .before .raw-size .ensures .0) (m .raw-size2 .ensures .0) _
+    (l .more-labels .ensures .0) (m .before .before .if1 .left) (o .if3 .left) (l .more-labels .last .1 .1 .1 .1 .1 .0) (l .more-labels .result .end) (l .more-labels .ensures .1 .1) _
+    (c .before .more-labels2 .ensures .0)
 
 pub exact-size-spec : {M : Type 1} → statement M
 exact-size-spec =
     tie.close
     (tie.spec
+    exact-less-requires
+    returns
     raw-size-requires
     raw-size-requires-2
     mul-raws
     add-raws
-    returns
+    returns-2
     sub-more-labels
     part-more-labels-start
     part-more-labels-end
@@ -101,7 +125,6 @@ exact-size-spec =
     part-more-labels-end-2
     slice-aggregate-more-labels
     more-labels-requires
-    returns-2
     returns-3
     sub-more-labels-3
     part-more-labels-start-3

@@ -18,11 +18,11 @@ use Rattle.truncate.proofs.put_from.Tie as tie
 use Rattle.truncate.proofs.put_from.Reads as reads
 use Rattle.truncate.proofs.put_from.Lts as lts
 use Rattle.writer.proofs.keep.Reads as keep-reads
-use Rattle.writer.proofs.skip.Reads as skip-reads
+use Rattle.writer.proofs.skip_entries.Reads as skip-entries-reads
 
-skip-requires : tie.Need-skip-requires
+skip-entries-requires : tie.Need-skip-entries-requires
 unfolding out
-skip-requires c κs =
+skip-entries-requires c κs =
     let a = c .before .before .before .before .before .before .before .before .before .args in
     let p = c .before .before .before .before .before .before .before .before .before .pre in (
       ready-start _ _ _ _ refl refl (p .0),
@@ -40,7 +40,7 @@ keep-requires c κs =
     let start = at-skip .before .before .before .before .before .before .before .before .before .before in
     let a = start .args in
     let p = start .pre in
-    let k = at-skip .skip .ensures in (
+    let k = at-skip .skip-entries .ensures in (
       k .1 .1 .0,
       (
         (omega (arith, k .1 .1 .1, p .1 .0), omega arith),
@@ -66,7 +66,7 @@ returns c =
     let start = at-skip .before .before .before .before .before .before .before .before .before .before in
     let a = start .args in
     let p = start .pre in
-    let k = at-skip .skip .ensures in
+    let k = at-skip .skip-entries .ensures in
     let w = both entriesOnly (λ (x : List Item). x) _ _ _ _ _ (edit-from (a .n) (a .content .now) (a .entries .now) (a .text .now)) _ refl refl _ (p .1 .1) _ _ (k .0) (k .1 .0)
     (k .1 .1 .1) _ (at-keep .keep .ensures .0) in
     let is = edit (cutStart (a .n)) (items (recording (a .content .now) (a .entries .now) (a .text .now))) in
@@ -75,9 +75,9 @@ returns c =
 pub put-from-spec : {M : Type 1} → statement M
 put-from-spec =
     tie.close
-    (tie.spec skip-requires keep-requires same-length same-length-2 same-length-3 returns)
+    (tie.spec skip-entries-requires keep-requires same-length same-length-2 same-length-3 returns)
 
 -- the bytes go by one `keep`
-pub put-from-lends-on : LendsOn code.function [] 0 ("writer::skip" ∷ "writer::keep" ∷ [])
+pub put-from-lends-on : LendsOn code.function [] 0 ("writer::skip_entries" ∷ "writer::keep" ∷ [])
 unfolding ownArrays acts touches loops calls
 put-from-lends-on = refl

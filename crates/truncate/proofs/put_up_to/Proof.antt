@@ -18,7 +18,7 @@ use Rattle.truncate.proofs.put_up_to.Tie as tie
 use Rattle.truncate.proofs.put_up_to.Reads as reads
 use Rattle.truncate.proofs.put_up_to.Lts as lts
 use Rattle.writer.proofs.keep.Reads as keep-reads
-use Rattle.writer.proofs.skip.Reads as skip-reads
+use Rattle.writer.proofs.skip_entries.Reads as skip-entries-reads
 
 keep-requires : tie.Need-keep-requires
 unfolding out
@@ -33,9 +33,9 @@ keep-requires c κs =
       ),
     )
 
-skip-requires : tie.Need-skip-requires
+skip-entries-requires : tie.Need-skip-entries-requires
 unfolding out
-skip-requires c κs =
+skip-entries-requires c κs =
     let at-keep = c .before .before .before .before .before .before .before .before .before in
     let start = at-keep .before .before .before .before .before .before .before .before .before .before in
     let a = start .args in
@@ -68,16 +68,16 @@ returns c =
     let p = start .pre in
     let k = at-keep .keep .ensures in
     let w = both (λ (x : List Item). x) entriesOnly _ _ _ _ _ (edit-up-to (a .n) (a .content .now) (a .entries .now) (a .text .now)) _ refl refl _ (p .1 .1) _ _ (k .0) (k .1 .0)
-    (k .1 .1 .1) _ (at-skip .skip .ensures .0) in
+    (k .1 .1 .1) _ (at-skip .skip-entries .ensures .0) in
     let is = edit (cutEnd (a .n) (a .content .now)) (items (recording (a .content .now) (a .entries .now) (a .text .now))) in
     (w, added-held is (take (a .n) (a .content .now)) (out (a .bytes .now) (a .numbers .now) (a .texts .now) (a .c)) _ w (up-to-run (a .n) (a .content .now) (a .entries .now) (a .text .now)))
 
 pub put-up-to-spec : {M : Type 1} → statement M
 put-up-to-spec =
     tie.close
-    (tie.spec keep-requires skip-requires same-length same-length-2 same-length-3 returns)
+    (tie.spec keep-requires skip-entries-requires same-length same-length-2 same-length-3 returns)
 
 -- the bytes go by one `keep`
-pub put-up-to-lends-on : LendsOn code.function [] 0 ("writer::keep" ∷ "writer::skip" ∷ [])
+pub put-up-to-lends-on : LendsOn code.function [] 0 ("writer::keep" ∷ "writer::skip_entries" ∷ [])
 unfolding ownArrays acts touches loops calls
 put-up-to-lends-on = refl
