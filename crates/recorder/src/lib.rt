@@ -66,6 +66,7 @@ pub fn put_whole(
         e: 0,
         t: 0,
     };
+    // a recording that is copied has entries as a rule
     let c = keep_entries(
         out_data,
         out_entries,

@@ -20,7 +20,7 @@ use Rattle.recording.proofs.ItemsLaws.{}
 use Rattle.recording.proofs.Lists.{and-left, and-right}
 use Rattle.recording.proofs.ShareLaws.{or-comm, pushed-snoc}
 use Rattle.recording.specs.Share.{Inside}
-use Rattle.share.specs.Sizes.{rawsIn, labelIn, labelsIn, newIn, Alike, addFirst, Serve, textSize, Counts}
+use Rattle.share.specs.Sizes.{rawsIn, labelIn, labelsIn, newIn, Alike, addFirst, Serve, sizeLess, Counts}
 use Rattle.share.proofs.SizeLaws.{new-most, inside-next, before-next, entriesOf-append}
 
 -- four stores from k on
@@ -178,24 +178,31 @@ module _ (u : Bytes) (those : List Entry) (t ns : List ℕ) (from k : ℕ) (fs :
       (inl (omega (arith, s .sizes, ap (labelsIn u those t (entriesOf (take k ns))) z)), λ g. rw a at (s .alike))
 
 -- ── the sum
-module _ (t : Bytes) (es : List Entry) (u : Bytes) (fs : List Entry) (n a b : ℕ) (ra : a ≡ rawsIn es) (rb : b ≡ rawsIn fs) where
-  pub size-raws : 65536 < a + n * b → Counts (textSize t es u fs n) (a + n * b)
-  unfolding Counts textSize
+module _ (t : Bytes) (es : List Entry) (u : Bytes) (fs : List Entry) (n gone a b : ℕ) (ra : a ≡ rawsIn es - gone) (rb : b ≡ rawsIn fs) where
+  pub size-raws : 65536 < a + n * b → Counts (sizeLess gone t es u fs n) (a + n * b)
+  unfolding Counts sizeLess
   size-raws h = inr (omega (arith, h, ra, ap (λ (k : ℕ). n * k) rb), h)
 
   module _ (r : ℕ) (c : Counts ((a + n * b) + labelsIn [] [] t [] es) r) where
-    pub size-over : 65536 < r → Counts (textSize t es u fs n) r
-    unfolding Counts textSize
+    pub size-alone : n ≡ 0 → Counts (sizeLess gone t es u fs n) r
+    unfolding sizeLess
+    size-alone z =
+        let e : (a + n * b) + labelsIn [] [] t [] es ≡ ((rawsIn es - gone) + n * rawsIn fs) + (labelsIn [] [] t [] es + cond (eqb n 0) 0 (labelsIn t es u [] fs)) =
+        rw (eq-eqb n 0 z) (omega (arith, ra, ap (λ (k : ℕ). n * k) rb)) in
+        rw e at c
+
+    pub size-over : 65536 < r → Counts (sizeLess gone t es u fs n) r
+    unfolding Counts sizeLess
     size-over h = inr (⊎-elim (λ q. omega (arith, h, q, ra, ap (λ (k : ℕ). n * k) rb)) (λ q. omega (arith, q .0, ra, ap (λ (k : ℕ). n * k) rb)) c, h)
 
     pub size-both : (n ≡ 0 → ⊥) → r ≤ 65536 → (gs : List ℕ) (k : ℕ) → Serve r [] [] t (entriesOf (take k gs)) es → (m : ℕ) → Counts (r + labelsIn t (entriesOf (take (k - 0) (drop 0 gs))) u [] fs) m
-        → Counts (textSize t es u fs n) m
-    unfolding Counts textSize Serve
+        → Counts (sizeLess gone t es u fs n) m
+    unfolding Counts sizeLess Serve
     size-both z h gs k s m d =
         let y : k - 0 ≡ k = omega arith in
         let x : labelsIn t (entriesOf (take (k - 0) (drop 0 gs))) u [] fs ≡ labelsIn t es u [] fs =
         ap (λ (j : ℕ). labelsIn t (entriesOf (take j gs)) u [] fs) y ∙ labels-those t (entriesOf (take k gs)) es (s h) u [] fs in
         let e : r ≡ (a + n * b) + labelsIn [] [] t [] es = ⊎-elim (λ q. q) (λ q. absurd (omega (arith, q .1, h))) c in
-        let g : r + labelsIn t (entriesOf (take (k - 0) (drop 0 gs))) u [] fs ≡ (rawsIn es + n * rawsIn fs) + (labelsIn [] [] t [] es + cond (eqb n 0) 0 (labelsIn t es u [] fs)) =
+        let g : r + labelsIn t (entriesOf (take (k - 0) (drop 0 gs))) u [] fs ≡ ((rawsIn es - gone) + n * rawsIn fs) + (labelsIn [] [] t [] es + cond (eqb n 0) 0 (labelsIn t es u [] fs)) =
         rw (ne-eqb n 0 z) (omega (arith, e, ra, ap (λ (j : ℕ). n * j) rb, x)) in
         rw g at d

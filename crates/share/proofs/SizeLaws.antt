@@ -18,7 +18,7 @@ use Rattle.recording.specs.Share.{Inside, sumOf, rawLen, times, member, labelLe
 use Rattle.recording.proofs.FaultLaws.{firstOf-zero, no-entry-fault, no-fault}
 use Rattle.recording.proofs.EntryLaws.{entries-few}
 use Rattle.recording.proofs.ShareLaws.{or-comm, or-assoc, same-long, pushed-snoc, shared-size, text-shorter, labels-same, encode-length}
-use Rattle.share.specs.Sizes.{rawIn, rawsIn, labelIn, labelsIn, textSize, ownSize, lessSize, Counts, Stands}
+use Rattle.share.specs.Sizes.{rawIn, rawsIn, labelIn, labelsIn, sizeLess, textSize, ownSize, lessSize, Counts, Stands}
 
 -- ── one entry
 pub raw-len : (e : Entry) → e .kind ≡ 2 → e .len ≡ rawIn e
@@ -329,14 +329,14 @@ size-none t u es fs = omega (arith, zero-mul (rawsIn fs), zero-mul (rawsIn []))
 -- a result that has all labels of a content, and raw sequences of `gone` bytes less
 pub less-of-items : (ds ns ts : List ℕ) (is : List Item) (gone : ℕ) → recordingFault (recording ds ns ts) ≡ 0 → sumOf rawLen is + gone ≡ sumOf rawLen (items (recording ds ns ts))
     → ((l : Bytes) → times l is ≡ times l (items (recording ds ns ts))) → lessSize ts (entriesOf ns) gone ≡ length (encode is .text)
-unfolding lessSize
+unfolding sizeLess
 less-of-items ds ns ts is gone h r t =
     let all : List Item = items (recording ds ns ts) in
     let f = no-fault (recording ds ns ts) h .entries in
     let a = own-whole ds ns ts h in
     let b = labels-same is all (λ l p. omega (arith, p, t l)) (λ l p. omega (arith, p, t l)) in
     let c : sumOf rawLen all ≡ rawsIn (entriesOf ns) = unfold items in raws-items (entriesOf ns) 0 0 ds ds ts f in
-    omega (arith, a, b, c, r, own-sum ts (entriesOf ns), encode-length is, encode-length all)
+    omega (arith, a, b, c, r, own-sum ts (entriesOf ns), encode-length is, encode-length all, zero-mul (rawsIn []))
 
 -- the raw sequences that go are some of the recording's
 pub gone-few : (ds ns ts : List ℕ) (is : List Item) (gone : ℕ) → recordingFault (recording ds ns ts) ≡ 0 → sumOf rawLen is + gone ≡ sumOf rawLen (items (recording ds ns ts))
@@ -344,22 +344,10 @@ pub gone-few : (ds ns ts : List ℕ) (is : List Item) (gone : ℕ) → recording
 unfolding items
 gone-few ds ns ts is gone h r = omega (arith, r, raws-items (entriesOf ns) 0 0 ds ds ts (no-fault (recording ds ns ts) h .entries))
 
--- the count of such a result
-module _ (t : Bytes) (es : List Entry) (gone raws : ℕ) (e : raws ≡ rawsIn es - gone) where
-  pub less-over : 65536 < raws → Counts (lessSize t es gone) raws
-  unfolding Counts lessSize
-  less-over h = inr (omega (arith, e, h), h)
-
-  pub less-counted : (r : ℕ) → Counts (raws + labelsIn [] [] t [] es) r → Counts (lessSize t es gone) r
-  unfolding lessSize
-  less-counted r c = subst (λ (k : ℕ). Counts (k + labelsIn [] [] t [] es) r) e c
-
--- nothing goes, and nothing of a second recording is written
-pub less-none : (t u : Bytes) (es fs : List Entry) (n r : ℕ) → n ≡ 0 → Counts (lessSize t es 0) r → Counts (textSize t es u fs n) r
-unfolding lessSize
-less-none t u es fs n r z c =
-    let e : (rawsIn es - 0) + labelsIn [] [] t [] es ≡ textSize t es u fs n = omega (arith, own-sum t es, size-none t u es fs) ∙ ap (textSize t es u fs) (sym z) in
-    rw e at c
+-- nothing goes
+pub less-none : (t u : Bytes) (es fs : List Entry) (n : ℕ) → sizeLess 0 t es u fs n ≡ textSize t es u fs n
+unfolding sizeLess textSize
+less-none t u es fs n = let z : rawsIn es - 0 ≡ rawsIn es = omega arith in rw z
 
 -- ── a size that settles as the exact one
 pub exact : (room t r : ℕ) → Counts t r → Stands room t r

@@ -43,6 +43,10 @@ addFirst u those t xs e = cond (eqb (labelIn u those t xs e) 0) xs (xs ++ (e ∷
 unfoldable pub Serve : ℕ → Bytes → List Entry → Bytes → List Entry → List Entry → Type 0
 Serve size u those t xs ys = size ≤ textLimit → Alike u those t xs ys
 
+-- all of a content but raw sequences of `gone` bytes, and a second recording n times
+unfoldable pub sizeLess : ℕ → Bytes → List Entry → Bytes → List Entry → ℕ → ℕ
+sizeLess gone t es u fs n = ((rawsIn es - gone) + n * rawsIn fs) + (labelsIn [] [] t [] es + cond (eqb n 0) 0 (labelsIn t es u [] fs))
+
 -- all of a content, and a second recording n times
 unfoldable pub textSize : Bytes → List Entry → Bytes → List Entry → ℕ → ℕ
 textSize t es u fs n = (rawsIn es + n * rawsIn fs) + (labelsIn [] [] t [] es + cond (eqb n 0) 0 (labelsIn t es u [] fs))
@@ -51,9 +55,9 @@ textSize t es u fs n = (rawsIn es + n * rawsIn fs) + (labelsIn [] [] t [] es + c
 abbrev pub ownSize : Bytes → List Entry → ℕ
 ownSize t es = textSize t es [] [] 0
 
--- all of a content but raw sequences of `gone` bytes
-unfoldable pub lessSize : Bytes → List Entry → ℕ → ℕ
-lessSize t es gone = (rawsIn es - gone) + labelsIn [] [] t [] es
+-- all of a content but raw sequences of `gone` bytes, alone
+abbrev pub lessSize : Bytes → List Entry → ℕ → ℕ
+lessSize t es gone = sizeLess gone t es [] [] 0
 
 -- a count r of the size t which may stop above the limit
 unfoldable pub Counts : ℕ → ℕ → Type 0

@@ -12,7 +12,7 @@ ghost use Rattle.recording.specs.Recording.{entriesOf, numbersOf, isPush, start
 ghost use mathlib.Core.Bool.{true, _&&_};
 ghost use lib.Dec.{leb};
 ghost use Rattle.share.specs.Placed.{topOf, placedFrom};
-ghost use Rattle.share.specs.Sizes.{rawIn, rawsIn, labelIn, labelsIn, addFirst, Serve, textSize, ownSize, lessSize, Counts, Stands};
+ghost use Rattle.share.specs.Sizes.{rawIn, rawsIn, labelIn, labelsIn, addFirst, Serve, sizeLess, textSize, ownSize, lessSize, Counts, Stands};
 
 // Where a label's text starts, and how many of its bytes come to the text: all of them, or none if a push has them.
 pub struct Place {
@@ -240,37 +240,13 @@ fn more_labels(
     f
 }
 
-// The text of a result that has all entries of a recording but raw sequences of `gone` bytes; above the limit, any number above it.
-fn exact_less(gone: usize, entries: &[u32], text: &[u8]) -> usize
-    requires { ⌜ (length (now entries) ≤ 16384) × (length (now text) ≤ 65536) × Inside (now text) (entriesOf (now entries)) ⌝ }
-    requires { ⌜ gone ≤ rawsIn (entriesOf (now entries)) ⌝ }
-    ensures { λ r. ⌜ Counts (lessSize (now (text .entry)) (entriesOf (now (entries .entry))) gone) r ⌝ }
-{
-    let raws = raw_size(entries, text) - gone;
-    if 65536 < raws {
-        return raws;
-    }
-    let mut firsts = [0u32; 16384];
-    more_labels(
-        raws,
-        &entries[0..0],
-        &text[0..0],
-        entries,
-        text,
-        &mut firsts,
-    ).size
-}
-
-// The text of a result that has all entries of one recording, and those of a second one n times; above the limit, any number above it.
-fn exact_size(entries: &[u32], text: &[u8], second: &[u32], own: &[u8], n: usize) -> usize
-    requires { ⌜ (length (now entries) ≤ 16384) × (length (now text) ≤ 65536) × Inside (now text) (entriesOf (now entries)) ⌝ }
+// The text of a result that has all entries of one recording but raw sequences of `gone` bytes, and those of a second one n times; above the limit, any number above it.
+fn exact_size(gone: usize, entries: &[u32], text: &[u8], second: &[u32], own: &[u8], n: usize) -> usize
+    requires { ⌜ (length (now entries) ≤ 16384) × (length (now text) ≤ 65536) × Inside (now text) (entriesOf (now entries)) × (gone ≤ rawsIn (entriesOf (now entries))) ⌝ }
     requires { ⌜ (length (now second) ≤ 16384) × (length (now own) ≤ 65536) × Inside (now own) (entriesOf (now second)) × (n ≤ 1048576) ⌝ }
-    ensures { λ r. ⌜ Counts (textSize (now (text .entry)) (entriesOf (now (entries .entry))) (now (own .entry)) (entriesOf (now (second .entry))) n) r ⌝ }
+    ensures { λ r. ⌜ Counts (sizeLess gone (now (text .entry)) (entriesOf (now (entries .entry))) (now (own .entry)) (entriesOf (now (second .entry))) n) r ⌝ }
 {
-    if n == 0 {
-        return exact_less(0, entries, text);
-    }
-    let raws = raw_size(entries, text) + n * raw_size(second, own);
+    let raws = raw_size(entries, text) - gone + n * raw_size(second, own);
     if 65536 < raws {
         return raws;
     }
@@ -283,6 +259,9 @@ fn exact_size(entries: &[u32], text: &[u8], second: &[u32], own: &[u8], n: usize
         text,
         &mut firsts,
     );
+    if n == 0 {
+        return one.size;
+    }
     if 65536 < one.size {
         return one.size;
     }
@@ -292,7 +271,31 @@ fn exact_size(entries: &[u32], text: &[u8], second: &[u32], own: &[u8], n: usize
 }
 
 // A text size that settles the call as the exact one: all texts side by side, `plain`, if there is room for them, and else the exact size.
-// This and the two below only test `plain`, so that calls have the test in place; what counts is called from several places and stays a call.
+// The arrays stand behind the test: a caller that had them in its own frame would clear the way to them in each call.
+fn fitting_size(
+    plain: usize,
+    room: usize,
+    gone: usize,
+    entries: &[u32],
+    text: &[u8],
+    second: &[u32],
+    own: &[u8],
+    n: usize,
+) -> usize
+    requires { ⌜ (length (now entries) ≤ 16384) × (length (now text) ≤ 65536) × Inside (now text) (entriesOf (now entries)) × (gone ≤ rawsIn (entriesOf (now entries))) ⌝ }
+    requires { ⌜ (length (now second) ≤ 16384) × (length (now own) ≤ 65536) × Inside (now own) (entriesOf (now second)) × (n ≤ 1048576) ⌝ }
+    requires { ⌜ sizeLess gone (now text) (entriesOf (now entries)) (now own) (entriesOf (now second)) n ≤ plain ⌝ }
+    ensures { λ r. ⌜ Stands room (sizeLess gone (now (text .entry)) (entriesOf (now (entries .entry))) (now (own .entry)) (entriesOf (now (second .entry))) n) r ⌝ }
+{
+    if plain <= 65536 {
+        if plain <= room {
+            return plain;
+        }
+    }
+    exact_size(gone, entries, text, second, own, n)
+}
+
+// The text size of a result that has all entries of one recording, and those of a second one n times.
 pub fn text_size(
     plain: usize,
     room: usize,
@@ -307,12 +310,7 @@ pub fn text_size(
     requires { ⌜ textSize (now text) (entriesOf (now entries)) (now own) (entriesOf (now second)) n ≤ plain ⌝ }
     ensures { λ r. ⌜ Stands room (textSize (now (text .entry)) (entriesOf (now (entries .entry))) (now (own .entry)) (entriesOf (now (second .entry))) n) r ⌝ }
 {
-    if plain <= 65536 {
-        if plain <= room {
-            return plain;
-        }
-    }
-    exact_size(entries, text, second, own, n)
+    fitting_size(plain, room, 0, entries, text, second, own, n)
 }
 
 // As `text_size`, of a result that has the entries of one recording alone.
@@ -321,12 +319,7 @@ pub fn own_size(plain: usize, room: usize, entries: &[u32], text: &[u8]) -> usiz
     requires { ⌜ ownSize (now text) (entriesOf (now entries)) ≤ plain ⌝ }
     ensures { λ r. ⌜ Stands room (ownSize (now (text .entry)) (entriesOf (now (entries .entry)))) r ⌝ }
 {
-    if plain <= 65536 {
-        if plain <= room {
-            return plain;
-        }
-    }
-    exact_size(entries, text, &entries[0..0], &text[0..0], 0)
+    text_size(plain, room, entries, text, &entries[0..0], &text[0..0], 0)
 }
 
 // As `own_size`, of a result that has all entries of a recording but raw sequences of `gone` bytes.
@@ -335,10 +328,14 @@ pub fn less_size(plain: usize, room: usize, gone: usize, entries: &[u32], text: 
     requires { ⌜ (gone ≤ rawsIn (entriesOf (now entries))) × (lessSize (now text) (entriesOf (now entries)) gone ≤ plain) ⌝ }
     ensures { λ r. ⌜ Stands room (lessSize (now (text .entry)) (entriesOf (now (entries .entry))) gone) r ⌝ }
 {
-    if plain <= 65536 {
-        if plain <= room {
-            return plain;
-        }
-    }
-    exact_less(gone, entries, text)
+    fitting_size(
+        plain,
+        room,
+        gone,
+        entries,
+        text,
+        &entries[0..0],
+        &text[0..0],
+        0,
+    )
 }

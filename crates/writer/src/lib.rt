@@ -186,7 +186,7 @@ pub fn keep(
 {
     let mut c = from;
     if n < place_at(entries, c.k) {
-        c = put_bytes(bytes, content, c.at, n, c);
+        c = put_bytes(bytes, content, from.at, n, c);
         return Cursor {
             at: n,
             k: c.k,

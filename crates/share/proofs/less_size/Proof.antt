@@ -1,22 +1,46 @@
--- `less_size`: the larger size stands where there is room for it.
+-- `less_size`: as `less_size`, without the raw sequences that go.
 use borrow.Author.Needs.{needs}
-use Rattle.share.proofs.SizeLaws.{exact, roomy}
+use Rattle.recording.specs.Share.{Inside}
 use Rattle.share.proofs.less_size.Statement.{statement}
 use Rattle.share.proofs.less_size.Tie as tie
 use Rattle.share.proofs.less_size.Reads as reads
 use Rattle.share.proofs.less_size.Lts as lts
-use Rattle.share.proofs.exact_less.Reads as exact-less-reads
+use Rattle.share.proofs.fitting_size.Reads as fitting-size-reads
+
+sub-fitting-size : tie.Need-sub-fitting-size
+sub-fitting-size c = search needs
+
+part-fitting-size-start : tie.Need-part-fitting-size-start
+part-fitting-size-start c = search needs
+
+part-fitting-size-end : tie.Need-part-fitting-size-end
+part-fitting-size-end c = search needs
+
+sub-fitting-size-2 : tie.Need-sub-fitting-size-2
+sub-fitting-size-2 c = search needs
+
+part-fitting-size-start-2 : tie.Need-part-fitting-size-start-2
+part-fitting-size-start-2 c = search needs
+
+part-fitting-size-end-2 : tie.Need-part-fitting-size-end-2
+part-fitting-size-end-2 c = search needs
+
+fitting-size-requires : tie.Need-fitting-size-requires
+unfolding Inside
+fitting-size-requires c κs = search needs
 
 returns : tie.Need-returns
-returns c =
-    roomy _ _ _ (c .before .before .before .before .pre .1 .1) (c .before .if1 .taken) (c .if2 .taken)
-
-exact-less-requires : tie.Need-exact-less-requires
-exact-less-requires c κs = search needs
-
-returns-2 : tie.Need-returns-2
-returns-2 c =
-    exact _ _ _ (c .exact-less .ensures)
+returns c = search needs
 
 pub less-size-spec : {M : Type 1} → statement M
-less-size-spec = tie.close (tie.spec returns exact-less-requires returns-2)
+less-size-spec =
+    tie.close
+    (tie.spec
+    sub-fitting-size
+    part-fitting-size-start
+    part-fitting-size-end
+    sub-fitting-size-2
+    part-fitting-size-start-2
+    part-fitting-size-end-2
+    fitting-size-requires
+    returns)
