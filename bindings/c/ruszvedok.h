@@ -613,7 +613,8 @@ void ruszvedok_write(
     const uint8_t *added, size_t added_len,
     uint64_t res[5]);
 
-/* Pushes a label, at the current end. */
+/* Pushes a label, at the current end. Where the label was pushed before, the first such push's part of the text is taken and no
+ * text is added. */
 void ruszvedok_push_label(
     const uint8_t *content, size_t content_room, size_t content_len,
     uint32_t *entries, size_t entries_room, size_t entries_len,

@@ -672,7 +672,7 @@ pub extern "C" fn ruszvedok_write(
     store(a, res);
 }
 
-// Pushes a label, at the current end.
+// Pushes a label, at the current end. Where the label was pushed before, the first such push's part of the text is taken and no text is added.
 #[no_mangle]
 pub extern "C" fn ruszvedok_push_label(
     content: &[u8],

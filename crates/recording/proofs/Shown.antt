@@ -262,8 +262,8 @@ one-start r h =
     let P : Entry → Type 0 = λ (e : Entry). e .kind ≡ 0 → e .start ≡ startIn (partOf t e) t (length t) es in
     all-map P (λ (x : Entry). AllOf (λ (y : Entry). x .kind ≡ 0 → y .kind ≡ 0 → partOf t x ≡ partOf t y → x .start ≡ y .start) es)
     (λ x a.
-        all-map P (λ (y : Entry). x .kind ≡ 0 → y .kind ≡ 0 → partOf t x ≡ partOf t y → x .start ≡ y .start)
-        (λ y b i j e. a i ∙ ap (λ (l : Bytes). startIn l t (length t) es) e ∙ sym (b j)) es h) es h
+    all-map P (λ (y : Entry). x .kind ≡ 0 → y .kind ≡ 0 → partOf t x ≡ partOf t y → x .start ≡ y .start)
+    (λ y b i j e. a i ∙ ap (λ (l : Bytes). startIn l t (length t) es) e ∙ sym (b j)) es h) es h
 
 -- ── the order
 module _ (m : Item → ℕ) where

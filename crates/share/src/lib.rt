@@ -241,7 +241,14 @@ fn more_labels(
 }
 
 // The text of a result that has all entries of one recording but raw sequences of `gone` bytes, and those of a second one n times; above the limit, any number above it.
-fn exact_size(gone: usize, entries: &[u32], text: &[u8], second: &[u32], own: &[u8], n: usize) -> usize
+fn exact_size(
+    gone: usize,
+    entries: &[u32],
+    text: &[u8],
+    second: &[u32],
+    own: &[u8],
+    n: usize,
+) -> usize
     requires { ⌜ (length (now entries) ≤ 16384) × (length (now text) ≤ 65536) × Inside (now text) (entriesOf (now entries)) × (gone ≤ rawsIn (entriesOf (now entries))) ⌝ }
     requires { ⌜ (length (now second) ≤ 16384) × (length (now own) ≤ 65536) × Inside (now own) (entriesOf (now second)) × (n ≤ 1048576) ⌝ }
     ensures { λ r. ⌜ Counts (sizeLess gone (now (text .entry)) (entriesOf (now (entries .entry))) (now (own .entry)) (entriesOf (now (second .entry))) n) r ⌝ }
@@ -270,32 +277,9 @@ fn exact_size(gone: usize, entries: &[u32], text: &[u8], second: &[u32], own: &[
     more_labels(one.size, &firsts[0..m], text, second, own, &mut others).size
 }
 
-// A text size that settles the call as the exact one: all texts side by side, `plain`, if there is room for them, and else the exact size.
-// The arrays stand behind the test: a caller that had them in its own frame would clear the way to them in each call.
-fn fitting_size(
-    plain: usize,
-    room: usize,
-    gone: usize,
-    entries: &[u32],
-    text: &[u8],
-    second: &[u32],
-    own: &[u8],
-    n: usize,
-) -> usize
-    requires { ⌜ (length (now entries) ≤ 16384) × (length (now text) ≤ 65536) × Inside (now text) (entriesOf (now entries)) × (gone ≤ rawsIn (entriesOf (now entries))) ⌝ }
-    requires { ⌜ (length (now second) ≤ 16384) × (length (now own) ≤ 65536) × Inside (now own) (entriesOf (now second)) × (n ≤ 1048576) ⌝ }
-    requires { ⌜ sizeLess gone (now text) (entriesOf (now entries)) (now own) (entriesOf (now second)) n ≤ plain ⌝ }
-    ensures { λ r. ⌜ Stands room (sizeLess gone (now (text .entry)) (entriesOf (now (entries .entry))) (now (own .entry)) (entriesOf (now (second .entry))) n) r ⌝ }
-{
-    if plain <= 65536 {
-        if plain <= room {
-            return plain;
-        }
-    }
-    exact_size(gone, entries, text, second, own, n)
-}
-
-// The text size of a result that has all entries of one recording, and those of a second one n times.
+// A text size that settles the call as the exact one, of a result that has all entries of one recording, and those of a second one n times:
+// all texts side by side, `plain`, if there is room for them, and else the exact size.
+// Callers have the test in place, and the arrays of the count stay out of their frames.
 pub fn text_size(
     plain: usize,
     room: usize,
@@ -310,7 +294,12 @@ pub fn text_size(
     requires { ⌜ textSize (now text) (entriesOf (now entries)) (now own) (entriesOf (now second)) n ≤ plain ⌝ }
     ensures { λ r. ⌜ Stands room (textSize (now (text .entry)) (entriesOf (now (entries .entry))) (now (own .entry)) (entriesOf (now (second .entry))) n) r ⌝ }
 {
-    fitting_size(plain, room, 0, entries, text, second, own, n)
+    if plain <= 65536 {
+        if plain <= room {
+            return plain;
+        }
+    }
+    exact_size(0, entries, text, second, own, n)
 }
 
 // As `text_size`, of a result that has the entries of one recording alone.
@@ -328,14 +317,10 @@ pub fn less_size(plain: usize, room: usize, gone: usize, entries: &[u32], text: 
     requires { ⌜ (gone ≤ rawsIn (entriesOf (now entries))) × (lessSize (now text) (entriesOf (now entries)) gone ≤ plain) ⌝ }
     ensures { λ r. ⌜ Stands room (lessSize (now (text .entry)) (entriesOf (now (entries .entry))) gone) r ⌝ }
 {
-    fitting_size(
-        plain,
-        room,
-        gone,
-        entries,
-        text,
-        &entries[0..0],
-        &text[0..0],
-        0,
-    )
+    if plain <= 65536 {
+        if plain <= room {
+            return plain;
+        }
+    }
+    exact_size(gone, entries, text, &entries[0..0], &text[0..0], 0)
 }

@@ -61,10 +61,7 @@ pub fn place_of(kind: u32, numbers: &[u32], texts: &[u8], part: &[u8]) -> Place
         return place_in_result(numbers, texts, part);
     }
     if kind == 1 {
-        return Place {
-            start: 0,
-            add: 0,
-        };
+        return Place { start: 0, add: 0 };
     }
     Place {
         start: texts.len() as u32,

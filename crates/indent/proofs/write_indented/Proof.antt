@@ -124,8 +124,7 @@ add-text-size c =
 text-size-requires : tie.Need-text-size-requires
 text-size-requires c κs =
     let n = c .before .before in
-    let f = fine (checked n) in
-    (
+    let f = fine (checked n) in (
       (f .0 .entries-short, f .0 .own-short, f .0 .parts),
       ((f .1 .entries-short, f .1 .own-short, f .1 .parts, few n), texts-less (call n) (sizes (checked n)) (count n) f),
     )

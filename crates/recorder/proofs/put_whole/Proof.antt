@@ -73,7 +73,7 @@ keep-entries-requires c κs =
       (
         (omega arith, omega arith),
         rw (all-items (a .content .now) (a .entries .now) (a .text .now))
-        (left-room (whole s) (a .out-data .now) (a .out-entries .now) (a .out-text .now) _ _ _ (sized s) (s .settle .result) (s .settle .ensures) (c .before .before .before .enum-told .given .1)),
+            (left-room (whole s) (a .out-data .now) (a .out-entries .now) (a .out-text .now) _ _ _ (sized s) (s .settle .result) (s .settle .ensures) (c .before .before .before .enum-told .given .1)),
       ),
     )
 

@@ -1,46 +1,53 @@
 -- `less_size`: as `less_size`, without the raw sequences that go.
 use borrow.Author.Needs.{needs}
 use Rattle.recording.specs.Share.{Inside}
+use Rattle.share.proofs.SizeLaws.{exact, roomy}
 use Rattle.share.proofs.less_size.Statement.{statement}
 use Rattle.share.proofs.less_size.Tie as tie
 use Rattle.share.proofs.less_size.Reads as reads
 use Rattle.share.proofs.less_size.Lts as lts
-use Rattle.share.proofs.fitting_size.Reads as fitting-size-reads
-
-sub-fitting-size : tie.Need-sub-fitting-size
-sub-fitting-size c = search needs
-
-part-fitting-size-start : tie.Need-part-fitting-size-start
-part-fitting-size-start c = search needs
-
-part-fitting-size-end : tie.Need-part-fitting-size-end
-part-fitting-size-end c = search needs
-
-sub-fitting-size-2 : tie.Need-sub-fitting-size-2
-sub-fitting-size-2 c = search needs
-
-part-fitting-size-start-2 : tie.Need-part-fitting-size-start-2
-part-fitting-size-start-2 c = search needs
-
-part-fitting-size-end-2 : tie.Need-part-fitting-size-end-2
-part-fitting-size-end-2 c = search needs
-
-fitting-size-requires : tie.Need-fitting-size-requires
-unfolding Inside
-fitting-size-requires c κs = search needs
+use Rattle.share.proofs.exact_size.Reads as exact-size-reads
 
 returns : tie.Need-returns
-returns c = search needs
+returns c =
+    roomy _ _ _ (c .before .before .before .before .pre .1 .1) (c .before .if1 .taken) (c .if2 .taken)
+
+sub-exact-size : tie.Need-sub-exact-size
+sub-exact-size c = search needs
+
+part-exact-size-start : tie.Need-part-exact-size-start
+part-exact-size-start c = search needs
+
+part-exact-size-end : tie.Need-part-exact-size-end
+part-exact-size-end c = search needs
+
+sub-exact-size-2 : tie.Need-sub-exact-size-2
+sub-exact-size-2 c = search needs
+
+part-exact-size-start-2 : tie.Need-part-exact-size-start-2
+part-exact-size-start-2 c = search needs
+
+part-exact-size-end-2 : tie.Need-part-exact-size-end-2
+part-exact-size-end-2 c = search needs
+
+exact-size-requires : tie.Need-exact-size-requires
+unfolding Inside
+exact-size-requires c κs = search needs
+
+returns-2 : tie.Need-returns-2
+returns-2 c =
+    exact _ _ _ (c .exact-size .ensures)
 
 pub less-size-spec : {M : Type 1} → statement M
 less-size-spec =
     tie.close
     (tie.spec
-    sub-fitting-size
-    part-fitting-size-start
-    part-fitting-size-end
-    sub-fitting-size-2
-    part-fitting-size-start-2
-    part-fitting-size-end-2
-    fitting-size-requires
-    returns)
+    returns
+    sub-exact-size
+    part-exact-size-start
+    part-exact-size-end
+    sub-exact-size-2
+    part-exact-size-start-2
+    part-exact-size-end-2
+    exact-size-requires
+    returns-2)
