@@ -226,11 +226,6 @@ pub text-by-sums : (x y : List Item) → sumOf rawLen x ≡ sumOf rawLen y → (
     → length (encode x .text) ≡ length (encode y .text)
 text-by-sums x y r f g = omega (arith, r, encode-length x, encode-length y, labels-same x y f g)
 
-pub text-order : (a b : List Item) → length (encode (a ++ b) .text) ≡ length (encode (b ++ a) .text)
-text-order a b =
-    text-by-sums (a ++ b) (b ++ a) (omega (arith, sum-append rawLen a b, sum-append rawLen b a))
-    (λ l p. omega (arith, p, sum-append (pushOf l) a b, sum-append (pushOf l) b a)) (λ l p. omega (arith, p, sum-append (pushOf l) a b, sum-append (pushOf l) b a))
-
 -- ── recording by recording: all of a, and b n times
 pub shared-size : (is a b : List Item) (n : ℕ) → sumOf rawLen is ≡ sumOf rawLen a + n * sumOf rawLen b → ((l : Bytes) → times l is ≡ times l a + n * times l b)
     → length (encode is .text) ≡ sharedSize a n b

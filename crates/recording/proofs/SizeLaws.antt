@@ -1,4 +1,4 @@
--- What is written adds at the ends (`entries-append`, `text-after`), and how much an edit writes: the content's entries and texts and those put in.
+-- What is written adds at the ends (`entries-append`, `text-after`), and how many entries an edit writes: the content's and those put in.
 -- Also the steps of a loop over content: an entry here, or bytes up to the next entry.
 use Prim.Native.Nat.{ℕ, zero, suc, _+_, _-_, _*_, _≤_}
 use native.Mathlib.Omega.{arith}
@@ -59,7 +59,7 @@ module _ (b : List Item) where
       rw (← append-assoc t x (textFrom at (t ++ x) (es ++ (e ∷ [])) a), ← append-cons es e (entriesFrom at (t ++ x) (es ++ (e ∷ [])) a), append-assoc x (textFrom at (t ++ x) (es ++ (e ∷ [])) a))
       (ap (λ (r : Bytes). x ++ r) (text-after a at (t ++ x) (es ++ (e ∷ []))))
 
--- ── sizes: no entry is dropped, so the entries and the text of an edit are those of the content and of what is put in
+-- ── sizes: no entry is dropped, so the entries of an edit are those of the content and of what is put in
 abbrev pub entryCount : List Item → ℕ
 entryCount [] = 0
 entryCount (byte b ∷ is) = entryCount is
@@ -152,35 +152,12 @@ back-bytes [] n is = let e : 0 + n ≡ n = omega arith in rw e
 back-bytes (b ∷ d) n is = let e : suc (length d) + n ≡ suc (length d + n) = omega arith in rw (e, back-bytes d n is)
 
 -- the text of an edit has the length of the content's text and of the texts put in
-abbrev pub putText : List Op → ℕ
-putText [] = 0
-putText (keep n ∷ ops) = putText ops
-putText (skip n ∷ ops) = putText ops
-putText (put p ∷ ops) = textLen p + putText ops
-
-pub text-split : (n : ℕ) (is : List Item) → textLen (front n is) + textLen (back n is) ≡ textLen is
-text-split n [] = refl
-text-split zero (byte x ∷ is) = omega arith
-text-split (suc n) (byte x ∷ is) = text-split n is
-text-split n (push l ∷ is) = omega (arith, text-split n is, length-append l (textOf is), length-append l (textOf (front n is)))
-text-split n (pop ∷ is) = text-split n is
-text-split n (raw l ∷ is) = omega (arith, text-split n is, length-append l (textOf is), length-append l (textOf (front n is)))
-
 pub text-only : (is : List Item) → textOf (entriesOnly is) ≡ textOf is
 text-only [] = refl
 text-only (byte x ∷ is) = text-only is
 text-only (push l ∷ is) = rw (text-only is)
 text-only (pop ∷ is) = text-only is
 text-only (raw l ∷ is) = rw (text-only is)
-
-len-append : (a b : List Item) → textLen (a ++ b) ≡ textLen a + textLen b
-len-append a b = ap length (text-append a b) ∙ length-append (textOf a) (textOf b)
-
-pub edit-text : (ops : List Op) (is : List Item) → textLen (edit ops is) ≡ textLen is + putText ops
-edit-text [] is = omega arith
-edit-text (keep n ∷ ops) is = omega (arith, len-append (front n is) (edit ops (back n is)), edit-text ops (back n is), text-split n is)
-edit-text (skip n ∷ ops) is = omega (arith, len-append (entriesOnly (front n is)) (edit ops (back n is)), ap length (text-only (front n is)), edit-text ops (back n is), text-split n is)
-edit-text (put p ∷ ops) is = omega (arith, len-append (front 0 is) (p ++ edit ops (back 0 is)), len-append p (edit ops (back 0 is)), edit-text ops (back 0 is), text-split 0 is)
 
 -- bytes come first as far as the next entry stands
 pub cursor-bytes : (m at : ℕ) (t d : Bytes) (e : Entry) (es : List Entry) → at + m ≤ e .position

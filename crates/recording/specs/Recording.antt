@@ -81,9 +81,11 @@ textOf (pop ∷ is) = textOf is
 textOf (raw t ∷ is) = t ++ textOf is
 
 -- ── a label that was pushed before: equal texts of pushes share one part; `es` are the entries before, t is their text
+-- an entry that pushes l: its part is as long as it says, and it is l
 abbrev pub isPush : Bytes → Bytes → Entry → Bool
 isPush l t e = eqb (e .kind) 0 && (eqb (e .len) (length l) && same (partOf t e) l)
 
+-- one of the entries pushes l
 unfoldable pub pushedIn : Bytes → Bytes → List Entry → Bool
 pushedIn l t [] = false
 pushedIn l t (e ∷ es) = isPush l t e || pushedIn l t es
@@ -97,6 +99,7 @@ startIn l t new (e ∷ es) = cond (isPush l t e) (e .start) (startIn l t new es)
 abbrev pub pushAt : ℕ → Bytes → List Entry → Bytes → Entry
 pushAt at t es l = entry at 0 (startIn l t (length t) es) (length l)
 
+-- what it brings to the text: nothing, if a push has it
 abbrev pub newText : Bytes → Bytes → List Entry → Bytes
 newText l t es = cond (pushedIn l t es) [] l
 
@@ -109,6 +112,7 @@ entriesFrom at t es (push l ∷ is) = pushAt at t es l ∷ entriesFrom at (t ++ 
 entriesFrom at t es (pop ∷ is) = entry at 1 0 0 ∷ entriesFrom at t (es ++ (entry at 1 0 0 ∷ [])) is
 entriesFrom at t es (raw x ∷ is) = entry at 2 (length t) (length x) ∷ entriesFrom at (t ++ x) (es ++ (entry at 2 (length t) (length x) ∷ [])) is
 
+-- and what comes to the text with them
 abbrev pub textFrom : ℕ → Bytes → List Entry → List Item → Bytes
 textFrom at t es [] = []
 textFrom at t es (byte b ∷ is) = textFrom (suc at) t es is

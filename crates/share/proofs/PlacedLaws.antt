@@ -12,7 +12,7 @@ use Rattle.recording.specs.Lists.{same}
 use Rattle.recording.specs.Recording.{Bytes, entry, entriesOf, partOf, Item, byte, push, pop, raw, isPush, pushedIn, startIn, pushAt, newText, entriesFrom, textFrom}
 use Rattle.recording.proofs.Lists.{and-left, and-right, or-left, or-right}
 use Rattle.recording.proofs.SizeLaws.{append-cons}
-use Rattle.recording.proofs.FaultLaws.{inside-none, inside-next, start-inside}
+use Rattle.recording.proofs.FaultLaws.{inside-next, start-inside}
 use Rattle.recording.specs.Share.{Inside}
 use Rattle.recording.proofs.ShareLaws.{pushed-snoc}
 use Rattle.share.specs.Placed.{samePart, copied, topOf, topAfter, placedOne, placedFrom}
@@ -186,11 +186,6 @@ placed-after (raw x ∷ is) at t es i h =
     let e : Entry = entry at 2 (length t) (length x) in
     ap (placedFrom 0 []) (sym (append-cons es e (entriesFrom at (t ++ x) (es ++ (e ∷ [])) is)))
     ∙ placed-after is at (t ++ x) (es ++ (e ∷ [])) (inside-next t x es e i (omega (arith, length-append t x))) (placed-snoc es [] 0 e h (other-placed (topAfter 0 es) es e refl))
-
--- the entries of every result
-pub placed-result : (is : List Item) → placedFrom 0 [] (entriesFrom 0 [] [] is) ≡ true
-unfolding placedFrom
-placed-result is = placed-after is 0 [] [] (inside-none []) refl
 
 -- ── both are kept by what is written behind
 pub inside-after : (is : List Item) (at : ℕ) (t : Bytes) (es : List Entry) → Inside t es → Inside (t ++ textFrom at t es is) (es ++ entriesFrom at t es is)

@@ -1,19 +1,19 @@
 -- For the sizes: one entry's raw sequence and label, the sums entry by entry, and that the sums are those of the recordings' items (`size-of-items`).
-use mathlib.Core.Path.{_≡_, refl, sym, ap, subst, _∙_}
+use mathlib.Core.Path.{_≡_, refl, sym, ap, _∙_}
 use mathlib.Core.Bool.{Bool, true, false, cond, _&&_, _||_, false≢true}
-use mathlib.Core.Logic.{inl, inr, ⊎-elim}
+use mathlib.Core.Logic.{inl, inr}
 use mathlib.Core.List.{List, [], _∷_, _++_, append-nil}
 use Prim.Native.Nat.{ℕ, zero, suc, _+_, _-_, _*_, _%_, _≤_, _<_}
 use native.Mathlib.Nat.{zero-mul}
 use native.Mathlib.Omega.{arith}
-use lib.Dec.{eqb, ltb, eqb·suc-zero}
+use lib.Dec.{eqb, eqb·suc-zero}
 use lib.ListN.{length, take, drop, length-take, length-drop}
 use lib.Seq.{take-add, length-take-le}
-use borrow.Author.Tests.{eq-eqb, ne-eqb, lt-ltb, le-ltb}
+use borrow.Author.Tests.{eq-eqb, ne-eqb}
 use Rattle.recording.specs.declared.Entry.{Entry}
 use Rattle.recording.specs.Lists.{same}
 use Rattle.recording.specs.Recording.{Bytes, recording, entry, entriesOf, numbersOf, partOf, Item, byte, push, pop, raw, byteItems, itemOf, itemsFrom, items, isPush, pushedIn, newText, encode, textOf}
-use Rattle.recording.specs.Refusals.{badShape, entryFault, entriesFault, recordingFault, textLimit}
+use Rattle.recording.specs.Refusals.{badShape, entryFault, entriesFault, recordingFault}
 use Rattle.recording.specs.Share.{Inside, sumOf, rawLen, times, member, labelLen, sharedSize}
 use Rattle.recording.proofs.FaultLaws.{firstOf-zero, no-entry-fault, no-fault}
 use Rattle.recording.proofs.EntryLaws.{entries-few}
@@ -357,20 +357,6 @@ exact room t r c = inl c
 pub roomy : (room t r : ℕ) → t ≤ r → r ≤ 65536 → r ≤ room → Stands room t r
 unfolding Stands
 roomy room t r a b c = inr (a, b, c)
-
--- the limit refuses r exactly if it refuses t
-pub same-limit : (room t r : ℕ) → Stands room t r → ltb textLimit r ≡ ltb textLimit t
-unfolding Stands Counts
-same-limit room t r s =
-    ⊎-elim (⊎-elim (λ q. ap (ltb textLimit) q) (λ h. lt-ltb textLimit r (h .1) ∙ sym (lt-ltb textLimit t (h .0))))
-    (λ h. le-ltb textLimit r (h .1) ∙ sym (le-ltb textLimit t (omega (arith, h .0, h .1)))) s
-
--- and so does the room, unless the limit refuses both
-pub same-room : (room t r : ℕ) → Stands room t r → t ≤ textLimit → ltb room r ≡ ltb room t
-unfolding Stands Counts
-same-room room t r s k =
-    ⊎-elim (⊎-elim (λ q. ap (ltb room) q) (λ h. absurd (omega (arith, h .0, k))))
-    (λ h. le-ltb room r (h .2) ∙ sym (le-ltb room t (omega (arith, h .0, h .2)))) s
 
 -- ── the product
 pub product-small : (n m : ℕ) → n ≤ 1048576 → m ≤ 268435456 → n * m ≤ 281474976710656
