@@ -1,4 +1,4 @@
--- A call that only the sizes of what it leaves can refuse (`judgedBySize`): where it returns it has the whole promise at once (`left-refused`, `left-written`), and it has room to write (`left-room`).
+-- A call that only the sizes of what it leaves can refuse (`judgedBySize`): where it returns it has the whole promise at once (`left-refused`, `left-settled`, `left-written`), and it has room to write (`left-room`).
 -- Over any items: the sizes that the code took are theirs (`Sized`); all of a recording has its own (`whole-sized`).
 use Prim.Native.Nat.{ℕ, _*_, _≤_}
 use mathlib.Core.Path.{_≡_, refl, sym, subst, _∙_}
@@ -70,14 +70,29 @@ module _ (is : List Item) (od oe ot : List ℕ) where
       pub left-room : Fits is (blank od oe ot)
       left-room = fits-blank is [] 0 od oe ot (roomIn b) refl refl refl fit
 
-      pub left-written : (od′ oe′ ot′ : List ℕ) (c : Cursor) → out od′ oe′ ot′ c ≡ add is (blank od oe ot)
-          → Promised (judgedBySize (roomIn b) is) b (lentOf od′ oe′ ot′) (Done (c .d) (c .e) (c .t) 0)
+      -- what is written is what the answer says, by any numbers that are the sizes
+      answered : (x y : ℕ) → x ≡ length (encode is .dataBytes) → y ≡ length (encode is .entryNumbers)
+          → (od′ oe′ ot′ : List ℕ) (c : Cursor) → out od′ oe′ ot′ c ≡ add is (blank od oe ot)
+          → Promised (judgedBySize (roomIn b) is) b (lentOf od′ oe′ ot′) (Done x y (c .t) 0)
       unfolding judgedBySize lentAfter encode over
-      left-written od′ oe′ ot′ c w =
+      answered x y ex ey od′ oe′ ot′ c w =
           let s = from-start is od oe ot od′ oe′ ot′ c w in (
-            done-answer noFaults (roomIn b) result (c .d) (c .e) (c .t) 0 (judged ∙ fit) (s .3) (s .4) (s .5) refl,
+            done-answer noFaults (roomIn b) result x y (c .t) 0 (judged ∙ fit) ex ey (s .5) refl,
             rw (is-done noFaults (roomIn b) result (judged ∙ fit)) (λ i. record { dataBytes = s .0 i; entryNumbers = s .1 i; text = s .2 i; lines = [] }),
           )
+
+      -- those that were settled
+      pub left-settled : (od′ oe′ ot′ : List ℕ) (c : Cursor) → out od′ oe′ ot′ c ≡ add is (blank od oe ot)
+          → Promised (judgedBySize (roomIn b) is) b (lentOf od′ oe′ ot′) (Done d e (c .t) 0)
+      left-settled = answered d e data-is entries-are
+
+      -- or the place behind what is written
+      pub left-written : (od′ oe′ ot′ : List ℕ) (c : Cursor) → out od′ oe′ ot′ c ≡ add is (blank od oe ot)
+          → Promised (judgedBySize (roomIn b) is) b (lentOf od′ oe′ ot′) (Done (c .d) (c .e) (c .t) 0)
+      unfolding encode
+      left-written od′ oe′ ot′ c w =
+          let s = from-start is od oe ot od′ oe′ ot′ c w in
+          answered (c .d) (c .e) (s .3) (s .4) od′ oe′ ot′ c w
 
 -- ── the sizes of all of a recording: its own, and a text that has each label a single time
 pub whole-sized : (ds ns ts : List ℕ) (room t : ℕ) → recordingFault (recording ds ns ts) ≡ 0 → Stands room (ownSize ts (entriesOf ns)) t

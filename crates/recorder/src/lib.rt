@@ -78,8 +78,8 @@ pub fn put_whole(
         content.len(),
     );
     Answer::Done {
-        data: c.d,
-        entries: c.e,
+        data: content.len(),
+        entries: entries.len(),
         text: c.t,
         number: 0,
     }

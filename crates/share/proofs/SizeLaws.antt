@@ -344,6 +344,11 @@ pub gone-few : (ds ns ts : List ℕ) (is : List Item) (gone : ℕ) → recording
 unfolding items
 gone-few ds ns ts is gone h r = omega (arith, r, raws-items (entriesOf ns) 0 0 ds ds ts (no-fault (recording ds ns ts) h .entries))
 
+-- written 0 times, a second recording adds nothing
+pub none-more : (t : Bytes) (es : List Entry) (u : Bytes) (fs : List Entry) → textSize t es u fs 0 ≡ ownSize t es
+unfolding textSize
+none-more t es u fs = rw (zero-mul (rawsIn fs))
+
 -- nothing goes
 pub less-none : (t u : Bytes) (es fs : List Entry) (n : ℕ) → sizeLess 0 t es u fs n ≡ textSize t es u fs n
 unfolding sizeLess textSize

@@ -308,7 +308,8 @@ pub fn own_size(plain: usize, room: usize, entries: &[u32], text: &[u8]) -> usiz
     requires { ⌜ ownSize (now text) (entriesOf (now entries)) ≤ plain ⌝ }
     ensures { λ r. ⌜ Stands room (ownSize (now (text .entry)) (entriesOf (now (entries .entry)))) r ⌝ }
 {
-    text_size(plain, room, entries, text, &entries[0..0], &text[0..0], 0)
+    // of a recording that is written 0 times nothing counts, so these stand for any: two empty slices would cost callers more
+    text_size(plain, room, entries, text, entries, text, 0)
 }
 
 // As `own_size`, of a result that has all entries of a recording but raw sequences of `gone` bytes.

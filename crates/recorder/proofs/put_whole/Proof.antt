@@ -10,7 +10,7 @@ use Rattle.recording.specs.Recording.{Item, recording, items}
 use Rattle.writer.specs.declared.Cursor.{Cursor}
 use Rattle.writer.specs.Write.{out, add, left}
 use Rattle.writer.proofs.Steps.{sound, front-start, ready-start, keep-all}
-use Rattle.recorder.proofs.LeftLaws.{Sized, whole-sized, own-asked, left-refused, left-room, left-written}
+use Rattle.recorder.proofs.LeftLaws.{Sized, whole-sized, own-asked, left-refused, left-room, left-settled}
 use Rattle.recorder.proofs.put_whole.Statement.{statement}
 use Rattle.recorder.proofs.put_whole.Tie as tie
 use Rattle.recorder.proofs.put_whole.Reads as reads
@@ -92,7 +92,7 @@ returns-2 c =
     let p = c .before .before .before .before .before .before in
     let s = p .before .before .before .before .before .before in
     let a = start s .args in
-    left-written (whole s) (a .out-data .now) (a .out-entries .now) (a .out-text .now) _ _ _ (sized s) (s .settle .result) (s .settle .ensures)
+    left-settled (whole s) (a .out-data .now) (a .out-entries .now) (a .out-text .now) _ _ _ (sized s) (s .settle .result) (s .settle .ensures)
     (p .before .before .before .before .enum-told .given .1) _ _ _
     (p .keep-entries .result)
     (p .keep-entries .ensures .0 ∙ ap (λ (is : List Item). add is (out (a .out-data .now) (a .out-entries .now) (a .out-text .now) begin)) (all-items (a .content .now) (a .entries .now) (a .text .now)))

@@ -1,4 +1,4 @@
--- `less_size`: as `less_size`, without the raw sequences that go.
+-- `less_size`: as `text_size`, without a second recording and without the raw sequences that go.
 use borrow.Author.Needs.{needs}
 use Rattle.recording.specs.Share.{Inside}
 use Rattle.share.proofs.SizeLaws.{exact, roomy}
