@@ -18,22 +18,25 @@ abbrev pub sumOf : (Item → ℕ) → List Item → ℕ
 sumOf m [] = 0
 sumOf m (x ∷ is) = m x + sumOf m is
 
+-- the bytes of a raw sequence; 0 of any other item
 abbrev pub rawLen : Item → ℕ
 rawLen (byte b) = 0
 rawLen (push l) = 0
 rawLen pop = 0
 rawLen (raw t) = length t
 
--- how often the label l is pushed
+-- an item pushes the label l: 1, or 0
 abbrev pub pushOf : Bytes → Item → ℕ
 pushOf l (byte b) = 0
 pushOf l (push x) = cond (same x l) 1 0
 pushOf l pop = 0
 pushOf l (raw t) = 0
 
+-- how often the label l is pushed
 abbrev pub times : Bytes → List Item → ℕ
 times l is = sumOf (pushOf l) is
 
+-- l is one of these labels
 abbrev pub member : Bytes → List Bytes → Bool
 member l [] = false
 member l (x ∷ xs) = same x l || member l xs
