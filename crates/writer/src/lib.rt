@@ -52,7 +52,7 @@ pub fn place_at(entries: &[u32], k: usize) -> usize
 
 // Where an entry's text goes, behind the entries and the text that are written: a pop has none, a raw sequence goes to the text's end,
 // a label to the part of the first push that has it.
-pub fn place_of(kind: u32, numbers: &[u32], texts: &[u8], part: &[u8]) -> Place
+fn place_of(kind: u32, numbers: &[u32], texts: &[u8], part: &[u8]) -> Place
     requires { ⌜ length (now texts) ≤ textLimit ⌝ }
     requires { ⌜ placedFrom 0 [] (entriesOf (now numbers)) ≡ true ⌝ }
     ensures { λ r. ⌜ (r .start ≡ startFor kind (now (part .entry)) (now (texts .entry)) (entriesOf (now (numbers .entry)))) × (r .add ≡ addFor kind (now (part .entry)) (now (texts .entry)) (entriesOf (now (numbers .entry)))) ⌝ }
