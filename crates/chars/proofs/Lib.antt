@@ -8,3 +8,5 @@ pub mod ReaderLaws
 pub mod RangeLaws
 pub mod WidthLaws
 pub mod FoldLaws
+pub mod FitLaws
+pub mod JoinLaws

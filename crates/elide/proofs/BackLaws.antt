@@ -2,10 +2,10 @@
 -- The idea: table 3-7 has only 80..BF in each column after the first (`more-trails`), and none of it in the first one (`no-row`).
 use Prim.Native.Nat.{ℕ, suc, _+_, _-_, _≤_, _<_}
 use native.Mathlib.Omega.{arith}
-use mathlib.Core.Bool.{Bool, true, false, cond, _&&_}
+use mathlib.Core.Bool.{Bool, true, false, cond}
 use mathlib.Core.Path.{_≡_, refl, sym, ap, _∙_, subst}
 use mathlib.Core.List.{List, [], _∷_, _++_, reverse, reverse-cons, reverse-reverse, append-assoc, append-nil}
-use lib.Dec.{leb, T}
+use lib.Dec.{leb}
 use lib.ListN.{length, drop, getD, length-append}
 use lib.Seq.{drop-append-seam, getD-append-add}
 use borrow.Author.Tests.{leb-true, leb-false, le-leb, lt-leb, eqb-true}
@@ -14,6 +14,7 @@ use Rattle.chars.specs.Chars.{Character, charIn, chars, bytesOf, wide, widthOf,
 use Rattle.chars.specs.Cut.{keptWithin}
 use Rattle.chars.proofs.ReaderLaws.{below, above}
 use Rattle.chars.proofs.TrailLaws.{more-trails, trails-at}
+use Rattle.chars.proofs.JoinLaws.{and-both}
 use Rattle.chars.proofs.CharsLaws.{Read, Valid, bytes-chars, bytes-append, width-append, width-bound, valid-chars, valid-prefix, valid-suffix, chars-rest, char-next}
 use Rattle.chars.proofs.CutLaws.{keptRest, split-kept, width-reverse}
 use Rattle.elide.specs.Back.{StartBefore}
@@ -84,19 +85,9 @@ module _ (s : List ℕ) (xs : List Character) (c : Character) (ys : List Charact
       cc (d, n)
 
 -- ── well-formed parts of a well-formed text
-and-both : (a b : Bool) → (a && b) ≡ true → (a ≡ true) × (b ≡ true)
-and-both true b e = (refl, e)
-and-both false b e = absurd (subst T (sym e) tt)
-
 ok-in : (xs : List Character) (c : Character) (ys : List Character) → allOk (xs ++ (c ∷ ys)) ≡ true → c .ok ≡ true
 ok-in [] c ys h = and-both (c .ok) (allOk ys) h .0
 ok-in (x ∷ xs) c ys h = ok-in xs c ys (and-both (x .ok) (allOk (xs ++ (c ∷ ys))) h .1)
-
-pub ok-beginning : (xs ys : List Character) → allOk (xs ++ ys) ≡ true → allOk xs ≡ true
-ok-beginning [] ys h = refl
-ok-beginning (x ∷ xs) ys h =
-    let b = and-both (x .ok) (allOk (xs ++ ys)) h in
-    rw (b .0) (ok-beginning xs ys (b .1))
 
 -- ── the characters before `at`, from the last one back
 pub record UpTo (s : List ℕ) (at : ℕ) (back : List Character) : Type 0 where

@@ -8,15 +8,16 @@ use mathlib.Core.Path.{_≡_, refl, sym, ap, _∙_}
 use mathlib.Core.List.{List, [], _∷_, _++_, reverse, reverse-append, reverse-reverse}
 use lib.Dec.{leb, ltb, eqb}
 use lib.ListN.{length, take, drop, length-append, length-drop}
-use lib.Seq.{take-length, length-take-le, take-append-seam, drop-append-seam}
-use borrow.Author.Tests.{leb-false, leb-true, le-leb, lt-leb, eq-eqb, ne-eqb, ltb-false}
+use lib.Seq.{length-take-le, take-append-seam}
+use borrow.Author.Tests.{leb-false, leb-true, lt-leb, eq-eqb, ne-eqb, ltb-false}
 use Rattle.chars.specs.Chars.{Character, chars, bytesOf, wide, widthOf, textWidth, allOk, wellFormed}
-use Rattle.chars.specs.Cut.{keptWithin, truncateEndPos, truncateEndWidth, truncateStartPos, truncateStartWidth}
+use Rattle.chars.specs.Cut.{keptWithin, truncateStartPos, truncateStartWidth}
 use Rattle.chars.proofs.CharsLaws.{bytes-chars, bytes-append, width-append, chars-beginning, chars-rest}
-use Rattle.chars.proofs.CutLaws.{longest, keptRest, beforeLongest, split-kept, split-longest, kept-back, kept-within, width-reverse, kept-whole, longest-whole, kept-end}
+use Rattle.chars.proofs.FitLaws.{kept-on}
+use Rattle.chars.proofs.JoinLaws.{ok-beginning}
+use Rattle.chars.proofs.CutLaws.{longest, keptRest, beforeLongest, split-kept, split-longest, kept-back, kept-within, width-reverse, longest-whole}
 use Rattle.chars.proofs.CutLaws.{kept-start, start-pos, start-width}
 use Rattle.recording.specs.Recording.{Bytes}
-use Rattle.elide.proofs.BackLaws.{ok-beginning}
 use Rattle.elide.specs.Elide.{leaving, cutAtStart, fitAtEnd, fitAtStart, elideEnd, elideStart, elided, trimmed}
 
 -- characters that leave until `room` is enough leave the longest ending within it
@@ -66,54 +67,7 @@ fit-end m e cs =
     ap (λ (n : ℕ). reverse (leaving n (reverse kept))) w ∙ ap reverse (leaving-longest (m - e) (reverse kept)) ∙ sym (kept-back (m - e) (reverse kept))
     ∙ ap (keptWithin (m - e)) (reverse-reverse kept) ∙ kept-twice (m - e) m cs (omega arith)
 
--- ── a cut that goes on from a narrower one
-kept-on : (a m : ℕ) (cs : List Character) → a ≤ m → keptWithin m cs ≡ keptWithin a cs ++ keptWithin (m - widthOf (keptWithin a cs)) (keptRest a cs)
-kept-on a m [] h = refl
-kept-on a m (c ∷ cs) h = go (leb (wide c) a) refl (kept-on (a - wide c) (m - wide c) cs (omega arith))
-  where
-    go : (t : Bool) → leb (wide c) a ≡ t
-        → keptWithin (m - wide c) cs ≡ keptWithin (a - wide c) cs ++ keptWithin ((m - wide c) - widthOf (keptWithin (a - wide c) cs)) (keptRest (a - wide c) cs)
-        → cond (leb (wide c) m) (c ∷ keptWithin (m - wide c) cs) []
-        ≡ cond t (c ∷ keptWithin (a - wide c) cs) [] ++ keptWithin (m - widthOf (cond t (c ∷ keptWithin (a - wide c) cs) [])) (cond t (keptRest (a - wide c) cs) (c ∷ cs))
-    go true e ih =
-        let w : ℕ = widthOf (keptWithin (a - wide c) cs) in
-        let k : (m - wide c) - w ≡ m - (wide c + w) = omega arith in
-        simp (le-leb (wide c) m (omega (arith, leb-true (wide c) a e)))
-        (ap (λ (l : List Character). c ∷ l) (ih ∙ ap (λ (n : ℕ). keptWithin (a - wide c) cs ++ keptWithin n (keptRest (a - wide c) cs)) k))
-    go false e ih = let k : m - 0 ≡ m = omega arith in rw k
-
--- the place and the width of a cut, from those of a narrower one and those of the cut of the rest
-pub cut-on : (a m : ℕ) (s : Bytes) → a ≤ m
-    → (truncateEndPos m s ≡ truncateEndPos a s + truncateEndPos (m - truncateEndWidth a s) (drop (truncateEndPos a s) s))
-    × (truncateEndWidth m s ≡ truncateEndWidth a s + truncateEndWidth (m - truncateEndWidth a s) (drop (truncateEndPos a s) s))
-unfolding truncateEndPos truncateEndWidth
-cut-on a m s h =
-    let xs : List Character = keptWithin a (chars s) in
-    let ys : List Character = keptRest a (chars s) in
-    let e : chars s ≡ xs ++ ys = split-kept a (chars s) in
-    let rest : chars (drop (length (bytesOf xs)) s) ≡ ys =
-    ap chars (ap (drop (length (bytesOf xs))) (sym (bytes-chars s) ∙ ap bytesOf e ∙ bytes-append xs ys) ∙ drop-append-seam (bytesOf xs) (bytesOf ys)) ∙ chars-rest s xs ys e in
-    let k : keptWithin m (chars s) ≡ xs ++ keptWithin (m - widthOf xs) (chars (drop (length (bytesOf xs)) s)) =
-    kept-on a m (chars s) h ∙ ap (λ (l : List Character). xs ++ keptWithin (m - widthOf xs) l) (sym rest) in
-    let zs : List Character = keptWithin (m - widthOf xs) (chars (drop (length (bytesOf xs)) s)) in
-    (ap (λ (l : List Character). length (bytesOf l)) k ∙ ap length (bytes-append xs zs) ∙ length-append (bytesOf xs) (bytesOf zs), ap widthOf k ∙ width-append xs zs)
-
--- ── a text fits if its cut reaches its end
-pub fits-whole : (m : ℕ) (s : Bytes) → textWidth s ≤ m → (truncateEndPos m s ≡ length s) × (truncateEndWidth m s ≡ textWidth s)
-unfolding truncateEndPos truncateEndWidth textWidth
-fits-whole m s h = let k = kept-whole m (chars s) h in (ap (λ (l : List Character). length (bytesOf l)) k ∙ ap length (bytes-chars s), ap widthOf k)
-
-pub reaches-end : (m : ℕ) (s : Bytes) → truncateEndPos m s ≡ length s → textWidth s ≤ m
-unfolding textWidth
-reaches-end m s h =
-    let whole : s ≡ bytesOf (keptWithin m (chars s)) = sym (take-length s) ∙ ap (λ (n : ℕ). take n s) (sym h) ∙ kept-end m s in
-    let e : chars s ≡ keptWithin m (chars s) = ap chars whole ∙ chars-beginning s (keptWithin m (chars s)) (keptRest m (chars s)) (split-kept m (chars s)) in
-    omega (arith, ap widthOf e, kept-within m (chars s))
-
-pub passes-max : (m : ℕ) (s : Bytes) → (truncateEndPos m s ≡ length s → ⊥) → m < textWidth s
-passes-max m s h = lt-of-not-le (λ k. h (fits-whole m s k .0))
-
--- ── the same from the last character back
+-- ── a cut that goes on from a narrower one, and that reaches the start: as at the end (`chars/proofs/FitLaws.antt`), from the last character back
 longest-within : (m : ℕ) (cs : List Character) → widthOf (longest m cs) ≤ m
 longest-within m cs = omega (arith, width-reverse (longest m cs), ap widthOf (kept-back m cs), kept-within m (reverse cs))
 

@@ -15,7 +15,7 @@ use Rattle.chars.proofs.CutLaws.{kept-end, width-reverse}
 use Rattle.buffer.specs.Place.{part}
 use Rattle.recording.specs.Recording.{Bytes}
 use Rattle.elide.specs.Elide.{cutAtStart, fitAtStart, trimmed, elideEnd, elideStart, missingNewline}
-use Rattle.elide.proofs.ElideLaws.{cut-start, fit-start, fit-end, cut-on, cut-bytes, cut-back-on, well-formed-before}
+use Rattle.elide.proofs.ElideLaws.{cut-start, fit-start, fit-end, cut-bytes, cut-back-on, well-formed-before}
 
 -- ── a beginning, an ending, all of it
 front : (k : ℕ) (s : Bytes) → part 0 k s ≡ take k s
@@ -25,17 +25,6 @@ pub whole : (s : Bytes) → part 0 (length s) s ≡ s
 whole s = front (length s) s ∙ take-length s
 
 -- ── at the end
--- a cut to a, which is at most m, and one of the rest, to what is left of m: together the cut to m
-pub two-cuts : (a m : ℕ) (s : Bytes) (p w q v : ℕ) → a ≤ m → p ≡ truncateEndPos a s → w ≡ truncateEndWidth a s
-    → q ≡ truncateEndPos (m - w) (part p (length s) s) → v ≡ truncateEndWidth (m - w) (part p (length s) s)
-    → (p + q ≡ truncateEndPos m s) × (w + v ≡ truncateEndWidth m s)
-two-cuts a m s p w q v h e f g k =
-    let c = cut-on a m s h in
-    let r : part p (length s) s ≡ drop (truncateEndPos a s) s = part-to-end s p ∙ ap (λ (j : ℕ). drop j s) e in
-    let x : q ≡ truncateEndPos (m - truncateEndWidth a s) (drop (truncateEndPos a s) s) = g ∙ λ i. truncateEndPos (m - f i) (r i) in
-    let y : v ≡ truncateEndWidth (m - truncateEndWidth a s) (drop (truncateEndPos a s) s) = k ∙ λ i. truncateEndWidth (m - f i) (r i) in
-    (omega (arith, e, x, c .0), omega (arith, f, y, c .1))
-
 module _ (m : ℕ) (s e : Bytes) where
   pub end-uncut : textWidth s ≤ m → (part 0 (length s) s ++ part 0 0 e ≡ elideEnd m s e .text) × (textWidth s ≡ elideEnd m s e .columns)
   unfolding elideEnd
@@ -58,7 +47,7 @@ module _ (m : ℕ) (s e : Bytes) where
       )
 
 -- ── at the start
--- as `two-cuts`; the rest is what is before the cut
+-- a cut to a, which is at most m, and one of what is before it, to what is left of m: together the cut to m
 pub two-cuts-back : (a m : ℕ) (s : Bytes) (p w q v : ℕ) → a ≤ m → p ≡ truncateStartPos a s → w ≡ truncateStartWidth a s
     → q ≡ truncateStartPos (m - w) (part 0 p s) → v ≡ truncateStartWidth (m - w) (part 0 p s)
     → (q ≡ truncateStartPos m s) × (w + v ≡ truncateStartWidth m s)

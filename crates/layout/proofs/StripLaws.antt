@@ -12,7 +12,7 @@ use Rattle.chars.specs.Cut.{truncateEndPos, zeroWidthLen}
 use Rattle.recording.specs.Coloured.{balancedFrom, balanced, noneInside}
 use Rattle.recording.specs.Edit.{Op, keep, skip, put, front, back, entriesOnly, edit, editData}
 use Rattle.recording.specs.Outcome.{Room, overLimit, noRoom, Result}
-use Rattle.recording.specs.Recording.{Bytes, Recording, Item, byte, push, pop, raw, byteItems, items, dataOf, entriesFrom, textFrom, encode, strip, numbersOf}
+use Rattle.recording.specs.Recording.{Bytes, Recording, recording, Item, byte, push, pop, raw, byteItems, items, dataOf, entriesFrom, textFrom, encode, strip, numbersOf}
 use Rattle.recording.specs.Refusals.{recordingFault}
 use Rattle.recording.proofs.EditLaws.{AllPuts, data-append, edit-data}
 use Rattle.recording.proofs.FaultLaws.{no-fault, in-limits, Roomy, roomy}
@@ -223,7 +223,7 @@ bare-items r e = rw e (bare-bytes (r .dataBytes))
 pub bare-single : (s : Single) (d : Bytes) → BarePuts (singleOps s d)
 bare-single s d = puts-single Bare bare-bytes s d
 
-pub bare-result : (j : Job) (r : Recording) → Bare (items r) → Bare (resultItems (strippedJob j) r)
+bare-result : (j : Job) (r : Recording) → Bare (items r) → Bare (resultItems (strippedJob j) r)
 unfolding resultItems
 bare-result (withSecond writeTruncatedStart m e) r h =
     let x : List Item = edit (cutStart (trimmedStartPos m (strip e .dataBytes))) (items (strip e)) in
@@ -266,6 +266,14 @@ bare-text at (byte b ∷ is) h = bare-text (suc at) is h
 bare-text at (push l ∷ a) h = absurd h
 bare-text at (pop ∷ a) h = absurd h
 bare-text at (raw t ∷ a) h = absurd h
+
+-- so what is left is data alone
+pub bare-left : (j : Job) (r : Recording) → r .entryNumbers ≡ [] → encode (resultItems (strippedJob j) r) ≡ recording (dataOf (resultItems (strippedJob j) r)) [] []
+unfolding encode
+bare-left j r e =
+    let is : List Item = resultItems (strippedJob j) r in
+    let bare = bare-result j r (bare-items r e) in
+    λ i. recording (dataOf is) (numbersOf (bare-entries 0 is bare i)) (bare-text 0 is bare i)
 
 -- ── bytes alone are put in: no entry, and the text is as long as it was
 bare-count : (is : List Item) → Bare is → entryCount is ≡ 0
@@ -354,13 +362,8 @@ module _ (c : Call) (r r′ : Recording) (s : Shadow r r′) (g : SecondOk (c .j
   shadow-result : Shadow (encode (resultItems (c .job) r)) (encode (resultItems (strippedJob (c .job)) r′))
   unfolding encode
   shadow-result =
-      let bare = bare-result (c .job) r′ (bare-items r′ (s .entryNumbers)) in
-      record {
-        dataBytes = same-data (c .job) r r′ g (s .dataBytes);
-        entryNumbers = ap numbersOf (bare-entries 0 (resultItems (strippedJob (c .job)) r′) bare);
-        text = bare-text 0
-            (resultItems (strippedJob (c .job)) r′) bare;
-      }
+      let left = bare-left (c .job) r′ (s .entryNumbers) in
+      record { dataBytes = same-data (c .job) r r′ g (s .dataBytes); entryNumbers = ap (λ (q : Recording). q .entryNumbers) left; text = ap (λ (q : Recording). q .text) left }
 
   pub not-refused : refusal (stripped c) r′ ≡ 0
   not-refused = grant-call (stripped c) r′ (parts (granted-call c r z))

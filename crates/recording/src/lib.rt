@@ -47,6 +47,8 @@ pub enum Refusal {
     LineIndex,
     // A line or an offset that is not there.
     NoSuchPlace,
+    // Part ends of over 64 cells, that fall, or of which the last is not the data's length.
+    CellEnds,
     // Of a list of calls: two sets of buffers that differ in a length, numbers that are no calls, a list of answers that is too short.
     SetsDiffer,
     CallNumbers,
@@ -79,6 +81,7 @@ pub fn number_of(f: Refusal) -> u64
         Refusal::ContentUnbalanced => 35,
         Refusal::LineIndex => 36,
         Refusal::NoSuchPlace => 37,
+        Refusal::CellEnds => 38,
         Refusal::SetsDiffer => 61,
         Refusal::CallNumbers => 62,
         Refusal::AnswerListTooShort => 63,

@@ -19,7 +19,7 @@ pub struct Plan {
 }
 
 // a less b, not below 0.
-fn less(a: u64, b: u64) -> u64
+pub fn less(a: u64, b: u64) -> u64
     ensures { λ r. ⌜ r ≡ a - b ⌝ }
 {
     if a < b {

@@ -1,0 +1,4 @@
+pub mod Cells
+pub mod Measured
+pub mod Shown
+pub mod Pins
