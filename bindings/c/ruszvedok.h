@@ -300,6 +300,7 @@ enum ruszvedok_refusal {
     RUSZVEDOK_CONTENT_UNBALANCED = 35,     /* A content whose labels are not balanced. */
     RUSZVEDOK_LINE_INDEX = 36,             /* A line index that is too short for its numbers, or not that of the data. */
     RUSZVEDOK_NO_SUCH_PLACE = 37,          /* A line or an offset that is not there. */
+    RUSZVEDOK_CELL_ENDS = 38,              /* Part ends of over 64 cells, that fall, or of which the last is not the data's length. */
     RUSZVEDOK_SETS_DIFFER = 61,            /* Two sets of buffers that differ in a length. */
     RUSZVEDOK_CALL_NUMBERS = 62,           /* Calls that are not eight numbers each, an unknown kind, a range not within its pool. */
     RUSZVEDOK_ANSWER_LIST_TOO_SHORT = 63   /* The list of answers is too short, at two numbers a call. */
@@ -331,6 +332,7 @@ static inline const char *ruszvedok_refusal_name(uint64_t refusal)
     case RUSZVEDOK_CONTENT_UNBALANCED: return "CONTENT_UNBALANCED";
     case RUSZVEDOK_LINE_INDEX: return "LINE_INDEX";
     case RUSZVEDOK_NO_SUCH_PLACE: return "NO_SUCH_PLACE";
+    case RUSZVEDOK_CELL_ENDS: return "CELL_ENDS";
     case RUSZVEDOK_SETS_DIFFER: return "SETS_DIFFER";
     case RUSZVEDOK_CALL_NUMBERS: return "CALL_NUMBERS";
     case RUSZVEDOK_ANSWER_LIST_TOO_SHORT: return "ANSWER_LIST_TOO_SHORT";
@@ -364,6 +366,7 @@ static inline const char *ruszvedok_refusal_reason(uint64_t refusal)
     case RUSZVEDOK_CONTENT_UNBALANCED: return "a content whose labels are not balanced";
     case RUSZVEDOK_LINE_INDEX: return "a line index that is too short for its numbers, or not that of the data";
     case RUSZVEDOK_NO_SUCH_PLACE: return "a line or an offset that is not there";
+    case RUSZVEDOK_CELL_ENDS: return "part ends of over 64 cells, that fall, or of which the last is not the data's length";
     case RUSZVEDOK_SETS_DIFFER: return "two sets of buffers that differ in a length";
     case RUSZVEDOK_CALL_NUMBERS: return "calls that are not eight numbers each, an unknown kind, a range not within its pool";
     case RUSZVEDOK_ANSWER_LIST_TOO_SHORT: return "the list of answers is too short, at two numbers a call";
@@ -562,6 +565,16 @@ void ruszvedok_place_of(
     const uint32_t *index, size_t index_len,
     size_t offset,
     uint64_t res[3]);
+
+/* Cuts the parts of a content that end at `ends`, each to max_width at its end with the ellipsis, and joins them; `cells` gets
+ * two numbers a cell, its end there and its width. The number is how many cells there are. */
+void ruszvedok_write_truncated_cells(
+    const uint8_t *content, size_t content_len,
+    const uint32_t *ends, size_t ends_len,
+    const uint8_t *ellipsis, size_t ellipsis_len,
+    uint32_t max_width,
+    uint8_t *out_data, size_t out_data_len, uint32_t *cells, size_t cells_len,
+    uint64_t res[5]);
 
 /* ---- a list of calls on recordings ---- */
 

@@ -51,6 +51,8 @@ pub enum Refusal {
     LineIndex,
     /// 37: a line or an offset that is not there.
     NoSuchPlace,
+    /// 38: part ends of over 64 cells, that fall, or of which the last is not the data's length.
+    CellEnds,
     /// 61: two sets of buffers that differ in a length.
     SetsDiffer,
     /// 62: calls that are not eight numbers each, an unknown kind, a range not within its pool.
@@ -85,6 +87,7 @@ impl Refusal {
         Self::ContentUnbalanced,
         Self::LineIndex,
         Self::NoSuchPlace,
+        Self::CellEnds,
         Self::SetsDiffer,
         Self::CallNumbers,
         Self::AnswerListTooShort,
@@ -115,6 +118,7 @@ impl Refusal {
             Self::ContentUnbalanced => 35,
             Self::LineIndex => 36,
             Self::NoSuchPlace => 37,
+            Self::CellEnds => 38,
             Self::SetsDiffer => 61,
             Self::CallNumbers => 62,
             Self::AnswerListTooShort => 63,
@@ -147,6 +151,7 @@ impl Refusal {
             Self::ContentUnbalanced => "a content whose labels are not balanced",
             Self::LineIndex => "a line index that is too short for its numbers, or not that of the data",
             Self::NoSuchPlace => "a line or an offset that is not there",
+            Self::CellEnds => "part ends of over 64 cells, that fall, or of which the last is not the data's length",
             Self::SetsDiffer => "two sets of buffers that differ in a length",
             Self::CallNumbers => "calls that are not eight numbers each, an unknown kind, a range not within its pool",
             Self::AnswerListTooShort => "the list of answers is too short, at two numbers a call",

@@ -140,6 +140,11 @@ extern "C" {
         content: *const u8, content_len: usize, entries: *const u32, entries_len: usize, text: *const u8,
         text_len: usize, index: *const u32, index_len: usize, offset: usize, res: *mut [u64; 3],
     );
+    pub fn ruszvedok_write_truncated_cells(
+        content: *const u8, content_len: usize, ends: *const u32, ends_len: usize, ellipsis: *const u8,
+        ellipsis_len: usize, max_width: u32, out_data: *mut u8, out_data_len: usize, cells: *mut u32, cells_len: usize,
+        res: *mut [u64; 5],
+    );
     pub fn ruszvedok_run_calls(
         calls: *const u32, calls_len: usize, pool: *const u8, pool_len: usize, pool_numbers: *const u32,
         pool_numbers_len: usize, data_len: usize, entries_len: usize, text_len: usize, data: *mut u8, data_room: usize,

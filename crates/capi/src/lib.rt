@@ -5,6 +5,7 @@
 // A question leaves nothing: its `res` gets three, the refusal or 0 and the two numbers asked for.
 use answer_numbers::store;
 use answer_numbers::store_reply;
+use cells::write_truncated_cells;
 use chars::cut_end;
 use chars::cut_start;
 use chars::display_width;
@@ -48,6 +49,7 @@ ghost use Rattle.layout.specs.Lent.{lentOf, lentLined};
 ghost use Rattle.wrap_lines.specs.WrapBytes.{wrapBytesOutcome};
 ghost use Rattle.view.specs.View.{officeOutcome, floorOutcome};
 ghost use Rattle.line_index.specs.Index.{buildOutcome, extendOutcome, lineReplied, placeReplied};
+ghost use Rattle.cells.specs.Cells.{cellsOutcome, lentCells};
 ghost use Rattle.replace.specs.Records.{recordsOf};
 ghost use Rattle.call_lists.specs.Runs.{given, buffers};
 ghost use Rattle.elide.specs.Elide.{lent, elideEndOutcome, elideStartOutcome, completeNewlineOutcome};
@@ -557,6 +559,26 @@ pub extern "C" fn ruszvedok_place_of(
 {
     let a = place_of(content, entries, text, index, offset);
     store_reply(a, res);
+}
+
+// Cuts the parts of a content that end at `ends`, each to max_width at its end with the ellipsis, and joins them; `cells` gets two numbers a cell, its end there and its width.
+// The number is how many cells there are.
+#[no_mangle]
+pub extern "C" fn ruszvedok_write_truncated_cells(
+    content: &[u8],
+    ends: &[u32],
+    ellipsis: &[u8],
+    max_width: u32,
+    bytes: &mut [u8],
+    cells: &mut [u32],
+    res: &mut [u64; 5],
+)
+    ensures { λ _. ⌜ PromisedNumbers
+        (cellsOutcome «max_width» (now (ends .entry)) (now (ellipsis .entry)) (now (content .entry)) (roomIn (lentCells (now (bytes .entry)) (now (cells .entry)))))
+        (lentCells (now (bytes .entry)) (now (cells .entry))) (lentCells (now (bytes .exit)) (now (cells .exit))) (now (res .exit)) ⌝ }
+{
+    let a = write_truncated_cells(content, ends, ellipsis, max_width, bytes, cells);
+    store(a, res);
 }
 
 // Runs all layout calls of a list, back and forth between two sets of lent buffers. The number is how many were not refused.
