@@ -1,1 +1,4 @@
+pub mod EndsLaws
+pub mod PlanLaws
+pub mod PutLaws
 pub mod PinsHold

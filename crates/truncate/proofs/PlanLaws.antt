@@ -76,7 +76,7 @@ module _ (max : ℕ) (r e : Recording) (p : Plan) where
   start-number q = width-chosen (ltb max (textWidth (r .dataBytes))) _ _ ∙ sym (ap (λ (x : Plan). x .width) q)
 
 module _ (max : ℕ) (ds es : List ℕ) (p : Plan) where
-  end-uncut : p ≡ planEnd max ds es → p .cut ≡ false → (p .content ≡ length ds) × (p .ellipsis ≡ 0)
+  pub end-uncut : p ≡ planEnd max ds es → p .cut ≡ false → (p .content ≡ length ds) × (p .ellipsis ≡ 0)
   unfolding planEnd
   end-uncut q z =
       let u = q ∙ uncut (ltb max (textWidth ds)) _ _ refl (sym (ap (λ (x : Plan). x .cut) q) ∙ z) in

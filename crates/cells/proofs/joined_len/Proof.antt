@@ -1,5 +1,12 @@
+-- What is kept of the cells so far, and of those from `from` on, is what is kept of all (`Summed`).
 use native.Mathlib.Omega.{arith}
 use borrow.Author.Needs.{needs}
+use Prim.Native.Nat.{_+_, _-_, _≤_}
+use mathlib.Core.Path.{refl}
+use lib.ListN.{length, getD}
+use Rattle.buffer.proofs.Laws.{length-part}
+use Rattle.cells.proofs.EndsLaws.{end-above, end-within, few}
+use Rattle.cells.proofs.PutLaws.{Summed, sum-start, sum-next, sum-end}
 use Rattle.cells.proofs.joined_len.Statement.{statement}
 use Rattle.cells.proofs.joined_len.Tie as tie
 use Rattle.cells.proofs.joined_len.Reads as reads
@@ -7,66 +14,89 @@ use Rattle.cells.proofs.joined_len.Lts as lts
 use Rattle.cells.proofs.measure_cell.Reads as measure-cell-reads
 
 abbrev Inv-loop : tie.InvT-loop
-Inv-loop t content ends m max total₀ from₀ k₀ total from k = ?
+Inv-loop t content ends m max total₀ from₀ k₀ total from k =
+    Summed m max ends content total from k
 
 abbrev μ-loop : tie.MeasureT-loop
-μ-loop t content ends m max total₀ from₀ k₀ total from k = ?
+μ-loop t content ends m max total₀ from₀ k₀ total from k = length ends - k
 
--- src/lib.rt:115:5
+-- what is known of the end that is read
+above : (c : tie.In-loop Inv-loop μ-loop) → c .before .loop .from ≤ getD (c .before .before .before .before .args .ends .now) (c .before .loop .k) 0
+above c = end-above _ _ _ _ (c .before .loop .inv .ahead) (c .loop-test .taken)
+
+within : (c : tie.In-loop Inv-loop μ-loop) → getD (c .before .before .before .before .args .ends .now) (c .before .loop .k) 0 ≤ length (c .before .before .before .before .args .content .now)
+within c = end-within _ _ _ _ (c .before .loop .inv .ahead) (c .loop-test .taken)
+
+-- where a cell is measured
+abbrev found : tie.After-struct-known Inv-loop μ-loop → tie.After-measure-cell Inv-loop μ-loop
+found c = c .before
+
+-- the numbers that are added are small
+kept-small : (c : tie.After-struct-known Inv-loop μ-loop) → found c .measure-cell .result .content + found c .measure-cell .result .ellipsis ≤ 2097152
+kept-small c =
+    let f = found c in
+    let s = f .before .before .before .before .before .before .before in
+    let n = within (f .before .before .before) in
+    let l = length-part (f .before .before .before .before .loop .from) (getD (s .args .ends .now) (f .before .before .before .before .loop .k) 0) (s .args .content .now) n in
+    let k = f .measure-cell .ensures .1 in
+    omega (arith, k .0, k .1, l, n, s .pre .1 .1 .1, s .pre .1 .1 .2)
+
+total-small : (c : tie.After-struct-known Inv-loop μ-loop) → found c .before .before .before .before .loop .total ≤ 68157440
+total-small c =
+    let l = found c .before .before .before in
+    let s = l .before .before .before .before in
+    omega (arith, l .before .loop .inv .small, above l, within l, l .loop-test .taken, few _ _ (s .pre .1 .1 .0), s .pre .1 .1 .1)
+
 loop-holds : tie.Need-loop-holds Inv-loop μ-loop
-loop-holds c = search needs
+loop-holds c =
+    sum-start _ _ _ _ (c .before .before .pre .1 .1 .0)
 
--- src/lib.rt:116:19
 mul-end : tie.Need-mul-end Inv-loop μ-loop
 mul-end c = search needs
 
--- src/lib.rt:116:19
 shared-slice-read-end : tie.Need-shared-slice-read-end Inv-loop μ-loop
 shared-slice-read-end c = search needs
 
--- src/lib.rt:116:19
 cast-end : tie.Need-cast-end Inv-loop μ-loop
-cast-end c = search needs
+cast-end c =
+    omega (arith, within (c .before), c .before .before .before .before .before .pre .1 .1 .1)
 
--- src/lib.rt:117:33
 sub-measure-cell : tie.Need-sub-measure-cell Inv-loop μ-loop
-sub-measure-cell c = search needs
+sub-measure-cell c = omega (arith, above (c .before))
 
--- src/lib.rt:117:33
 part-measure-cell-start : tie.Need-part-measure-cell-start Inv-loop μ-loop
-part-measure-cell-start c = search needs
+part-measure-cell-start c = omega (arith, above (c .before))
 
--- src/lib.rt:117:33
 part-measure-cell-end : tie.Need-part-measure-cell-end Inv-loop μ-loop
-part-measure-cell-end c = search needs
+part-measure-cell-end c = omega (arith, within (c .before))
 
--- src/lib.rt:117:13
 measure-cell-requires : tie.Need-measure-cell-requires Inv-loop μ-loop
 measure-cell-requires c κs = search needs
 
--- src/lib.rt:118:18
 add-total : tie.Need-add-total Inv-loop μ-loop
-add-total c = search needs
+add-total c =
+    omega (arith, kept-small c)
 
--- src/lib.rt:118:9
 add-total-2 : tie.Need-add-total-2 Inv-loop μ-loop
-add-total-2 c = search needs
+add-total-2 c =
+    omega (arith, kept-small c, total-small c)
 
--- src/lib.rt:120:9
 add-k : tie.Need-add-k Inv-loop μ-loop
 add-k c = search needs
 
--- src/lib.rt:115:5
 loop-less : tie.Need-loop-less Inv-loop μ-loop
 loop-less c = search needs
 
--- src/lib.rt:115:5
 loop-again : tie.Need-loop-again Inv-loop μ-loop
-loop-again c = search needs
+loop-again c =
+    let f = found c in
+    let a = f .before .before .before .before .before .before .before .args in
+    let k = f .measure-cell in
+    sum-next _ _ _ _ _ _ _ (f .before .before .before .before .loop .inv) (f .before .before .before .loop-test .taken) (k .result) _ _ refl refl (k .ensures .0) (k .ensures .1 .0)
+    (omega (arith, k .ensures .1 .1, f .before .before .before .before .before .before .before .pre .1 .1 .2))
 
--- src/lib.rt:106:1
 returns : tie.Need-returns Inv-loop μ-loop
-returns c = search needs
+returns c = sum-end _ _ _ _ _ _ _ (c .before .loop .inv) (c .loop-test .left)
 
 pub joined-len-spec : {M : Type 1} → statement M
 joined-len-spec =

@@ -1,55 +1,69 @@
+-- Whether the ends behind `k` fall, and where they end, is what it is of all of them: none so far has fallen.
 use native.Mathlib.Omega.{arith}
 use borrow.Author.Needs.{needs}
+use mathlib.Core.Bool.{not}
+use mathlib.Core.Path.{_≡_, refl, sym, ap, _∙_}
+use Prim.Native.Nat.{ℕ, _-_, _≤_}
+use lib.Dec.{eqb}
+use lib.ListN.{length, drop}
+use Rattle.cells.specs.Cells.{neverFall, lastEnd}
+use Rattle.cells.proofs.EndsLaws.{too-many, falls, judged, never-next, never-falls, last-next, none-left}
 use Rattle.cells.proofs.wrong_ends.Statement.{statement}
 use Rattle.cells.proofs.wrong_ends.Tie as tie
 use Rattle.cells.proofs.wrong_ends.Reads as reads
 use Rattle.cells.proofs.wrong_ends.Lts as lts
 
 abbrev Inv-loop : tie.InvT-loop
-Inv-loop ends n last₀ k₀ last k = ?
+Inv-loop ends n last₀ k₀ last k =
+    (k ≤ length ends) × (neverFall last (drop k ends) ≡ neverFall 0 ends) × (lastEnd last (drop k ends) ≡ lastEnd 0 ends)
 
 abbrev μ-loop : tie.MeasureT-loop
-μ-loop ends n last₀ k₀ last k = ?
+μ-loop ends n last₀ k₀ last k = length ends - k
 
--- src/lib.rt:49:9
 returns : tie.Need-returns Inv-loop μ-loop
-returns c = search needs
+returns c = too-many _ _ (c .if1 .taken)
 
--- src/lib.rt:53:5
 loop-holds : tie.Need-loop-holds Inv-loop μ-loop
-loop-holds c = search needs
+loop-holds c = (omega arith, refl, refl)
 
--- src/lib.rt:54:19
 mul-end : tie.Need-mul-end Inv-loop μ-loop
 mul-end c = search needs
 
--- src/lib.rt:54:19
 shared-slice-read-end : tie.Need-shared-slice-read-end Inv-loop μ-loop
 shared-slice-read-end c = search needs
 
--- src/lib.rt:54:19
 cast-end : tie.Need-cast-end Inv-loop μ-loop
-cast-end c = search needs
+cast-end c =
+    omega (arith, c .shared-slice-known .given (c .before .before .loop .k))
 
--- src/lib.rt:56:13
 returns-2 : tie.Need-returns-2 Inv-loop μ-loop
-returns-2 c = search needs
+returns-2 c =
+    let l = c .before .before .before .loop in
+    falls _ _ (sym (l .inv .1) ∙ never-falls _ (l .k) (l .last) (c .before .before .loop-test .taken) (c .if2 .taken))
 
--- src/lib.rt:59:9
 add-k : tie.Need-add-k Inv-loop μ-loop
 add-k c = search needs
 
--- src/lib.rt:53:5
 loop-less : tie.Need-loop-less Inv-loop μ-loop
 loop-less c = search needs
 
--- src/lib.rt:53:5
 loop-again : tie.Need-loop-again Inv-loop μ-loop
-loop-again c = search needs
+loop-again c =
+    let l = c .before .before .before .loop in
+    let more = c .before .before .loop-test .taken in (
+      omega (arith, more),
+      sym (never-next _ (l .k) (l .last) more (c .if2 .left)) ∙ l .inv .1,
+      sym (last-next _ (l .k) (l .last) more) ∙ l .inv .2,
+    )
 
--- src/lib.rt:45:1
 returns-3 : tie.Need-returns-3 Inv-loop μ-loop
-returns-3 c = search needs
+returns-3 c =
+    let l = c .before .loop in
+    let z = none-left _ (l .k) (c .loop-test .left) in
+    let never = sym (l .inv .1) ∙ ap (neverFall (l .last)) z in
+    let last = ap (lastEnd (l .last)) (sym z) ∙ l .inv .2 in
+    let n = c .before .before .before .args .n in
+    ap (λ (j : ℕ). not (eqb j n)) last ∙ judged _ _ (c .before .before .if1 .left) never
 
 pub wrong-ends-spec : {M : Type 1} → statement M
 wrong-ends-spec =

@@ -1,0 +1,110 @@
+-- What the code keeps of a cell is what the truncating call keeps of it: bytes, width and length. The ellipsis is measured once; a cell by two cuts that go on from each other.
+-- The idea: with the ellipsis measured the plan is `planEnd`, whose bytes and width `truncate` joins to the call's result.
+use Prim.Native.Nat.{ℕ, _+_, _-_, _*_, _≤_, _<_}
+use native.Mathlib.Omega.{arith}
+use mathlib.Core.Bool.{Bool, true, false, cond}
+use mathlib.Core.Path.{_≡_, refl, sym, ap, _∙_}
+use mathlib.Core.List.{List, [], _∷_, _++_}
+use lib.Dec.{ltb}
+use lib.ListN.{length, take, drop, length-append, length-take}
+use lib.Seq.{length-take-le}
+use borrow.Author.Tests.{lt-ltb, le-ltb, ltb-true, ltb-false}
+use Rattle.buffer.specs.Place.{part}
+use Rattle.chars.specs.Chars.{textWidth}
+use Rattle.chars.specs.Cut.{truncateEndPos, truncateEndWidth}
+use Rattle.chars.proofs.CutLaws.{kept-end}
+use Rattle.chars.proofs.FitLaws.{two-cuts, fits-whole, reaches-end, passes-max}
+use Rattle.recording.specs.Recording.{Bytes}
+use Rattle.truncate_plan.specs.declared.Plan.{Plan}
+use Rattle.truncate_plan.specs.Plan.{planEnd}
+use Rattle.truncate.specs.Planned.{finishedEnd}
+use Rattle.truncate.proofs.PlanLaws.{end-number, end-uncut}
+use Rattle.truncate.proofs.HeldLaws.{end-result}
+use Rattle.cells.specs.declared.Mark.{Mark}
+use Rattle.cells.specs.Cells.{bare, partsFrom, cutting, cellText, cellWidth, joined}
+use Rattle.cells.specs.Measured.{markOf, planWith, lengthWith}
+
+-- ── the ellipsis
+pub measured : (m w room pos width : ℕ) (e : Bytes) → w ≡ textWidth e → room ≡ m - w → pos ≡ truncateEndPos m e → width ≡ truncateEndWidth m e → width ≤ m
+    → (record { room = room; kept = pos; width = width } ≡ markOf m e) × (room + width ≤ m)
+unfolding markOf
+measured m w room pos width e a b c d h = (rw (b, a, c, d), go (ltb m w) refl)
+  where
+    go : (t : Bool) → ltb m w ≡ t → room + width ≤ m
+    go true z = omega (arith, b, h, ltb-true m w z)
+    go false z =
+        let s = ltb-false m w z in
+        omega (arith, b, s, d, a, fits-whole m e (omega (arith, a, s)) .1)
+
+-- ── a cell: the first cut, to the room, ends at p; the second, of the rest to what is left of the width, ends q bytes on
+module _ (k : Mark) (m : ℕ) (cell rest : Bytes) (p w q v : ℕ) (fits : k .room + k .width ≤ m) (ep : p ≡ truncateEndPos (k .room) cell) (ew : w ≡ truncateEndWidth (k .room) cell)
+    (er : rest ≡ drop p cell) (eq : q ≡ truncateEndPos (m - w) rest) (ev : v ≡ truncateEndWidth (m - w) rest) where
+  both : (p + q ≡ truncateEndPos m cell) × (w + v ≡ truncateEndWidth m cell)
+  both = two-cuts (k .room) m cell rest p w q v (omega (arith, fits)) ep ew er eq ev
+
+  pub cell-whole : p + q ≡ length cell → record { cut = false; content = length cell; ellipsis = 0; width = w + v } ≡ planWith k m cell
+  unfolding planWith
+  cell-whole h =
+      let s : textWidth cell ≤ m = reaches-end m cell (sym (both .0) ∙ h) in
+      let x : w + v ≡ textWidth cell = both .1 ∙ fits-whole m cell s .1 in
+      rw (le-ltb m (textWidth cell) s, x)
+
+  pub cell-cut : (p + q ≡ length cell → ⊥) → record { cut = true; content = p; ellipsis = k .kept; width = w + k .width } ≡ planWith k m cell
+  unfolding planWith
+  cell-cut h = rw (lt-ltb m (textWidth cell) (passes-max m cell (λ z. h (both .0 ∙ z))), ep, ew)
+
+-- ── its plan is that of the truncating call
+plan-with : (m : ℕ) (e cell : Bytes) → planWith (markOf m e) m cell ≡ planEnd m cell e
+unfolding planWith markOf planEnd
+plan-with m e cell = refl
+
+-- a text kept up to a cut is as long as the cut says
+take-kept : (m : ℕ) (s : Bytes) → length (take (truncateEndPos m s) s) ≡ truncateEndPos m s
+unfolding truncateEndPos
+take-kept m s = ap length (kept-end m s)
+
+pub pos-within : (m : ℕ) (s : Bytes) → truncateEndPos m s ≤ length s
+pos-within m s = omega (arith, take-kept m s, length-take (truncateEndPos m s) s)
+
+by-plan : (m : ℕ) (e cell : Bytes) → length (finishedEnd (planWith (markOf m e) m cell) cell e) ≡ planWith (markOf m e) m cell .content + planWith (markOf m e) m cell .ellipsis
+unfolding finishedEnd planWith markOf
+by-plan m e cell = go (ltb m (textWidth cell))
+  where
+    room : ℕ
+    room = m - textWidth e
+
+    cut : Plan
+    cut = record { cut = true; content = truncateEndPos room cell; ellipsis = truncateEndPos m e; width = truncateEndWidth room cell + truncateEndWidth m e }
+
+    whole : Plan
+    whole = record { cut = false; content = length cell; ellipsis = 0; width = textWidth cell }
+
+    go : (t : Bool) → length (cond (cond t cut whole .cut) (take (cond t cut whole .content) cell ++ take (cond t cut whole .ellipsis) e) cell)
+        ≡ cond t cut whole .content + cond t cut whole .ellipsis
+    go true = omega (arith, length-append (take (truncateEndPos room cell) cell) (take (truncateEndPos m e) e), take-kept room cell, take-kept m e)
+    go false = omega arith
+
+module _ (m : ℕ) (e cell : Bytes) (p : Plan) (q : p ≡ planWith (markOf m e) m cell) where
+  pub text-is : finishedEnd p cell e ≡ cellText m e cell
+  unfolding cellText
+  text-is = sym (end-result p cell [] [] e [] [] m (q ∙ plan-with m e cell))
+
+  pub width-is : p .width ≡ cellWidth m e cell
+  unfolding cellWidth
+  width-is = sym (end-number m (bare cell) (bare e) p (q ∙ plan-with m e cell))
+
+  -- one that does not cut keeps all
+  pub uncut : p .cut ≡ false → p .content ≡ length cell
+  uncut z = end-uncut m cell e p (q ∙ plan-with m e cell) z .0
+
+  -- how long it is
+  pub text-length : length (finishedEnd p cell e) ≡ p .content + p .ellipsis
+  text-length = ap (λ (x : Plan). length (finishedEnd x cell e)) q ∙ by-plan m e cell ∙ sym (ap (λ (x : Plan). x .content + x .ellipsis) q)
+
+-- ── all cells
+pub joined-length : (m : ℕ) (e : Bytes) (cells : List Bytes) → lengthWith (markOf m e) m cells ≡ length (joined m e cells)
+joined-length m e [] = refl
+joined-length m e (c ∷ cs) =
+    let p : Plan = planWith (markOf m e) m c in
+    let t : length (cellText m e c) ≡ p .content + p .ellipsis = sym (ap length (text-is m e c p refl)) ∙ text-length m e c p refl in
+    omega (arith, t, joined-length m e cs, length-append (cellText m e c) (joined m e cs))
