@@ -10,9 +10,9 @@ use lib.ListN.{length, take, drop, length-append, length-take}
 use lib.Seq.{length-take-le}
 use borrow.Author.Tests.{lt-ltb, le-ltb, ltb-true, ltb-false}
 use Rattle.buffer.specs.Place.{part}
-use Rattle.chars.specs.Chars.{textWidth}
+use Rattle.chars.specs.Chars.{chars, textWidth}
 use Rattle.chars.specs.Cut.{truncateEndPos, truncateEndWidth}
-use Rattle.chars.proofs.CutLaws.{kept-end}
+use Rattle.chars.proofs.CutLaws.{kept-within, kept-end}
 use Rattle.chars.proofs.FitLaws.{two-cuts, fits-whole, reaches-end, passes-max}
 use Rattle.recording.specs.Recording.{Bytes}
 use Rattle.truncate_plan.specs.declared.Plan.{Plan}
@@ -25,16 +25,22 @@ use Rattle.cells.specs.Cells.{bare, partsFrom, cutting, cellText, cellWi
 use Rattle.cells.specs.Measured.{markOf, planWith, lengthWith}
 
 -- ── the ellipsis
-pub measured : (m w room pos width : ℕ) (e : Bytes) → w ≡ textWidth e → room ≡ m - w → pos ≡ truncateEndPos m e → width ≡ truncateEndWidth m e → width ≤ m
+pub within-max : (m : ℕ) (s : Bytes) → truncateEndWidth m s ≤ m
+unfolding truncateEndWidth
+within-max m s = kept-within m (chars s)
+
+-- what is kept of it fits beside the room: if it is cut, it leaves none
+pub mark-fits : (m : ℕ) (e : Bytes) → (m - textWidth e) + truncateEndWidth m e ≤ m
+mark-fits m e = go (ltb m (textWidth e)) refl
+  where
+    go : (t : Bool) → ltb m (textWidth e) ≡ t → (m - textWidth e) + truncateEndWidth m e ≤ m
+    go true z = omega (arith, ltb-true m (textWidth e) z, within-max m e)
+    go false z = let s = ltb-false m (textWidth e) z in omega (arith, s, fits-whole m e s .1)
+
+pub measured : (m w room pos width : ℕ) (e : Bytes) → w ≡ textWidth e → room ≡ m - w → pos ≡ truncateEndPos m e → width ≡ truncateEndWidth m e
     → (record { room = room; kept = pos; width = width } ≡ markOf m e) × (room + width ≤ m)
 unfolding markOf
-measured m w room pos width e a b c d h = (rw (b, a, c, d), go (ltb m w) refl)
-  where
-    go : (t : Bool) → ltb m w ≡ t → room + width ≤ m
-    go true z = omega (arith, b, h, ltb-true m w z)
-    go false z =
-        let s = ltb-false m w z in
-        omega (arith, b, s, d, a, fits-whole m e (omega (arith, a, s)) .1)
+measured m w room pos width e a b c d = (rw (b, a, c, d), omega (arith, a, b, d, mark-fits m e))
 
 -- ── a cell: the first cut, to the room, ends at p; the second, of the rest to what is left of the width, ends q bytes on
 module _ (k : Mark) (m : ℕ) (cell rest : Bytes) (p w q v : ℕ) (fits : k .room + k .width ≤ m) (ep : p ≡ truncateEndPos (k .room) cell) (ew : w ≡ truncateEndWidth (k .room) cell)
@@ -66,23 +72,30 @@ take-kept m s = ap length (kept-end m s)
 pub pos-within : (m : ℕ) (s : Bytes) → truncateEndPos m s ≤ length s
 pos-within m s = omega (arith, take-kept m s, length-take (truncateEndPos m s) s)
 
-by-plan : (m : ℕ) (e cell : Bytes) → length (finishedEnd (planWith (markOf m e) m cell) cell e) ≡ planWith (markOf m e) m cell .content + planWith (markOf m e) m cell .ellipsis
-unfolding finishedEnd planWith markOf
-by-plan m e cell = go (ltb m (textWidth cell))
-  where
-    room : ℕ
-    room = m - textWidth e
+-- a cell is cut or it is not: what is true of both ways, of the bytes and the plan
+module _ (m : ℕ) (e cell : Bytes) where
+  abbrev room : ℕ
+  room = m - textWidth e
 
-    cut : Plan
-    cut = record { cut = true; content = truncateEndPos room cell; ellipsis = truncateEndPos m e; width = truncateEndWidth room cell + truncateEndWidth m e }
+  abbrev cut : Plan
+  cut = record { cut = true; content = truncateEndPos room cell; ellipsis = truncateEndPos m e; width = truncateEndWidth room cell + truncateEndWidth m e }
 
-    whole : Plan
-    whole = record { cut = false; content = length cell; ellipsis = 0; width = textWidth cell }
+  abbrev whole : Plan
+  whole = record { cut = false; content = length cell; ellipsis = 0; width = textWidth cell }
 
-    go : (t : Bool) → length (cond (cond t cut whole .cut) (take (cond t cut whole .content) cell ++ take (cond t cut whole .ellipsis) e) cell)
-        ≡ cond t cut whole .content + cond t cut whole .ellipsis
-    go true = omega (arith, length-append (take (truncateEndPos room cell) cell) (take (truncateEndPos m e) e), take-kept room cell, take-kept m e)
-    go false = omega arith
+  pub each-way : (P : Bytes → Plan → Type 0) → P (take (truncateEndPos room cell) cell ++ take (truncateEndPos m e) e) cut → P cell whole
+      → P (finishedEnd (planWith (markOf m e) m cell) cell e) (planWith (markOf m e) m cell)
+  unfolding finishedEnd planWith markOf
+  each-way P a b = go (ltb m (textWidth cell))
+    where
+      go : (t : Bool) → P (cond (cond t cut whole .cut) (take (cond t cut whole .content) cell ++ take (cond t cut whole .ellipsis) e) cell) (cond t cut whole)
+      go true = a
+      go false = b
+
+  by-plan : length (finishedEnd (planWith (markOf m e) m cell) cell e) ≡ planWith (markOf m e) m cell .content + planWith (markOf m e) m cell .ellipsis
+  by-plan =
+      each-way (λ t p. length t ≡ p .content + p .ellipsis)
+      (omega (arith, length-append (take (truncateEndPos room cell) cell) (take (truncateEndPos m e) e), take-kept room cell, take-kept m e)) (omega arith)
 
 module _ (m : ℕ) (e cell : Bytes) (p : Plan) (q : p ≡ planWith (markOf m e) m cell) where
   pub text-is : finishedEnd p cell e ≡ cellText m e cell

@@ -24,7 +24,7 @@ returns c =
     let w = c .before .before .text-width in
     let l = c .before .less in
     let k = c .truncate-end-pos in
-    let x = measured (a .max) (w .result) (l .result) (k .result .pos) (k .result .width) (a .ellipsis .now) (w .ensures .0) (l .ensures) (k .ensures .0 .0) (k .ensures .0 .1) (k .ensures .1 .1) in
+    let x = measured (a .max) (w .result) (l .result) (k .result .pos) (k .result .width) (a .ellipsis .now) (w .ensures .0) (l .ensures) (k .ensures .0 .0) (k .ensures .0 .1) in
     (x .0, (k .ensures .1 .0, x .1))
 
 pub measure-ellipsis-spec : {M : Type 1} → statement M
