@@ -3,8 +3,9 @@ use native.Mathlib.Omega.{arith}
 use borrow.Author.Needs.{needs}
 use mathlib.Core.Path.{_∙_, sym}
 use Prim.Native.Nat.{_-_}
-use Rattle.elide.proofs.ElideLaws.{fits-whole, reaches-end, passes-max}
-use Rattle.elide.proofs.PartLaws.{two-cuts, end-uncut, end-alone, end-both}
+use borrow.Rule.Slice.PartAt.{part-to-end}
+use Rattle.chars.proofs.FitLaws.{two-cuts, fits-whole, reaches-end, passes-max}
+use Rattle.elide.proofs.PartLaws.{end-uncut, end-alone, end-both}
 use Rattle.elide.proofs.pieces_end.Statement.{statement}
 use Rattle.elide.proofs.pieces_end.Tie as tie
 use Rattle.elide.proofs.pieces_end.Reads as reads
@@ -69,8 +70,8 @@ returns-3 c =
     let k = m .before .before .before .truncate-end-pos3 in
     let x = m .before .before .before .before .before .before .before .before .args in
     let r = m .truncate-end-pos4 in
-    let both = two-cuts _ (x .max) (x .text .now) (k .result .pos) (k .result .width) (r .result .pos) (r .result .width) (omega arith) (k .ensures .0 .0) (k .ensures .0 .1)
-    (r .ensures .0 .0) (r .ensures .0 .1) in
+    let both = two-cuts _ (x .max) (x .text .now) _ (k .result .pos) (k .result .width) (r .result .pos) (r .result .width) (omega arith) (k .ensures .0 .0) (k .ensures .0 .1)
+    (part-to-end (x .text .now) (k .result .pos)) (r .ensures .0 .0) (r .ensures .0 .1) in
     let fits = reaches-end (x .max) (x .text .now) (sym (both .0) ∙ c .before .before .if3 .taken) in
     let l = end-uncut (x .max) (x .text .now) (x .ellipsis .now) fits in
     ((l .0, both .1 ∙ fits-whole (x .max) (x .text .now) fits .1 ∙ l .1), (omega arith, omega arith, omega arith, omega arith))
@@ -85,8 +86,8 @@ returns-4 c =
     let x = m .before .before .before .before .before .before .before .before .args in
     let r = m .truncate-end-pos4 in
     let w = m .before .before .before .before .before .text-width .ensures .0 in
-    let both = two-cuts _ (x .max) (x .text .now) (k .result .pos) (k .result .width) (r .result .pos) (r .result .width) (omega arith) (k .ensures .0 .0) (k .ensures .0 .1)
-    (r .ensures .0 .0) (r .ensures .0 .1) in
+    let both = two-cuts _ (x .max) (x .text .now) _ (k .result .pos) (k .result .width) (r .result .pos) (r .result .width) (omega arith) (k .ensures .0 .0) (k .ensures .0 .1)
+    (part-to-end (x .text .now) (k .result .pos)) (r .ensures .0 .0) (r .ensures .0 .1) in
     let over = passes-max (x .max) (x .text .now) (λ e. c .before .if3 .left (both .0 ∙ e)) in
     let l = rw (← w) at (end-both (x .max) (x .text .now) (x .ellipsis .now) over (omega (arith, w, m .before .before .before .before .if1 .left))) in
     ((rw (← k .ensures .0 .0) at (l .0), rw (← k .ensures .0 .1) at (l .1)), (omega arith, k .ensures .1 .0, omega arith, omega arith))
