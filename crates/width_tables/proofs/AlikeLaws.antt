@@ -10,11 +10,13 @@ use Rattle.chars.specs.Chars.{Character, bytesOf, widthOf}
 use Rattle.chars.specs.Cut.{keptWithin, leadingZeroWidth}
 use Rattle.recording.specs.Lists.{AllOf}
 use Rattle.recording.specs.Recording.{Bytes, Recording}
+use Rattle.recording.specs.Recording as R
 use Rattle.recording.specs.Outcome.{Room}
 use Rattle.layout.specs.Wrap.{ByteWord, Word, splitLines, byteWords, splitWordsAtWidth, firstFit, Line, lineBytes}
 use Rattle.layout.specs.Layout.{Job, withSecond, alone, writeWrapped, writeReplaced, writeTabsExpanded, Call}
 use Rattle.layout.specs.Layout.{writeTruncatedStart, writeTruncatedEnd, writePaddedStart, writePaddedEnd, writePaddedCentered, writeIndented, writeUnindented}
 use Rattle.layout.proofs.TwiceLaws.{join-lines, cuts}
+use Rattle.cells.specs.Cells.{bare, parts, cutting}
 use Rattle.elide.specs.Elide.{cutAtStart, fitAtStart}
 use Rattle.elide.proofs.ElideLaws.{cut-start, fit-start}
 use Rattle.sheet.specs.Sheet.{SheetLine, sheetLines, valueFrom, breakOf, dataOf, widthField, breakField, dataField, goodLine}
@@ -160,6 +162,28 @@ module _ (t u : List Range) where
   pub wrap-bytes : (w : ℕ) (b : Bool) (d : Bytes) (room : ℕ) → Alike d → By.wrapBytesOutcome (charsBy t) w b d room ≡ By.wrapBytesOutcome (charsBy u) w b d room
   unfolding By.wrapBytesOutcome
   wrap-bytes w b d room h = rw (listed w b d h, wrap w b d h)
+
+  -- ── a page of cells
+  cell-text : (m : ℕ) (e c : Bytes) → Alike e → Alike c → By.cellText (charsBy t) m e c ≡ By.cellText (charsBy u) m e c
+  unfolding By.cellText
+  cell-text m e c g h = ap R.dataOf (same-items (cutting m e) (bare c) (h, g, tt))
+
+  cell-width : (m : ℕ) (e c : Bytes) → Alike e → Alike c → By.cellWidth (charsBy t) m e c ≡ By.cellWidth (charsBy u) m e c
+  unfolding By.cellWidth
+  cell-width m e c g h = same-number (cutting m e) (bare c) (h, g, tt)
+
+  same-joined : (m : ℕ) (e : Bytes) (cs : List Bytes) → Alike e → AllOf Alike cs → By.joined (charsBy t) m e cs ≡ By.joined (charsBy u) m e cs
+  same-joined m e [] g h = refl
+  same-joined m e (c ∷ cs) g h = rw (cell-text m e c g (h .0), same-joined m e cs g (h .1))
+
+  cell-numbers : (m : ℕ) (e : Bytes) (at : ℕ) (cs : List Bytes) → Alike e → AllOf Alike cs → By.cellNumbers (charsBy t) m e at cs ≡ By.cellNumbers (charsBy u) m e at cs
+  cell-numbers m e at [] g h = refl
+  cell-numbers m e at (c ∷ cs) g h =
+      rw (cell-text m e c g (h .0), cell-width m e c g (h .0), cell-numbers m e (at + length (By.cellText (charsBy u) m e c)) cs g (h .1))
+
+  pub cells : (m : ℕ) (ends : List ℕ) (e d : Bytes) (o : Room) → Alike e → AllOf Alike (parts ends d) → By.cellsOutcome (charsBy t) m ends e d o ≡ By.cellsOutcome (charsBy u) m ends e d o
+  unfolding By.cellsOutcome By.cellsResult
+  cells m ends e d o g h = rw (same-joined m e (parts ends d) g h, cell-numbers m e 0 (parts ends d) g h)
 
   -- ── plain text
   pub trim : (s : Bytes) → Alike s → By.trimmed (charsBy t) s ≡ By.trimmed (charsBy u) s

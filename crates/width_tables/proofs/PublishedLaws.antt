@@ -2,11 +2,12 @@
 -- The idea: they are the same text, so unfolded they are the same; those that go along a list by induction.
 use Prim.Native.Nat.{ℕ, suc, _+_}
 use mathlib.Core.Bool.{Bool}
-use mathlib.Core.Path.{_≡_, refl}
+use mathlib.Core.Path.{_≡_, refl, ap}
 use mathlib.Core.List.{List, [], _∷_}
 use lib.ListN.{length}
 use Rattle.chars.specs.Chars.{chars, textWidth}
 use Rattle.chars.specs.Cut.{truncateEndPos, truncateEndWidth, truncateStartPos, truncateStartWidth, zeroWidthLen}
+use Rattle.recording.specs.Recording as R
 use Rattle.recording.specs.Recording.{Bytes, Recording}
 use Rattle.recording.specs.Outcome.{Room}
 use Rattle.layout.specs.Wrap.{ByteWord, splitLines, byteWords, wordsOf, Line, lineNumbers, wrappedLine, linesFrom, wrapLines}
@@ -14,6 +15,7 @@ use Rattle.layout.specs.Layout.{trimmedStartPos, fillCount, Job, withSecond, al
 use Rattle.layout.specs.Layout.{writeTruncatedStart, writeTruncatedEnd, writePaddedStart, writePaddedEnd, writePaddedCentered, writeIndented, writeUnindented}
 use Rattle.view.specs.View.{hidden, floorItems, floorOutcome}
 use Rattle.wrap_lines.specs.WrapBytes.{wrapBytesOutcome}
+use Rattle.cells.specs.Cells.{bare, parts, cutting, cellText, cellWidth, joined, cellNumbers, cellsResult, cellsOutcome}
 use Rattle.elide.specs.Elide.{trimmed, elideEnd, elideStart, elideEndOutcome, elideStartOutcome}
 use Rattle.sheet.specs.Sheet.{SheetLine, sheetLines}
 use Rattle.rows.specs.Rows.{lineRows, rowsOf, rowsFrom, body, output}
@@ -109,11 +111,33 @@ pub floor : (l : Bytes) (o : Room) (r : Recording) → floorOutcome l o r ≡ By
 unfolding floorOutcome By.floorOutcome floorItems By.floorItems hidden By.hidden
 floor l o r = refl
 
--- ── `wrap_bytes`, plain text
+-- ── `wrap_bytes`
 pub wrap-bytes : (w : ℕ) (b : Bool) (d : Bytes) (room : ℕ) → wrapBytesOutcome w b d room ≡ By.wrapBytesOutcome chars w b d room
 unfolding wrapBytesOutcome By.wrapBytesOutcome
 wrap-bytes w b d room = rw (wrap w b d, same-numbers d (By.wrapLines chars w b d))
 
+-- ── a page of cells
+cell-text : (m : ℕ) (e c : Bytes) → cellText m e c ≡ By.cellText chars m e c
+unfolding cellText By.cellText
+cell-text m e c = ap R.dataOf (same-items (cutting m e) (bare c))
+
+cell-width : (m : ℕ) (e c : Bytes) → cellWidth m e c ≡ By.cellWidth chars m e c
+unfolding cellWidth By.cellWidth
+cell-width m e c = same-number (cutting m e) (bare c)
+
+same-joined : (m : ℕ) (e : Bytes) (cs : List Bytes) → joined m e cs ≡ By.joined chars m e cs
+same-joined m e [] = refl
+same-joined m e (c ∷ cs) = rw (cell-text m e c, same-joined m e cs)
+
+cell-numbers : (m : ℕ) (e : Bytes) (at : ℕ) (cs : List Bytes) → cellNumbers m e at cs ≡ By.cellNumbers chars m e at cs
+cell-numbers m e at [] = refl
+cell-numbers m e at (c ∷ cs) = rw (cell-text m e c, cell-width m e c, cell-numbers m e (at + length (By.cellText chars m e c)) cs)
+
+pub cells : (m : ℕ) (ends : List ℕ) (e d : Bytes) (o : Room) → cellsOutcome m ends e d o ≡ By.cellsOutcome chars m ends e d o
+unfolding cellsOutcome By.cellsOutcome cellsResult By.cellsResult
+cells m ends e d o = rw (same-joined m e (parts ends d), cell-numbers m e 0 (parts ends d))
+
+-- ── plain text
 pub elide-end : (n : ℕ) (s e : Bytes) (m : ℕ) → elideEndOutcome n s e m ≡ By.elideEndOutcome chars n s e m
 unfolding elideEndOutcome By.elideEndOutcome elideEnd By.elideEnd textWidth By.textWidth
 elide-end n s e m = refl

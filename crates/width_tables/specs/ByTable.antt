@@ -10,6 +10,7 @@ use Rattle.chars.specs.Chars.{Character, chars, bytesOf, widthOf}
 use Rattle.chars.specs.Cut.{keptWithin, leadingZeroWidth}
 use Rattle.recording.specs.Lists.{same}
 use Rattle.recording.specs.Recording.{Bytes, Recording, Item, items, encode}
+use Rattle.recording.specs.Recording as R
 use Rattle.recording.specs.Coloured.{coloured}
 use Rattle.recording.specs.Edit.{Op, edit}
 use Rattle.recording.specs.Outcome.{Room, Result, Outcome, settle, noRecording, lineRoom}
@@ -21,6 +22,7 @@ use Rattle.layout.specs.Layout.{cutEnd, cutStart, padding, indentOps, wrapOps, 
 use Rattle.layout.specs.Layout.{writeTruncatedStart, writeTruncatedEnd, writePaddedStart, writePaddedEnd, writePaddedCentered, writeIndented, writeUnindented}
 use Rattle.view.specs.View.{hiddenFrom, floorOps, dropRaws, viewFaults}
 use Rattle.wrap_lines.specs.WrapBytes.{wrapFaults}
+use Rattle.cells.specs.Cells.{bare, parts, cutting, cellsFaults}
 use Rattle.elide.specs.Elide.{cutAtEnd, cutAtStart, fitAtEnd, fitAtStart, Elided, elided, plainResult, plainRoom, plainFaults}
 use Rattle.sheet.specs.Sheet.{SheetLine, sheetLines, valueFrom, breakOf, dataOf, widthField, breakField, dataField, goodLine}
 use Rattle.rows.specs.Rows.{rowText, badRow, sheetHeading, rowsHeading, sheetLimit}
@@ -158,6 +160,27 @@ module _ (chars : Bytes → List Character) where
 
   unfoldable pub wrapBytesOutcome : ℕ → Bool → Bytes → ℕ → Outcome
   wrapBytesOutcome w b d room = settle (wrapFaults d) (lineRoom room) (wrapResult w b d)
+
+  -- ── cells
+  unfoldable pub cellText : ℕ → Bytes → Bytes → Bytes
+  cellText m e cell = R.dataOf (resultItems (cutting m e) (bare cell))
+
+  unfoldable pub cellWidth : ℕ → Bytes → Bytes → ℕ
+  cellWidth m e cell = number (cutting m e) (bare cell)
+
+  abbrev pub joined : ℕ → Bytes → List Bytes → Bytes
+  joined m e [] = []
+  joined m e (cell ∷ cells) = cellText m e cell ++ joined m e cells
+
+  abbrev pub cellNumbers : ℕ → Bytes → ℕ → List Bytes → List ℕ
+  cellNumbers m e at [] = []
+  cellNumbers m e at (cell ∷ cells) = (at + length (cellText m e cell)) ∷ cellWidth m e cell ∷ cellNumbers m e (at + length (cellText m e cell)) cells
+
+  unfoldable pub cellsResult : ℕ → List ℕ → Bytes → Bytes → Result
+  cellsResult m ends e d = record { recording = bare (joined m e (parts ends d)); lines = cellNumbers m e 0 (parts ends d); number = length ends }
+
+  unfoldable pub cellsOutcome : ℕ → List ℕ → Bytes → Bytes → Room → Outcome
+  cellsOutcome m ends e d o = settle (cellsFaults ends e d) o (cellsResult m ends e d)
 
   -- ── elide
   unfoldable pub trimmed : Bytes → Bytes

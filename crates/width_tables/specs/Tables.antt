@@ -16,6 +16,7 @@ use Rattle.layout.specs.Layout.{Job, withSecond, alone, writeWrapped, writeRepl
 use Rattle.layout.specs.Lent.{callIn, Leaves}
 use Rattle.view.specs.View.{floorOutcome}
 use Rattle.wrap_lines.specs.WrapBytes.{wrapBytesOutcome}
+use Rattle.cells.specs.Cells.{parts, cellsOutcome}
 use Rattle.elide.specs.Elide.{trimmed, lent, elideEndOutcome, elideStartOutcome}
 use Rattle.sheet.specs.Sheet.{SheetLine, sheetLines, dataOf, dataField, goodLine}
 use Rattle.rows.specs.Rows.{output}
@@ -30,6 +31,8 @@ pub record Answers : Type 0 where
   pub floor : Bytes → Room → Recording → Outcome
   -- `wrap_bytes`: width, breaking, data, length of the line list
   pub wrapBytes : ℕ → Bool → Bytes → ℕ → Outcome
+  -- a page of cells: width, part ends, ellipsis, data, lengths of the lent buffers
+  pub cells : ℕ → List ℕ → Bytes → Bytes → Room → Outcome
   -- plain text: length of the lent buffer, text, ellipsis, width; `complete_newline` asks no width
   pub elideEnd : ℕ → Bytes → Bytes → ℕ → Outcome
   pub elideStart : ℕ → Bytes → Bytes → ℕ → Outcome
@@ -50,6 +53,7 @@ library = record {
   layout = outcome;
   floor = floorOutcome;
   wrapBytes = wrapBytesOutcome;
+  cells = cellsOutcome;
   elideEnd = elideEndOutcome;
   elideStart = elideStartOutcome;
   width = textWidth;
@@ -68,6 +72,7 @@ byTable t = record {
   layout = By.outcome (charsBy t);
   floor = By.floorOutcome (charsBy t);
   wrapBytes = By.wrapBytesOutcome (charsBy t);
+  cells = By.cellsOutcome (charsBy t);
   elideEnd = By.elideEndOutcome (charsBy t);
   elideStart = By.elideStartOutcome (charsBy t);
   width = By.textWidth (charsBy t);
@@ -100,6 +105,8 @@ pub record SameOn (Ok : List Bytes → Type 0) (a b : Answers) : Type 0 where
   pub layout : (c : Call) (r : Recording) → Ok (lentTo (c .job) r) → a .layout c r ≡ b .layout c r
   pub floor : (l : Bytes) (o : Room) (r : Recording) → Ok (r .dataBytes ∷ []) → a .floor l o r ≡ b .floor l o r
   pub wrapBytes : (w : ℕ) (t : Bool) (d : Bytes) (room : ℕ) → Ok (d ∷ []) → a .wrapBytes w t d room ≡ b .wrapBytes w t d room
+  -- each cell is a text by itself
+  pub cells : (m : ℕ) (ends : List ℕ) (e d : Bytes) (o : Room) → Ok (e ∷ parts ends d) → a .cells m ends e d o ≡ b .cells m ends e d o
   pub elideEnd : (room : ℕ) (s e : Bytes) (m : ℕ) → Ok (s ∷ e ∷ []) → a .elideEnd room s e m ≡ b .elideEnd room s e m
   pub elideStart : (room : ℕ) (s e : Bytes) (m : ℕ) → Ok (s ∷ e ∷ []) → a .elideStart room s e m ≡ b .elideStart room s e m
   pub width : (d : Bytes) → Ok (d ∷ []) → a .width d ≡ b .width d
@@ -144,6 +151,8 @@ pub record AnsweredBy (b : Answers) (Ok : List Bytes → Type 0) : Type 0 where
       → Promised (b .floor l (roomIn old) r) old new x
   pub wrapBytes : (w : ℕ) (t : Bool) (d old new : List ℕ) (x : Answer) → Ok (d ∷ []) → Promised (wrapBytesOutcome w t d (length old)) (lentLines old) (lentLines new) x
       → Promised (b .wrapBytes w t d (length old)) (lentLines old) (lentLines new) x
+  pub cells : (m : ℕ) (ends : List ℕ) (e d : Bytes) (old new : Lent) (x : Answer) → Ok (e ∷ parts ends d) → Promised (cellsOutcome m ends e d (roomIn old)) old new x
+      → Promised (b .cells m ends e d (roomIn old)) old new x
   pub elideEnd : (s e old new : Bytes) (m : ℕ) (x : Answer) → Ok (s ∷ e ∷ []) → Promised (elideEndOutcome (length old) s e m) (lent old) (lent new) x
       → Promised (b .elideEnd (length old) s e m) (lent old) (lent new) x
   pub elideStart : (s e old new : Bytes) (m : ℕ) (x : Answer) → Ok (s ∷ e ∷ []) → Promised (elideStartOutcome (length old) s e m) (lent old) (lent new) x
