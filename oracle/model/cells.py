@@ -32,6 +32,7 @@ PAGES = [
     ("content and ellipsis make one: the sum of what is kept", (b"\xC3ab", (3,), b"\xA9", 2), b"\xC3\xA9", (2, 2)),
     ("an ill-formed ellipsis", (b"abc", (3,), b"\xE6\x9C\xFF", 2), b"\xE6\x9C\xFF", (3, 2)),
     ("the largest width", (b"spruce", (3, 6), b"..", LARGEST), b"spruce", (3, 3, 6, 3)),
+    ("a width whose lower bits are 0", (b"spruce", (3, 6), b"..", 2 ** 31), b"spruce", (3, 3, 6, 3)),
     ("64 cells", (b"ab" * 64, tuple(range(2, 130, 2)), b".", 1), b"." * 64, tuple(n for k in range(1, 65) for n in (k, 1))),
 ]
 # A page whose joined result is at the limit: each of 64 cells gives way to the ellipsis.
@@ -108,7 +109,7 @@ def cell(pick):
     return random_calls.text(pick, 4)
 
 
-def count(pick):
+def how_many(pick):
     """Few cells mostly; some pages have as many as a page may, or more."""
     way = pick.random()
     return int(pick.random() * 6) if way < 0.9 else int(pick.random() * 30) if way < 0.95 else pick.choice((63, 64, 64, 64, 65, 65, 66, 127, 128, 129, 200))
@@ -147,8 +148,11 @@ def ellipsis(pick):
 
 
 def width(pick, parts):
-    """About as wide as a cell often."""
-    if parts and pick.random() < 0.5:
+    """About as wide as a cell often; a few are large, with lower bits that are a small number."""
+    way = pick.random()
+    if way < 0.01:
+        return pick.choice((2 ** 16, 2 ** 31)) + int(pick.random() * 4)
+    if parts and way < 0.5:
         return max(text_width(pick.choice(parts)) + pick.choice((-3, -2, -1, -1, 0, 0, 1)), 0)
     return random_calls.width(pick)
 
@@ -177,7 +181,7 @@ def page(pick, long=0.0003):
     """Data, part ends, ellipsis and width; of some the ends are no ends of the data."""
     if pick.random() < long:
         return long_page(pick)
-    parts = [cell(pick) for _ in range(count(pick))]
+    parts = [cell(pick) for _ in range(how_many(pick))]
     data, ends = b"".join(parts), ends_of(pick, parts)
     if pick.random() < 0.04:
         data += pick.choice((b"a", TREE, b"\xA8"))
