@@ -1,9 +1,10 @@
 """The model's own tests: document 01's cases C1 to C16, with document 02's widths of lines, tab stops, indent taken off, pictures, two readers and line
 index; its reading of UTF-8 against Python's decoder; and laws, on random inputs (those of the two readers are in `views.py`, of the line index in
-`indexes.py`, of shared label texts in `sharing.py`)."""
+`indexes.py`, of shared label texts in `sharing.py`, of pages of cells in `cells.py`)."""
 import random
 from contextlib import contextmanager
 
+import cells
 import indexes
 import lists
 import random_calls
@@ -410,6 +411,8 @@ def any_call(pick):
         return (name, *inputs), (0, 0, 0, held)
     if name in QUESTIONS:
         return (name, *indexes.ASKED[name](pick, name)), ()
+    if name == cells.NAME:
+        return (name, *cells.page(pick, long=0)), room
     if name in ("truncate_end_pos", "truncate_start_pos"):
         return (name, text, random_calls.width(pick)), room
     if name == "wrap_bytes":

@@ -633,6 +633,25 @@ def place_of(data, offset):
     return len(lines_before), len(line)
 
 
+# ── Document 02, Q-9: a whole page of cells in one call
+
+MOST_CELLS = 64
+
+
+def cells_of(data, ends):
+    """The parts between neighbouring ends; the first begins at 0."""
+    return [data[start:end] for start, end in zip((0, *ends), ends)]
+
+
+def write_truncated_cells(cells, ellipsis, max_width, out):
+    """Each cell is cut at its end by itself, one after another, and what is left of them is joined: each one's end in that, and its width."""
+    listed = []
+    for cell in cells:
+        width = write_truncated_end(recording(cell), recording(ellipsis), max_width, out)
+        listed.append((out.length, width))
+    return listed
+
+
 # ── Refusals
 
 class Refused(Exception):
@@ -678,6 +697,12 @@ def check_plain(*texts):
     refuse_if(not all(map(well_formed, texts)), 7)
 
 
+def check_ends(ends, data_length):
+    """Over 64 cells, part ends that fall, or a last end, 0 without cells, that is not the data's length."""
+    falls = any(end < former for former, end in zip(ends, ends[1:]))
+    refuse_if(len(ends) > MOST_CELLS or falls or (0, *ends)[-1] != data_length, 38)
+
+
 # ── The calls: refusals in their order, then the answer and the buffers
 
 def overwrite(buffer, new):
@@ -686,7 +711,8 @@ def overwrite(buffer, new):
 
 
 def settle(out, number, lines, buffers):
-    """9, then 21 to 24, then the answer and what the buffers hold. The line list takes three numbers a line. A result's text is what is stored: of equal labels one."""
+    """9, then 21 to 24, then the answer and what the buffers hold. The line list takes three numbers a line, a list of cells two each. A result's text is what is stored: of equal
+    labels one."""
     data, numbers, text, line_list = buffers
     starts, stored = out.parts()
     text_length = sum(map(len, stored))
@@ -788,6 +814,16 @@ def question(answer, is_there):
     return run
 
 
+def cells_call(data, ends, ellipsis, max_width, buffers):
+    """38 follows the checks of content and ellipsis, which have no entries. The list takes two numbers a cell, and the number is the count of cells."""
+    for text in (data, ellipsis):
+        refuse_if(len(text) > DATA_LIMIT, 1)
+    check_ends(ends, len(data))
+    out = Result()
+    listed = write_truncated_cells(cells_of(data, ends), ellipsis, max_width, out)
+    return settle(out, len(listed), listed, buffers)
+
+
 def plain_call(work):
     def run(*inputs, buffers):
         check_plain(*[t for t in inputs if isinstance(t, bytes)])
@@ -845,6 +881,7 @@ CALLS = {
     "write_for_floor": view_call(write_for_floor),
     "build_line_index": build_index_call,
     "extend_line_index": extend_index_call,
+    "write_truncated_cells": cells_call,
     "elide_start": plain_call(elide_start),
     "elide_end": plain_call(elide_end),
     "complete_newline": plain_call(lambda text: (complete_newline(text), 0)),
@@ -882,7 +919,7 @@ def call(name, *inputs, room=()):
 
     `room` gives the buffers before, in the same order, each by its length (then every byte is A5) or by its members; those left out have no places.
     A recording is `recording(data, numbers, text)`. The adding calls take how much of the three buffers is used, and the bytes to add.
-    A line index that is written is the last buffer; for a question, whose answer has three numbers, it is an input.
+    A line index that is written is the last buffer, and so is a list of cells; for a question, whose answer has three numbers, the index is an input.
     """
     if name in TEXT_CALLS:
         results = tuple(TEXT_CALLS[name](*inputs))

@@ -11,9 +11,11 @@ import ruszvedok_model as model
 NAMES = ("text_width well_formed truncate_end_pos truncate_start_pos zero_width_len replay write_truncated_start write_truncated_end write_padded_start write_padded_end "
          "write_padded_centered write_indented wrap_bytes write_wrapped write_replaced elide_start elide_end complete_newline write push_label pop_label raw "
          "char_width read_char trim_start_zero_width_chars write_tabs_expanded write_unindented write_for_office write_for_floor "
-         "build_line_index extend_line_index line_at place_of").split()
+         "build_line_index extend_line_index line_at place_of write_truncated_cells").split()
 KEYS = ("data entries text second second_entries second_text records new added used width break code answer out out_entries out_text lines characters "
         "label index at").split()
+# How many numbers a line or a cell has in the list that is lent, where these are not three.
+NUMBERS_OF = {"build_line_index": 1, "extend_line_index": 1, "write_truncated_cells": 2}
 WORDS = {"push": 0, "pop": 1, "raw": 2}
 ESCAPES = {"n": 0x0A, "t": 0x09}
 FIELD = re.compile(r'(?:[^ "]|"[^"]*")+')
@@ -161,6 +163,8 @@ class Line:
             return self.content(), self.number("at"), self.number("used")
         if name in model.QUESTIONS:
             return self.content(), self.numbers("index"), self.number("at")
+        if name == "write_truncated_cells":
+            return data, self.numbers("index"), self.bytes("second"), width
         if name in ("write_indented", "write_unindented"):
             return self.content(), self.second()
         if name.startswith(("write_truncated", "write_padded")):
@@ -197,7 +201,7 @@ class Line:
 
     def filled_in(self):
         """The line with what the model expects, in place of what it has; a call that adds lends its content's buffers."""
-        (answer, (data, entries, text, lines)), of_line = self.expected(), 1 if self.name in ("build_line_index", "extend_line_index") else 3
+        (answer, (data, entries, text, lines)), of_line = self.expected(), NUMBERS_OF.get(self.name, 3)
         while len(answer) > 1 and answer[-1] == 0:
             answer = answer[:-1]
         expected = {

@@ -30,6 +30,7 @@ use capi::ruszvedok_write_padded_end;
 use capi::ruszvedok_write_padded_start;
 use capi::ruszvedok_write_replaced;
 use capi::ruszvedok_write_tabs_expanded;
+use capi::ruszvedok_write_truncated_cells;
 use capi::ruszvedok_write_truncated_end;
 use capi::ruszvedok_write_truncated_start;
 use capi::ruszvedok_write_unindented;
@@ -47,9 +48,9 @@ ghost use lib.ListN.{length};
 ghost use Rattle.chars.specs.Leads.{leadTable};
 
 // How many calls there are in the table of names in `main`, and how many rows are printed: one more, of the lines that are wrong on purpose.
-const CALLS: usize = 33;
+const CALLS: usize = 34;
 
-const ROWS: usize = 34;
+const ROWS: usize = 35;
 
 // What stands for a word that is no number.
 const NONE: u64 = 18446744073709551615;
@@ -1292,6 +1293,38 @@ fn plain_agrees(line: &[u8], call: usize, content: &[u8], second: &[u8]) -> bool
     plain_arrays_agree(line, &res, &bytes, &lines)
 }
 
+// A page of cells. `ends` are the part ends.
+fn cells_call(
+    content: &[u8],
+    ends: &[u32],
+    ellipsis: &[u8],
+    width: u32,
+    bytes: &mut [u8],
+    cells: &mut [u32],
+    res: &mut [u64; 5],
+) {
+    ruszvedok_write_truncated_cells(content, ends, ellipsis, width, bytes, cells, res);
+}
+
+fn cells_agree(line: &[u8], content: &[u8], ends: &[u32], ellipsis: &[u8]) -> bool {
+    let mut bytes: [u8; 10016] = [0xA5; 10016];
+    let mut cells: [u32; 264] = [0xA5A5A5A5; 264];
+    let mut res: [u64; 5] = [0xA5; 5];
+    let q = wanted(line);
+    let a = q.bytes;
+    let d = q.lines;
+    cells_call(
+        content,
+        ends,
+        ellipsis,
+        q.width,
+        &mut bytes[0..a],
+        &mut cells[0..d],
+        &mut res,
+    );
+    plain_arrays_agree(line, &res, &bytes, &cells)
+}
+
 fn adding_call(
     call: usize,
     content: &mut [u8],
@@ -1458,6 +1491,16 @@ fn plain_line_agrees(line: &[u8], call: usize) -> bool {
     plain_agrees(line, call, &content[0..d], &second[0..e])
 }
 
+fn cells_line_agrees(line: &[u8]) -> bool {
+    let mut content = data_buffer();
+    let mut ellipsis = data_buffer();
+    let mut ends: [u32; 264] = [0; 264];
+    let d = bytes_in(line, DATA, &mut content);
+    let e = bytes_in(line, SECOND, &mut ellipsis);
+    let n = numbers_in(line, INDEX, &mut ends);
+    cells_agree(line, &content[0..d], &ends[0..n], &ellipsis[0..e])
+}
+
 fn layout_line_agrees(line: &[u8], call: usize) -> bool {
     let mut content = data_buffer();
     let mut entries: [u32; 16400] = [0; 16400];
@@ -1493,6 +1536,7 @@ fn line_agrees(line: &[u8], call: usize) -> bool {
         0..=4 | 22..=24 => text_line_agrees(line, call),
         12 | 15..=17 => plain_line_agrees(line, call),
         18..=21 => adding_line_agrees(line, call),
+        33 => cells_line_agrees(line),
         _ => layout_line_agrees(line, call),
     }
 }
@@ -1635,7 +1679,7 @@ fn main() {
         b"text_width well_formed truncate_end_pos truncate_start_pos zero_width_len replay write_truncated_start write_truncated_end write_padded_start write_padded_end \
         write_padded_centered write_indented wrap_bytes write_wrapped write_replaced elide_start elide_end complete_newline write push_label pop_label raw \
         char_width read_char trim_start_zero_width_chars write_tabs_expanded write_unindented write_for_office write_for_floor \
-        build_line_index extend_line_index line_at place_of wrong",
+        build_line_index extend_line_index line_at place_of write_truncated_cells wrong",
         &list[..n],
     );
 }
