@@ -424,6 +424,7 @@ static void cells(void)
 {
     static const uint32_t ends[] = {2, 6, 8}, wanted[] = {2, 2, 5, 3, 7, 2}, falling[] = {6, 2, 8}, none[RUSZVEDOK_MAX_CELLS + 1] = {0};
     static const uint32_t some_empty[] = {0, 1, 1}, wanted_empty[] = {0, 0, 1, 1, 1, 0}, across[] = {1, 3}, wanted_across[] = {1, 1, 2, 1};
+    static const uint32_t one[] = {6}, wanted_one[] = {3, 3};
     static uint8_t nuls[RUSZVEDOK_MAX_DATA + 1];
     size_t k;
     for (k = 0; k < COUNT(list); k++)
@@ -447,6 +448,9 @@ static void cells(void)
     /* each byte of a character across an end is ill-formed by itself */
     CUT("\xE6\x9C\xA8", across, 2, "~", 1, COUNT(data), COUNT(list));
     celled("a character across an end", "\xE6~", wanted_across, 2);
+    /* the sum of the widths kept, though the bytes left join to a character of width 2 */
+    CUT("\xE6xyzab", one, 1, "\x9C\xA8", 3, COUNT(data), COUNT(list));
+    celled("an ellipsis that ends a character", "\xE6\x9C\xA8", wanted_one, 1);
 
     CUT("ababcdxy", ends, 3, "~", 3, 7, 5);
     turned("cells, list", RUSZVEDOK_LINE_LIST_TOO_SHORT);
@@ -467,8 +471,8 @@ static void cells(void)
     turned("cells, data too long", RUSZVEDOK_DATA_TOO_LONG);
     ruszvedok_write_truncated_cells(BYTES("a"), ends, 3, nuls, sizeof nuls, 3, data, 0, list, 0, res);
     turned("cells, ellipsis too long", RUSZVEDOK_DATA_TOO_LONG);
-    /* a NUL has no width, so all of them come behind the two letters that are left of the second cell */
-    ruszvedok_write_truncated_cells(BYTES("ababcdxy"), ends, 3, nuls, sizeof nuls - 1, 2, data, 0, list, 0, res);
+    /* a NUL has no width, so all of them come behind the two letters that are left of the second cell; over the limit are all together */
+    ruszvedok_write_truncated_cells(BYTES("ababcdxy"), ends, 3, nuls, RUSZVEDOK_MAX_DATA - 3, 2, data, 0, list, 0, res);
     turned("cells, result too long", RUSZVEDOK_RESULT_OVER_LIMIT);
 }
 

@@ -87,7 +87,7 @@ fn agree(cells: &[&[u8]], ellipsis: &[u8], width: u32) {
 
 #[test]
 fn edges() {
-    let pages: [&[&[u8]]; 9] = [
+    let pages: [&[&[u8]]; 10] = [
         &[],
         &[b""],
         &[b"", b"a", b"", b"b", b""],
@@ -96,6 +96,8 @@ fn edges() {
         // A wide character across an end is two ill-formed pieces.
         &[b"ab\xE6", b"\x9C\xA8cd"],
         &[b"\xE6\x9C", b"\xA8"],
+        // What is left of it becomes a character with the ellipsis that ends one.
+        &[b"\xE6xyzab", b"x\xE6yzab"],
         &[b"\xFF\xFE\x80", b"a\xF0\x9F\x98", b"\xC3"],
         &["😀🚚".as_bytes(), b"\n\t ", b"a\r\nb"],
     ];
@@ -130,6 +132,9 @@ fn by_hand() {
         assert_eq!(page.data(), data);
         assert!(page.cells().map(|cell| cell.width).eq(widths));
     }
+    // The width is the sum of the widths kept, though the bytes left join to a character of width 2.
+    let page = TruncatedCells::cut([b"\xE6xyzab"], b"\x9C\xA8", 3).unwrap();
+    assert_eq!((page.data(), page.get(0).map(|cell| cell.width)), ("木".as_bytes(), Some(3)));
     // A width over 32 bits does what the largest does.
     assert_eq!(TruncatedCells::cut(["oak"], "~", usize::MAX).unwrap().data(), b"oak");
     assert_eq!(TruncatedCells::default(), TruncatedCells::cut([""; 0], "~", 3).unwrap());

@@ -154,8 +154,13 @@ fn at_a_limit(numbers: &mut Numbers) -> Page {
 }
 
 fn page(numbers: &mut Numbers) -> Page {
-    if numbers.within(0, 2999) == 0 {
-        return at_a_limit(numbers);
+    if numbers.within(0, 999) == 0 {
+        let mut page = at_a_limit(numbers);
+        // An end that falls: too much data, or too long an ellipsis, comes before it.
+        if numbers.within(0, 1) == 0 {
+            page.ends.insert(0, u32::MAX);
+        }
+        return page;
     }
     let (mut content, mut ends) = cells(numbers);
     let width = match numbers.within(0, 3) {
