@@ -21,6 +21,8 @@ typedef struct row {
     size_t records_len, half, lines;
     uint32_t index[MOST_LINES]; /* where its lines start; how many, and how many of its first nine tenths */
     size_t index_len, index_before;
+    uint32_t ends[RUSZVEDOK_MAX_CELLS]; /* its bytes as cells of one length: 8, or 64 of a long text */
+    size_t cells;
 } row;
 
 /* One of the two sides. */
@@ -67,6 +69,8 @@ ON_ROW(build_line_index, CONTENT, out_lines, t.exact ? r->lines : r->view.data_l
 ON_ROW(extend_line_index, CONTENT, EARLIER(r), (uint32_t *)r->index, t.exact ? r->lines : MOST_LINES, r->index_before, res)
 ON_ROW(line_at, CONTENT, r->index, r->index_len, r->index_len / 2, res)
 ON_ROW(place_of, CONTENT, r->index, r->index_len, r->view.data_len / 2, res)
+ON_ROW(write_truncated_cells, r->view.data, r->view.data_len, r->ends, r->cells, (const uint8_t *)"..", 2, (uint32_t)(r->half / r->cells), out_data,
+    ROOM, out_lines, RUSZVEDOK_CELL_NUMBERS * RUSZVEDOK_MAX_CELLS, res)
 ON_ROW(elide_start, r->view.data, r->view.data_len, (const uint8_t *)"..", 2, (uint32_t)r->half, out_data, ROOM, res)
 ON_ROW(elide_end, r->view.data, r->view.data_len, (const uint8_t *)"..", 2, (uint32_t)r->half, out_data, ROOM, res)
 ON_ROW(complete_newline, r->view.data, r->view.data_len, out_data, ROOM, res)
@@ -83,7 +87,8 @@ static const call calls[] = {
     OF(write_indented, false, false), OF(write_unindented, false, false), OF(wrap_bytes, true, false), OF(write_wrapped, true, false),
     OF(write_replaced, false, false), OF(write_tabs_expanded, false, false), OF(write_for_office, false, false),
     OF(write_for_floor, false, false), OF(build_line_index, true, false), OF(extend_line_index, true, false), OF(line_at, false, false),
-    OF(place_of, false, false), OF(elide_start, false, true), OF(elide_end, false, true), OF(complete_newline, false, true)};
+    OF(place_of, false, false), OF(write_truncated_cells, false, false), OF(elide_start, false, true), OF(elide_end, false, true),
+    OF(complete_newline, false, true)};
 
 static const call *named(const char *name)
 {
@@ -205,6 +210,9 @@ static void fill_row(row *r, uint8_t *data, size_t size, bool broken, size_t cou
             r->index_before += at < EARLIER(r);
             r->index[r->index_len++] = (uint32_t)at + 1;
         }
+    r->cells = size <= SHORT ? 8 : RUSZVEDOK_MAX_CELLS;
+    for (size_t k = 0; k < r->cells; k++)
+        r->ends[k] = (uint32_t)(size * (k + 1) / r->cells);
 }
 
 /* A page full of pushes with so many different labels, which are alike but for their last four bytes. */

@@ -1,11 +1,11 @@
 //! The calls that are timed. A new one is one more line of `CASES`: its name and a function from an input to the two sides. Those of the line
-//! index are `LINE_INDEX_CASES`.
+//! index are `LINE_INDEX_CASES`, those of a page of cells `CELLS_CASES`.
 use std::cell::RefCell;
 use std::hint::black_box;
 use std::io::{Result as Io, Write as _};
 use std::rc::Rc;
 
-use bench::inputs::{Input, LONG_ROWS, Numbers, ROWS, SHORT_ROWS, SIZES, Size, TABBED};
+use bench::inputs::{Input, LONG_ROWS, Numbers, PAGES_OF_8, PAGES_OF_64, ROWS, SHORT_ROWS, SIZES, Size, TABBED};
 use bench::ours::{self, ByByte, ByMemchr, Newlines};
 use bench::recordings::{self, Answer, Left, view};
 use bench::room::Room;
@@ -13,7 +13,7 @@ use bench::timing::Pair;
 use oracle::original::{FormatRecorder, Formatter};
 use oracle::{Entry, Kind, Lists, Recording, original};
 use ruszvedok::Refusal;
-use ruszvedok::lent::{self, LINE_NUMBERS, Place, Replacement, Used, View};
+use ruszvedok::lent::{self, Buffers, CELL_NUMBERS, LINE_NUMBERS, Place, Replacement, Used, View};
 
 pub struct Case {
     pub name: &'static str,
@@ -100,6 +100,24 @@ pub const LINE_INDEX_CASES: &[Case] = line_index_cases! {
     "_lines_16000", &LONG_ROWS, 16_000;
     "_no_newline", &LONG_ROWS, NO_NEWLINE;
     "_all_newlines", &LONG_ROWS, ALL_NEWLINES;
+};
+
+/// Those of a page of so many cells, each with buffers that surely have room and with exact ones, and against a call for each cell.
+macro_rules! cells_cases {
+    ($($of:literal, $sizes:expr, $count:expr, $width:expr;)*) => { &[$(
+        Case { name: concat!("write_truncated_cells", $of), sizes: $sizes, sides: |input| write_truncated_cells(input, $count, $width, false) },
+        Case { name: concat!("write_truncated_cells_exact", $of), sizes: $sizes, sides: |input| write_truncated_cells(input, $count, $width, true) },
+        Case { name: concat!("write_truncated_cells_by_calls", $of), sizes: $sizes, sides: |input| cells_by_calls(input, $count, $width) },
+    )*] };
+}
+
+pub const CELLS_CASES: &[Case] = cells_cases! {
+    "", &PAGES_OF_8, 8, Width::Middle;
+    "_narrow", &PAGES_OF_8, 8, Width::All;
+    "_cut", &PAGES_OF_8, 8, Width::Few;
+    "_64", &PAGES_OF_64, 64, Width::Middle;
+    "_64_narrow", &PAGES_OF_64, 64, Width::All;
+    "_64_cut", &PAGES_OF_64, 64, Width::Few;
 };
 
 fn text_width(input: &Input) -> Result<Pair, String> {
@@ -642,6 +660,122 @@ fn place_of<N: Newlines>(input: &Input, line: usize) -> Result<Pair, String> {
         |row| ours::place_of::<N>(&row.lists, &row.index, row.lists.data.len() / 2),
         |row| lent::place_of(view(&row.lists), &row.index, row.lists.data.len() / 2).map(|at| (at.line, at.column)).map_err(Refusal::number),
     )
+}
+
+/// The width of all cells of a page.
+#[derive(Clone, Copy)]
+enum Width {
+    /// That of the widest cell: none is cut.
+    All,
+    /// That of the cell in the middle: about half of them are cut.
+    Middle,
+    /// A quarter of that: hardly any is not cut.
+    Few,
+}
+
+/// Cells one behind the other, with their ends, and how long their results are.
+struct Page {
+    content: Vec<u8>,
+    ends: Vec<u32>,
+    width: u32,
+    left: usize,
+}
+
+impl Page {
+    /// So many cells of half to one and a half times the same length, none of which ends inside of a character.
+    fn new(text: &[u8], count: usize, width: Width, numbers: &mut Numbers) -> Self {
+        let mean = text.len() / count;
+        let end = |k: usize, numbers: &mut Numbers| {
+            let about = mean * k - mean / 4 + numbers.within(0, mean as u64 / 2) as usize;
+            (0..=about).rev().find(|at| text[*at] & 0xC0 != 0x80).unwrap_or(0) as u32
+        };
+        let ends: Vec<_> = (1..count).map(|k| end(k, numbers)).chain([text.len() as u32]).collect();
+        let mut made = Self { content: text.to_vec(), ends, width: 0, left: 0 };
+        let mut widths: Vec<_> = made.cells().map(|cell| original::text_width(cell) as u32).collect();
+        widths.sort_unstable();
+        made.width = match width {
+            Width::All => widths[count - 1],
+            Width::Middle => widths[count / 2],
+            Width::Few => widths[count / 2] / 4,
+        };
+        made.left = made.by_ours(&mut made.bytes(false), &mut made.list()).unwrap();
+        made
+    }
+
+    fn cells(&self) -> impl Iterator<Item = &[u8]> {
+        let starts = [0].into_iter().chain(self.ends.iter().copied());
+        starts.zip(&self.ends).map(|(start, end)| &self.content[start as usize..*end as usize])
+    }
+
+    /// A buffer that is exactly long enough, or surely.
+    fn bytes(&self, exact: bool) -> Vec<u8> {
+        vec![7; if exact { self.left } else { self.content.len() + self.ends.len() * CELLS_ELLIPSIS.len() }]
+    }
+
+    fn list(&self) -> Vec<u32> {
+        vec![7; self.ends.len() * CELL_NUMBERS]
+    }
+
+    fn by_ours(&self, bytes: &mut [u8], list: &mut [u32]) -> Result<usize, u64> {
+        ours::write_truncated_cells(&self.content, &self.ends, CELLS_ELLIPSIS, self.width, bytes, list)
+    }
+
+    fn by_library(&self, bytes: &mut [u8], list: &mut [u32]) -> Result<usize, u64> {
+        let left = lent::write_truncated_cells(&self.content, &self.ends, CELLS_ELLIPSIS, self.width, bytes, list);
+        left.map(|done| done.used.data).map_err(Refusal::number)
+    }
+
+    /// A call for each cell, which leaves its bytes behind those before it, and its numbers in the list.
+    fn by_calls(&self, bytes: &mut [u8], list: &mut [u32]) -> Result<usize, u64> {
+        let plain = |data| View { data, ..View::default() };
+        let mut at = 0;
+        for (cell, numbers) in self.cells().zip(list.chunks_exact_mut(CELL_NUMBERS)) {
+            let out = Buffers { data: &mut bytes[at..], ..Buffers::default() };
+            let done = lent::write_truncated_end(plain(cell), plain(CELLS_ELLIPSIS), self.width, out).map_err(Refusal::number)?;
+            at += done.used.data;
+            numbers.copy_from_slice(&[at as u32, done.number as u32]);
+        }
+        Ok(at)
+    }
+}
+
+const CELLS_ELLIPSIS: &[u8] = "…".as_bytes();
+
+/// Both sides leave bytes and list in buffers that are lent again and again.
+fn on_page(
+    input: &Input,
+    count: usize,
+    width: Width,
+    exact: bool,
+    one: fn(&Page, &mut [u8], &mut [u32]) -> Result<usize, u64>,
+) -> Result<Pair, String> {
+    type Lent = RefCell<(Vec<u8>, Vec<u32>)>;
+    let mut numbers = Numbers::new((input.size + count) as u64);
+    let page = |text: &Vec<u8>| {
+        let page = Page::new(text, count, width, &mut numbers);
+        let lent = || RefCell::new((page.bytes(exact), page.list()));
+        (lent(), lent(), page)
+    };
+    let pages: Vec<(Lent, Lent, Page)> = input.texts.iter().map(page).collect();
+    let on = |call: fn(&Page, &mut [u8], &mut [u32]) -> Result<usize, u64>, lent: &Lent, page: &Page| {
+        let (bytes, list) = &mut *lent.borrow_mut();
+        call(page, bytes, list)
+    };
+    let check = move |(first, second, page): &(Lent, Lent, Page)| {
+        let (expected, got) = (on(one, first, page), on(Page::by_library, second, page));
+        if expected == got && got == Ok(page.left) && first == second { Ok(()) } else { Err(format!("other results: {expected:?}, {got:?}")) }
+    };
+    Pair::new(pages, check, move |(lent, _, page)| on(one, lent, page), move |(_, lent, page)| on(Page::by_library, lent, page))
+}
+
+/// Against a function of ours: the original has none.
+fn write_truncated_cells(input: &Input, count: usize, width: Width, exact: bool) -> Result<Pair, String> {
+    on_page(input, count, width, exact, Page::by_ours)
+}
+
+/// Against the library itself: the other side is a call of `write_truncated_end` for each cell.
+fn cells_by_calls(input: &Input, count: usize, width: Width) -> Result<Pair, String> {
+    on_page(input, count, width, false, Page::by_calls)
 }
 
 /// Well-formed texts of the size, with half of their width.

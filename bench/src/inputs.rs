@@ -27,6 +27,9 @@ pub const SIZES: [Size; 4] = [(6, "6 B"), (80, "80 B"), (64 << 10, "64 KiB"), (1
 pub const ROWS: [Size; 3] = [(80, "80 B"), (64 << 10, "64 KiB"), (1_000_000, "1 MB")];
 pub const LONG_ROWS: [Size; 2] = [(64 << 10, "64 KiB"), (1_000_000, "1 MB")];
 pub const SHORT_ROWS: [Size; 2] = [(80, "80 B"), (64 << 10, "64 KiB")];
+/// Pages of 8 and of 64 cells: one of 64 is as many texts in a row.
+pub const PAGES_OF_8: [Size; 3] = [(80, "8 x 10 B"), (640, "8 x 80 B"), (8000, "8 x 1000 B")];
+pub const PAGES_OF_64: [Size; 3] = [(640, "64 x 10 B"), (64 * 80, "64 x 80 B"), (64_000, "64 x 1000 B")];
 /// For expanding tabs at stops of 8: with a tab in about 18 bytes a result can be longer by two fifths.
 pub const TABBED: [Size; 3] = [(80, "80 B"), (64 << 10, "64 KiB"), (700_000, "700 kB")];
 

@@ -5,7 +5,7 @@ use std::process::ExitCode;
 
 use bench::inputs::{Input, KINDS, Kind, PICTURES};
 use bench::timing;
-use cases::{CASES, Case, LINE_INDEX_CASES};
+use cases::{CASES, CELLS_CASES, Case, LINE_INDEX_CASES};
 
 fn table(case: &Case, kinds: &[(Kind, &str)], rounds: usize, many: usize) -> Result<(), String> {
     println!("\n### {}\n", case.name);
@@ -40,7 +40,7 @@ fn main() -> ExitCode {
             _ => names.push(word),
         }
     }
-    let cases = || CASES.iter().chain(LINE_INDEX_CASES);
+    let cases = || CASES.iter().chain(LINE_INDEX_CASES).chain(CELLS_CASES);
     if let Some(name) = names.iter().find(|name| cases().all(|case| case.name != **name)) {
         eprintln!("bench: no case {name}");
         return ExitCode::from(2);

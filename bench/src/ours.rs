@@ -1,14 +1,15 @@
 //! Calls that the Rust original has not, each as the plainest good Rust over the original's recorder, to be timed beside the library's; those
-//! of the line index are over the three lists of a recording, which they check as the library does.
+//! of the line index are over the three lists of a recording, which they check as the library does, and the page of cells is over bytes.
 use std::io::Result as Io;
 use std::ops::Range;
 
 use bstr::ByteSlice as _;
-use oracle::original::{FormatRecorder, Formatter};
+use oracle::original::{self, FormatRecorder, Formatter};
 use oracle::{Kind, Lists};
 use unicode_width::UnicodeWidthChar as _;
 
 use crate::recordings::fault;
+use crate::room::LIMITS;
 
 /// Writes the content with each tab replaced by spaces up to the next stop. In one pass: characters are read beside the replay, since an
 /// entry may stand inside of one, and what lies between two tabs is written at once. (`char_indices`, which the original reads with, would
@@ -363,4 +364,89 @@ pub fn place_of<N: Newlines>(content: &Lists, index: &[u32], offset: usize) -> R
     }
     let line = index.partition_point(|start| *start as usize <= offset) - 1;
     Ok((line, offset - index[line] as usize))
+}
+
+/// The most cells of one call (document 02, Q-9).
+const MOST_CELLS: usize = 64;
+
+/// Refusal 38: whether these are no part ends of so many bytes.
+fn wrong_ends(ends: &[u32], len: usize) -> bool {
+    ends.len() > MOST_CELLS || !ends.is_sorted() || ends.last().map_or(0, |end| *end as usize) != len
+}
+
+/// The cells, each from the end before it.
+fn parts<'a>(content: &'a [u8], ends: &'a [u32]) -> impl Iterator<Item = &'a [u8]> {
+    let mut from = 0;
+    ends.iter().map(move |end| {
+        let cell = &content[from..*end as usize];
+        from = *end as usize;
+        cell
+    })
+}
+
+/// The ellipsis, measured once for all cells.
+struct Mark<'a> {
+    /// What is kept of it, and its width.
+    kept: &'a [u8],
+    width: usize,
+    /// The width that a cell has before it.
+    room: usize,
+    max: usize,
+}
+
+impl<'a> Mark<'a> {
+    fn new(ellipsis: &'a [u8], max: usize) -> Self {
+        let all: usize = ellipsis.char_indices().map(|(_, _, c)| c.width().unwrap_or(0)).sum();
+        let (end, width) = original::truncate_end_pos_bytes(ellipsis, max);
+        Self { kept: &ellipsis[..end], width, room: max.saturating_sub(all), max }
+    }
+
+    /// What is left of a cell, in one pass that ends where the cell is too wide: its bytes, the ellipsis or none, and the width of both.
+    fn cut<'b>(&self, cell: &'b [u8]) -> (&'b [u8], &'a [u8], usize) {
+        let (mut width, mut end, mut before) = (0, 0, 0);
+        for (_, behind, c) in cell.char_indices() {
+            width += c.width().unwrap_or(0);
+            if width > self.max {
+                return (&cell[..end], self.kept, before + self.width);
+            }
+            if width <= self.room {
+                (end, before) = (behind, width);
+            }
+        }
+        (cell, &[], width)
+    }
+}
+
+/// Cuts the cells and joins them in `out`, `list` gets end and width of each; gives back the length, or the number of its refusal. Where each
+/// cell has room for all of its bytes and the ellipsis, nothing needs to be measured first.
+pub fn write_truncated_cells(content: &[u8], ends: &[u32], ellipsis: &[u8], max: u32, out: &mut [u8], list: &mut [u32]) -> Result<usize, u64> {
+    if content.len() > LIMITS.0 || ellipsis.len() > LIMITS.0 {
+        return Err(1);
+    }
+    if wrong_ends(ends, content.len()) {
+        return Err(38);
+    }
+    let mark = Mark::new(ellipsis, max as usize);
+    if content.len() + ends.len() * mark.kept.len() > out.len().min(LIMITS.0) {
+        let len: usize = parts(content, ends).map(|cell| mark.cut(cell)).map(|(kept, ellipsis, _)| kept.len() + ellipsis.len()).sum();
+        if len > LIMITS.0 {
+            return Err(9);
+        }
+        if len > out.len() {
+            return Err(21);
+        }
+    }
+    if list.len() < 2 * ends.len() {
+        return Err(24);
+    }
+    let mut at = 0;
+    for (cell, numbers) in parts(content, ends).zip(list.chunks_exact_mut(2)) {
+        let (kept, ellipsis, width) = mark.cut(cell);
+        for piece in [kept, ellipsis] {
+            out[at..at + piece.len()].copy_from_slice(piece);
+            at += piece.len();
+        }
+        numbers.copy_from_slice(&[at as u32, width as u32]);
+    }
+    Ok(at)
 }

@@ -1,5 +1,5 @@
 /* Every function of the header once or more: document 01's cases C1 to C16, a refusal of each kind that lengths can give, and the
- * calls over structs; lists of calls; a line index. */
+ * calls over structs; lists of calls; a line index; a page of cells. */
 #include "ruszvedok.h"
 
 #include <stdio.h>
@@ -391,6 +391,91 @@ static void line_index_structs(void)
             && index.starts_len == 3 && index.data_len == 5);
 }
 
+/* The list of cells that all calls below write to, and one call: its refusal, or the data and the list that it leaves. */
+static uint32_t list[RUSZVEDOK_CELL_NUMBERS * (RUSZVEDOK_MAX_CELLS + 1)];
+
+static void unlisted(const char *what, size_t from)
+{
+    for (; from < COUNT(list); from++)
+        expect(what, list[from] == 7);
+}
+
+static void turned(const char *what, uint64_t refusal)
+{
+    refused(what, refusal);
+    unlisted(what, 0);
+}
+
+/* End and width of each cell; the list is then as before the call. */
+static void celled(const char *what, const char *bytes, const uint32_t *wanted, size_t count)
+{
+    size_t k;
+    expect(what, (res[RUSZVEDOK_RES_ENTRIES] | res[RUSZVEDOK_RES_TEXT]) == 0);
+    left(what, bytes, count);
+    unlisted(what, RUSZVEDOK_CELL_NUMBERS * count);
+    for (k = 0; k < RUSZVEDOK_CELL_NUMBERS * count; k++) {
+        expect(what, list[k] == wanted[k]);
+        list[k] = 7;
+    }
+}
+
+/* "ab", "abcd" and "xy" in one call, other pages, and what is refused. */
+static void cells(void)
+{
+    static const uint32_t ends[] = {2, 6, 8}, wanted[] = {2, 2, 5, 3, 7, 2}, falling[] = {6, 2, 8}, none[RUSZVEDOK_MAX_CELLS + 1] = {0};
+    static const uint32_t some_empty[] = {0, 1, 1}, wanted_empty[] = {0, 0, 1, 1, 1, 0}, across[] = {1, 3}, wanted_across[] = {1, 1, 2, 1};
+    static const uint32_t one[] = {6}, wanted_one[] = {3, 3};
+    static uint8_t nuls[RUSZVEDOK_MAX_DATA + 1];
+    size_t k;
+    for (k = 0; k < COUNT(list); k++)
+        list[k] = 7;
+#define CUT(content, ends, count, ellipsis, width, bytes, numbers) \
+    ruszvedok_write_truncated_cells(BYTES(content), ends, count, BYTES(ellipsis), width, data, bytes, list, numbers, res)
+    CUT("ababcdxy", ends, 3, "~", 3, COUNT(data), COUNT(list));
+    celled("cells", "abab~xy", wanted, 3);
+    CUT("ababcdxy", ends, 3, "~", 3, 7, 6);
+    celled("cells, exactly full", "abab~xy", wanted, 3);
+    CUT("", ends, 0, "~", 3, 0, 0);
+    celled("no cells", "", wanted, 0);
+    CUT("a", some_empty, 3, "~", 3, 1, 6);
+    celled("empty cells", "a", wanted_empty, 3);
+    CUT("", none, RUSZVEDOK_MAX_CELLS, "~", 3, 0, RUSZVEDOK_CELL_NUMBERS * RUSZVEDOK_MAX_CELLS);
+    expect("the most cells", res[0] == 0 && res[RUSZVEDOK_RES_NUMBER] == RUSZVEDOK_MAX_CELLS);
+    for (k = 0; k < RUSZVEDOK_CELL_NUMBERS * RUSZVEDOK_MAX_CELLS; k++) {
+        expect("the most cells", list[k] == 0);
+        list[k] = 7;
+    }
+    /* each byte of a character across an end is ill-formed by itself */
+    CUT("\xE6\x9C\xA8", across, 2, "~", 1, COUNT(data), COUNT(list));
+    celled("a character across an end", "\xE6~", wanted_across, 2);
+    /* the sum of the widths kept, though the bytes left join to a character of width 2 */
+    CUT("\xE6xyzab", one, 1, "\x9C\xA8", 3, COUNT(data), COUNT(list));
+    celled("an ellipsis that ends a character", "\xE6\x9C\xA8", wanted_one, 1);
+
+    CUT("ababcdxy", ends, 3, "~", 3, 7, 5);
+    turned("cells, list", RUSZVEDOK_LINE_LIST_TOO_SHORT);
+    CUT("ababcdxy", ends, 3, "~", 3, 6, 5);
+    turned("cells, data buffer", RUSZVEDOK_DATA_BUFFER_TOO_SHORT);
+    CUT("ababcdxy", falling, 3, "~", 3, 6, 5);
+    turned("cells, an end that falls", RUSZVEDOK_CELL_ENDS);
+    CUT("ababcdx", ends, 3, "~", 3, COUNT(data), COUNT(list));
+    turned("cells, a last end beyond the data", RUSZVEDOK_CELL_ENDS);
+    CUT("ababcdxyz", ends, 3, "~", 3, COUNT(data), COUNT(list));
+    turned("cells, a last end before the data's", RUSZVEDOK_CELL_ENDS);
+    CUT("a", ends, 0, "~", 3, COUNT(data), COUNT(list));
+    turned("no cells, but data", RUSZVEDOK_CELL_ENDS);
+    CUT("", none, RUSZVEDOK_MAX_CELLS + 1, "~", 3, COUNT(data), COUNT(list));
+    turned("too many cells", RUSZVEDOK_CELL_ENDS);
+#undef CUT
+    ruszvedok_write_truncated_cells(nuls, sizeof nuls, ends, 3, BYTES("~"), 3, data, 0, list, 0, res);
+    turned("cells, data too long", RUSZVEDOK_DATA_TOO_LONG);
+    ruszvedok_write_truncated_cells(BYTES("a"), ends, 3, nuls, sizeof nuls, 3, data, 0, list, 0, res);
+    turned("cells, ellipsis too long", RUSZVEDOK_DATA_TOO_LONG);
+    /* a NUL has no width, so all of them come behind the two letters that are left of the second cell; over the limit are all together */
+    ruszvedok_write_truncated_cells(BYTES("ababcdxy"), ends, 3, nuls, RUSZVEDOK_MAX_DATA - 3, 2, data, 0, list, 0, res);
+    turned("cells, result too long", RUSZVEDOK_RESULT_OVER_LIMIT);
+}
+
 /* Adding over structs, and reading part by part. */
 static void parts(void)
 {
@@ -448,6 +533,7 @@ int main(void)
     list_numbers();
     line_index();
     line_index_structs();
+    cells();
     parts();
     names();
     return failed;

@@ -1,7 +1,7 @@
 /* A board row, recorded with its grades as labels, then truncated, padded and wrapped, by calls of their own and as a list of
  * calls; each result is printed with its labels, and the wrapped lines once more, right-aligned. Two rows of a ticket, whose tabs
  * go to stops; they are indented, and the indent is taken off. A row with a price, as the office and as the floor reads it. A line
- * index of the ticket, extended after a row. Plain C11, and C++ as well. */
+ * index of the ticket, extended after a row. Cells of a page, cut in one call. Plain C11, and C++ as well. */
 #include "ruszvedok.h"
 
 #include <stdio.h>
@@ -47,8 +47,24 @@ static void print_right(unsigned columns, const uint32_t *lines, unsigned count,
     }
 }
 
+/* Prints the cells of a list of cells in columns: each has its end in the joined data and its width, so nothing is measured again. */
+static void print_cells(unsigned columns, const uint32_t *cells, unsigned count, const uint8_t *joined)
+{
+    const uint32_t *cell = cells, *end = cells + count * RUSZVEDOK_CELL_NUMBERS;
+    uint32_t first = 0;
+    printf("%u cells cut to %u:\n|", count, columns);
+    for (; cell < end; cell += RUSZVEDOK_CELL_NUMBERS) {
+        printf("%.*s%*s|", (int)(cell[RUSZVEDOK_CELL_END] - first), (const char *)joined + first,
+            (int)(columns - cell[RUSZVEDOK_CELL_WIDTH]), "");
+        first = cell[RUSZVEDOK_CELL_END];
+    }
+    printf("\n");
+}
+
 int main(void)
 {
+    static const char page[] = "oakred spruce\xE6\x9C\xA8\xE6\x9D\x90";
+    static const uint32_t ends[] = {3, 13, 19};
     RUSZVEDOK_RECORDING(row, 128, 8, 64);
     RUSZVEDOK_RECORDING(rest, 16, 2, 16);
     RUSZVEDOK_RECORDING(ticket, 64, 4, 16);
@@ -58,7 +74,8 @@ int main(void)
     RUSZVEDOK_CALLS(list, 3, 16, 16);
     RUSZVEDOK_LINE_STARTS(index, 8);
     RUSZVEDOK_RECORDING(few, 8, 16, 128);
-    uint32_t lines[16 * RUSZVEDOK_LINE_NUMBERS];
+    uint32_t lines[16 * RUSZVEDOK_LINE_NUMBERS], cells[3 * RUSZVEDOK_CELL_NUMBERS];
+    uint64_t res[5];
     ruszvedok_call_answer answers[3];
     ruszvedok_answer answer;
     ruszvedok_line line;
@@ -126,6 +143,11 @@ int main(void)
         return 1;
     printf("line 2 of %u: bytes %u to %u\n", number(answer), (unsigned)line.first, (unsigned)line.end);
     printf("byte 20: line %u, byte column %u\n", (unsigned)at.line, (unsigned)at.column);
+
+    /* A page of cells, one behind the other in one buffer: all are cut by one call. */
+    ruszvedok_write_truncated_cells((const uint8_t *)page, sizeof page - 1, ends, 3, (const uint8_t *)"..", 2, 8, out.data, out.data_room,
+        cells, sizeof cells / sizeof cells[0], res);
+    print_cells(8, cells, number(ruszvedok_answer_of(res)), out.data);
 
     /* Eight bytes are too few for the result: the call is refused and leaves them alone. */
     memset(few_data, 0xEE, sizeof few_data);

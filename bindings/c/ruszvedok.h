@@ -260,6 +260,12 @@ typedef struct ruszvedok_line_column {
 #define RUSZVEDOK_LINE_END 1
 #define RUSZVEDOK_LINE_WIDTH 2
 
+/* The most cells of one call. A cell of a list of cells: how many numbers it has, and the place of each among them. */
+#define RUSZVEDOK_MAX_CELLS 64
+#define RUSZVEDOK_CELL_NUMBERS 2
+#define RUSZVEDOK_CELL_END 0
+#define RUSZVEDOK_CELL_WIDTH 1
+
 /* Kinds of calls in a list: the first number of each. */
 enum ruszvedok_call_kind {
     RUSZVEDOK_CALL_TRUNCATE_START = 0,
@@ -276,7 +282,7 @@ enum ruszvedok_call_kind {
 };
 
 /* Refusals. The first cause in this order is given: 10; the content, then the second recording, each 1, 2, 5 for its lengths and
- * then entry by entry 3, 4, 5, 6; a pushed label (6), an appended raw sequence (3); 7; 8; 31 to 37; 9; 21 to 24.
+ * then entry by entry 3, 4, 5, 6; a pushed label (6), an appended raw sequence (3); 7; 8; 31 to 38; 9; 21 to 24.
  * Of a list of calls: 10; 61; 62; 63. */
 enum ruszvedok_refusal {
     RUSZVEDOK_DATA_TOO_LONG = 1,           /* Data over its limit. */
@@ -292,7 +298,7 @@ enum ruszvedok_refusal {
     RUSZVEDOK_DATA_BUFFER_TOO_SHORT = 21,  /* The data buffer is too short for the result. */
     RUSZVEDOK_ENTRY_BUFFER_TOO_SHORT = 22, /* The entry buffer is too short for the result. */
     RUSZVEDOK_TEXT_BUFFER_TOO_SHORT = 23,  /* The text buffer is too short for the result. */
-    RUSZVEDOK_LINE_LIST_TOO_SHORT = 24,    /* The line list is too short for the result. */
+    RUSZVEDOK_LINE_LIST_TOO_SHORT = 24,    /* The line list, or the list of cells, is too short for the result. */
     RUSZVEDOK_TAB_STOP = 31,               /* A tab stop that is 0 or over 64. */
     RUSZVEDOK_PREFIX_NEWLINE = 32,         /* A prefix to be taken off that has a 0A. */
     RUSZVEDOK_PREFIX_MISSING = 33,         /* A line that is not empty and does not begin with the prefix to be taken off. */
@@ -358,7 +364,7 @@ static inline const char *ruszvedok_refusal_reason(uint64_t refusal)
     case RUSZVEDOK_DATA_BUFFER_TOO_SHORT: return "the data buffer is too short for the result";
     case RUSZVEDOK_ENTRY_BUFFER_TOO_SHORT: return "the entry buffer is too short for the result";
     case RUSZVEDOK_TEXT_BUFFER_TOO_SHORT: return "the text buffer is too short for the result";
-    case RUSZVEDOK_LINE_LIST_TOO_SHORT: return "the line list is too short for the result";
+    case RUSZVEDOK_LINE_LIST_TOO_SHORT: return "the line list, or the list of cells, is too short for the result";
     case RUSZVEDOK_TAB_STOP: return "a tab stop that is 0 or over 64";
     case RUSZVEDOK_PREFIX_NEWLINE: return "a prefix to be taken off that has a 0A";
     case RUSZVEDOK_PREFIX_MISSING: return "a line that is not empty and does not begin with the prefix to be taken off";
@@ -566,8 +572,13 @@ void ruszvedok_place_of(
     size_t offset,
     uint64_t res[3]);
 
+/* ---- a page of cells, which no list of calls holds: `ends` has the part ends, and `cells` is a list of cells ---- */
+
 /* Cuts the parts of a content that end at `ends`, each to max_width at its end with the ellipsis, and joins them; `cells` gets
- * two numbers a cell, its end there and its width. The number is how many cells there are. */
+ * two numbers a cell, its end there and its width. The number is how many cells there are. Of each cell it leaves what
+ * ruszvedok_write_truncated_end leaves of it alone, and lists the width that that returns. A cell starts at the end before
+ * it, the first one at 0. Refused by 38: more than RUSZVEDOK_MAX_CELLS ends, ends that fall, a last end (0 without cells)
+ * that is not content_len; by 24 a `cells` that is too short. content_len + ends_len * ellipsis_len bytes are always enough. */
 void ruszvedok_write_truncated_cells(
     const uint8_t *content, size_t content_len,
     const uint32_t *ends, size_t ends_len,

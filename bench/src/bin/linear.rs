@@ -1,9 +1,10 @@
 //! Wrapping texts that are hard for it, at 64 KiB and 1 MiB: nanoseconds a byte of the library, with a line list that surely has room and with one
-//! that is exactly long enough, which must be found out by counting first. Then the calls of the line index, from no 0A to nothing else. Linear
-//! time: the two sizes cost about the same a byte.
+//! that is exactly long enough, which must be found out by counting first. Then the calls of the line index, from no 0A to nothing else, and
+//! pages of 64 cells, at 64 KiB and 1 MB. Linear time: the two sizes cost about the same a byte.
 use std::time::{Duration, Instant};
 
-use ruszvedok::lent::{LINE_NUMBERS, View, build_line_index, extend_line_index, line_at, place_of, wrap_bytes};
+use ruszvedok::MAX_CELLS;
+use ruszvedok::lent::{CELL_NUMBERS, LINE_NUMBERS, View, build_line_index, extend_line_index, line_at, place_of, wrap_bytes, write_truncated_cells};
 
 const SIZES: [usize; 2] = [1 << 16, 1 << 20];
 const ROUNDS: usize = 15;
@@ -30,6 +31,18 @@ const INDEXED: &[(&str, &[u8])] = &[
     ("line ends", b"\n"),
 ];
 
+/// Bytes of pages of cells: with an ellipsis for each cell they are within the limit.
+const PAGES: [usize; 2] = [1 << 16, 1_000_000];
+
+/// Name, and what the cells repeat.
+const CELLS: &[(&str, &[u8])] = &[
+    ("letters", b"x"),
+    ("words", b"oak 12 ft "),
+    ("wide characters", "木".as_bytes()),
+    ("zero-width characters", "\u{301}".as_bytes()),
+    ("ill-formed bytes", b"\xE6\x9C"),
+];
+
 /// The shortest time of a call that is not refused, a byte of the text.
 fn nanoseconds(size: usize, mut is_answered: impl FnMut() -> bool) -> f64 {
     let mut shortest = Duration::MAX;
@@ -46,6 +59,36 @@ fn main() {
     wrapping();
     println!();
     line_index();
+    println!();
+    cells();
+}
+
+/// 64 cells, none of which is cut, or each to half of its width, with a data buffer that surely has room and with one that is exactly long
+/// enough; nanoseconds a byte of the data.
+fn cells() {
+    let calls = ["whole", "whole, exact buffer", "cut", "cut, exact buffer"];
+    println!("| 64 cells | {} |\n|---|{}", calls.map(|name| format!("{name}, 64 KiB | 1 MB")).join(" | "), "---|".repeat(2 * calls.len()));
+    for &(name, unit) in CELLS {
+        let [small, large] = PAGES.map(|size| page_times(&unit.repeat(size / MAX_CELLS / unit.len())));
+        let times: Vec<_> = small.iter().zip(large).map(|(small, large)| format!("{small:.2} | {large:.2}")).collect();
+        println!("| {name} | {} |", times.join(" | "));
+    }
+}
+
+/// The times of a page of 64 times this cell.
+fn page_times(cell: &[u8]) -> Vec<f64> {
+    const ELLIPSIS: &[u8] = b"..";
+    let (text, ends) = (cell.repeat(MAX_CELLS), (1..=MAX_CELLS).map(|k| (k * cell.len()) as u32).collect::<Vec<_>>());
+    let mut list = vec![0; MAX_CELLS * CELL_NUMBERS];
+    let mut times = vec![];
+    for width in [u32::MAX, ruszvedok::text_width(cell) as u32 / 2] {
+        let mut out = vec![0; text.len() + MAX_CELLS * ELLIPSIS.len()];
+        times.push(nanoseconds(text.len(), || write_truncated_cells(&text, &ends, ELLIPSIS, width, &mut out, &mut list).is_ok()));
+        let left = write_truncated_cells(&text, &ends, ELLIPSIS, width, &mut out, &mut list).unwrap().used.data;
+        out.truncate(left);
+        times.push(nanoseconds(text.len(), || write_truncated_cells(&text, &ends, ELLIPSIS, width, &mut out, &mut list).is_ok()));
+    }
+    times
 }
 
 /// The list of `build_line_index` surely has room or is exactly long enough; extending is by the last tenth, and the line and the byte asked

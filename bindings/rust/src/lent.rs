@@ -19,7 +19,7 @@ use std::slice::ChunksExact;
 
 use crate::refusal::Refusal;
 use crate::sys;
-pub use crate::sys::{Kind, Place, LINE_NUMBERS};
+pub use crate::sys::{Kind, Place, CELL_NUMBERS, LINE_NUMBERS};
 
 /// A recording to be read.
 #[derive(Clone, Copy, Debug, Default)]
@@ -134,6 +134,62 @@ impl Iterator for Lines<'_> {
 }
 
 impl ExactSizeIterator for Lines<'_> {}
+
+/// A cell as a list of cells has it: a stretch of the joined result, and how wide it is.
+#[derive(Clone, Copy, Debug, PartialEq, Eq, Hash)]
+#[non_exhaustive]
+pub struct Cell {
+    /// Its first byte.
+    pub first: usize,
+    /// Its end.
+    pub end: usize,
+    /// Its width: what [`write_truncated_end`] returns for it.
+    pub width: usize,
+}
+
+impl Cell {
+    /// The stretch as a range.
+    #[must_use]
+    pub fn range(self) -> Range<usize> {
+        self.first..self.end
+    }
+}
+
+/// The cells of a list of cells; the list has their ends, and each starts where the one before it ends.
+#[derive(Clone, Debug)]
+pub struct Cells<'a> {
+    list: ChunksExact<'a, u32>,
+    first: usize,
+}
+
+impl<'a> Cells<'a> {
+    /// The first `count` cells of a list.
+    ///
+    /// # Panics
+    ///
+    /// If the list is shorter.
+    #[must_use]
+    pub fn new(list: &'a [u32], count: usize) -> Self {
+        Self { list: list[..count * CELL_NUMBERS].chunks_exact(CELL_NUMBERS), first: 0 }
+    }
+}
+
+impl Iterator for Cells<'_> {
+    type Item = Cell;
+
+    fn next(&mut self) -> Option<Cell> {
+        let numbers = self.list.next()?;
+        let cell = Cell { first: self.first, end: numbers[0] as usize, width: numbers[1] as usize };
+        self.first = cell.end;
+        Some(cell)
+    }
+
+    fn size_hint(&self) -> (usize, Option<usize>) {
+        self.list.size_hint()
+    }
+}
+
+impl ExactSizeIterator for Cells<'_> {}
 
 /// A place in a text by its line, counted from 0.
 #[derive(Clone, Copy, Debug, PartialEq, Eq, PartialOrd, Ord, Hash)]
@@ -507,6 +563,44 @@ pub fn place_of(content: View, index: &[u32], offset: usize) -> Result<LineColum
         sys::ruszvedok_place_of(d.as_ptr(), d.len(), e.as_ptr(), e.len(), t.as_ptr(), t.len(), index.as_ptr(), index.len(), offset, &mut res)
     };
     replied(res).map(|(line, column)| LineColumn { line, column })
+}
+
+/// The parts of a content that end at `ends`, each cut as [`write_truncated_end`] cuts it alone, and joined in `out`; `cells` gets two
+/// numbers a cell, its end there and its width, and [`Cells`] reads it. The number is how many cells there are. Each starts at the end
+/// before it, the first one at 0.
+///
+/// ```
+/// use ruszvedok::lent::{write_truncated_cells, Cells, CELL_NUMBERS};
+///
+/// let (mut out, mut list) = ([0; 16], [0; 3 * CELL_NUMBERS]);
+/// let left = write_truncated_cells(b"oakspruce12 ft", &[3, 9, 14], b"..", 5, &mut out, &mut list)?;
+/// assert_eq!((&out[..left.used.data], list), (&b"oakspr..12 ft"[..], [3, 3, 8, 5, 13, 5]));
+/// let cells: Vec<_> = Cells::new(&list, left.number as usize).map(|cell| &out[cell.range()]).collect();
+/// assert_eq!(cells, [&b"oak"[..], b"spr..", b"12 ft"]);
+/// # Ok::<(), ruszvedok::Refusal>(())
+/// ```
+///
+/// # Errors
+///
+/// Refusals 1 for the content or the ellipsis, 38 for more than [`MAX_CELLS`](crate::MAX_CELLS) ends, ends that fall, or a last end (0
+/// without cells) that is not the content's length, 9, 21, 24 for a list of cells that is too short.
+#[inline]
+pub fn write_truncated_cells(
+    content: &[u8],
+    ends: &[u32],
+    ellipsis: &[u8],
+    max_width: u32,
+    out: &mut [u8],
+    cells: &mut [u32],
+) -> Result<Done, Refusal> {
+    let mut res = [0; 5];
+    unsafe {
+        sys::ruszvedok_write_truncated_cells(
+            content.as_ptr(), content.len(), ends.as_ptr(), ends.len(), ellipsis.as_ptr(), ellipsis.len(), max_width,
+            out.as_mut_ptr(), out.len(), cells.as_mut_ptr(), cells.len(), &mut res,
+        )
+    };
+    answered(res)
 }
 
 /// All calls of a list, each on what the last one not refused left; the number is how many were not refused. The content is what `used`

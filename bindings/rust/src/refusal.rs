@@ -35,7 +35,7 @@ pub enum Refusal {
     EntryBufferTooShort,
     /// 23: the text buffer is too short for the result.
     TextBufferTooShort,
-    /// 24: the line list is too short for the result.
+    /// 24: the line list, or the list of cells, is too short for the result.
     LineListTooShort,
     /// 31: a tab stop that is 0 or over 64.
     TabStop,
@@ -143,7 +143,7 @@ impl Refusal {
             Self::DataBufferTooShort => "the data buffer is too short for the result",
             Self::EntryBufferTooShort => "the entry buffer is too short for the result",
             Self::TextBufferTooShort => "the text buffer is too short for the result",
-            Self::LineListTooShort => "the line list is too short for the result",
+            Self::LineListTooShort => "the line list, or the list of cells, is too short for the result",
             Self::TabStop => "a tab stop that is 0 or over 64",
             Self::PrefixNewline => "a prefix to be taken off that has a 0A",
             Self::PrefixMissing => "a line that is not empty and does not begin with the prefix to be taken off",

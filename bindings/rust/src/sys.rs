@@ -11,6 +11,10 @@ pub const MAX_ENTRY_NUMBERS: usize = 16_384;
 pub const MAX_TEXT: usize = 65_536;
 /// How many numbers a line has in a line list: first, end and width.
 pub const LINE_NUMBERS: usize = 3;
+/// The most cells of one call.
+pub const MAX_CELLS: usize = 64;
+/// How many numbers a cell has in a list of cells: end and width.
+pub const CELL_NUMBERS: usize = 2;
 
 /// The kind of a call in a list.
 #[derive(Clone, Copy, Debug, PartialEq, Eq, Hash)]

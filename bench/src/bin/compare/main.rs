@@ -1,6 +1,7 @@
 //! Compares the library's results with the originals' on generated inputs: `compare [--seed N] [COUNT] [CALL...]`.
 //! A new call is one more line of `CALLS`, or of `MANY` if it makes calls of its own number. The first difference is printed with its
 //! input and ends the run.
+mod cells;
 mod exhaustive;
 mod line_index;
 mod lists;
@@ -60,6 +61,7 @@ const CALLS: &[(&str, Call)] = &[
 
 const MANY: &[(&str, Many)] = &[
     ("lists_of_calls", lists::lists_of_calls),
+    ("write_truncated_cells", cells::random),
     ("typed_recorders", typed::recorders),
     ("typed_texts", typed::texts),
     ("exhaustive_text_width", |_, _| exhaustive::text_width()),
@@ -83,6 +85,7 @@ const MANY: &[(&str, Many)] = &[
     ("exhaustive_write_for_floor", |n, _| exhaustive::for_reader(n, ours::write_for_floor, lent::write_for_floor)),
     ("exhaustive_line_index_lists", |_, _| line_index::exhaustive_lists()),
     ("exhaustive_line_index_questions", |_, _| line_index::exhaustive_questions()),
+    ("exhaustive_write_truncated_cells", |_, _| cells::exhaustive()),
     ("exhaustive_write_wrapped", |n, _| exhaustive::write_wrapped(n)),
     ("exhaustive_write_replaced", |n, _| exhaustive::write_replaced(n)),
 ];
