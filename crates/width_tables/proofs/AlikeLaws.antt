@@ -166,11 +166,11 @@ module _ (t u : List Range) where
   -- ── a page of cells
   cell-text : (m : ℕ) (e c : Bytes) → Alike e → Alike c → By.cellText (charsBy t) m e c ≡ By.cellText (charsBy u) m e c
   unfolding By.cellText
-  cell-text m e c g h = ap R.dataOf (same-items (cutting m e) (bare c) (h, g, tt))
+  cell-text m e c g h = ap R.dataOf (same-items (cutting m e) (bare c) (h, (g, tt)))
 
   cell-width : (m : ℕ) (e c : Bytes) → Alike e → Alike c → By.cellWidth (charsBy t) m e c ≡ By.cellWidth (charsBy u) m e c
   unfolding By.cellWidth
-  cell-width m e c g h = same-number (cutting m e) (bare c) (h, g, tt)
+  cell-width m e c g h = same-number (cutting m e) (bare c) (h, (g, tt))
 
   same-joined : (m : ℕ) (e : Bytes) (cs : List Bytes) → Alike e → AllOf Alike cs → By.joined (charsBy t) m e cs ≡ By.joined (charsBy u) m e cs
   same-joined m e [] g h = refl
