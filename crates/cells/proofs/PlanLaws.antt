@@ -14,6 +14,7 @@ use Rattle.chars.specs.Chars.{chars, textWidth}
 use Rattle.chars.specs.Cut.{truncateEndPos, truncateEndWidth}
 use Rattle.chars.proofs.CutLaws.{kept-within, kept-end}
 use Rattle.chars.proofs.FitLaws.{two-cuts, fits-whole, reaches-end, passes-max}
+use Rattle.chars.proofs.NarrowLaws.{width-short}
 use Rattle.recording.specs.Recording.{Bytes}
 use Rattle.truncate_plan.specs.declared.Plan.{Plan}
 use Rattle.truncate_plan.specs.Plan.{planEnd}
@@ -42,7 +43,14 @@ pub measured : (m w room pos width : ℕ) (e : Bytes) → w ≡ textWidth e → 
 unfolding markOf
 measured m w room pos width e a b c d = (rw (b, a, c, d), omega (arith, a, b, d, mark-fits m e))
 
--- ── a cell: the first cut, to the room, ends at p; the second, of the rest to what is left of the width, ends q bytes on
+-- ── a cell that is no longer than the width
+pub cell-short : (k : Mark) (m w : ℕ) (cell : Bytes) → length cell ≤ m → w ≡ textWidth cell → (record { cut = false; content = length cell; ellipsis = 0; width = w } ≡ planWith k m cell) × (w ≤ m)
+unfolding planWith
+cell-short k m w cell h e =
+    let s : textWidth cell ≤ m = omega (arith, h, width-short cell) in
+    (rw (le-ltb m (textWidth cell) s, e), omega (arith, e, s))
+
+-- ── any other: the first cut, to the room, ends at p; the second, of the rest to what is left of the width, ends q bytes on
 module _ (k : Mark) (m : ℕ) (cell rest : Bytes) (p w q v : ℕ) (fits : k .room + k .width ≤ m) (ep : p ≡ truncateEndPos (k .room) cell) (ew : w ≡ truncateEndWidth (k .room) cell)
     (er : rest ≡ drop p cell) (eq : q ≡ truncateEndPos (m - w) rest) (ev : v ≡ truncateEndWidth (m - w) rest) where
   both : (p + q ≡ truncateEndPos m cell) × (w + v ≡ truncateEndWidth m cell)

@@ -1,4 +1,4 @@
--- What Q-9 asks to be shown, clause by clause; `proofs/Shown.antt` has all of it, and the call's contract has `CutInOrder`.
+-- What Q-9 asks to be shown, clause by clause; `proofs/Shown.antt` has all of it, and the call's contract has `LeftInOrder`.
 use Prim.Native.Nat.{ℕ, _+_, _*_, _≤_}
 use mathlib.Core.Bool.{Bool, true}
 use mathlib.Core.Path.{_≡_}

@@ -76,13 +76,22 @@ fn measure_ellipsis(t: &[u16; 256], ellipsis: &[u8], max: u64) -> Mark
     }
 }
 
-// What is kept of a cell. It is cut to the room before the ellipsis, and whether all of it fits is seen from there on: nothing is read twice, and nothing behind the width.
+// What is kept of a cell. No text is wider than it is long, so a cell no longer than the width fits.
+// Any other is cut to the room before the ellipsis, and whether all of it fits is seen from there on: nothing is read twice, and nothing behind the width.
 fn measure_cell(t: &[u16; 256], cell: &[u8], m: Mark, max: u64) -> Plan
     requires { ⌜ now t ≡ leadTable ⌝ }
     requires { ⌜ m .room + m .width ≤ max ⌝ }
     ensures { λ r. ⌜ r ≡ planWith m max (now (cell .entry)) ⌝ }
     ensures { λ r. ⌜ (r .content ≤ length (now (cell .entry))) × (r .ellipsis ≤ m .kept) × (r .width ≤ max) ⌝ }
 {
+    if cell.len() as u64 <= max {
+        return Plan {
+            cut: false,
+            content: cell.len(),
+            ellipsis: 0,
+            width: text_width(t, cell),
+        };
+    }
     let k = truncate_end_pos(t, cell, m.room);
     let at = k.pos;
     let more = truncate_end_pos(t, &cell[at..], max - k.width);
@@ -228,7 +237,7 @@ fn put_cells(
         let p = measure_cell(t, &content[from..end], m, max);
         at = put_cell(bytes, at, content, from, end, ellipsis, p);
         set_cell(cells, k * CELL_NUMBERS, at as u32, p.width as u32);
-        from = end;
+        from = end; // wherever this one was cut
         k += 1;
     }
     at

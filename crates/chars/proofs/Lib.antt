@@ -10,3 +10,4 @@ pub mod WidthLaws
 pub mod FoldLaws
 pub mod FitLaws
 pub mod JoinLaws
+pub mod NarrowLaws

@@ -1,26 +1,21 @@
 -- The lengths of what the floor is left, for code that settles 9 and 21 to 23 before it writes: data by the characters (`floor-data`, `floor-data-length`), entries by the content without
 -- the raw sequences that go (`floor-entries`), text by its raw sequences (`floor-raws`) and its labels, which are the content's (`floor-labels`). None is longer than what the office is left (`data-bound`, `entries-bound`, `text-bound`).
--- The idea for data: what is two columns wide takes three bytes in UTF-8, so no character has more columns than bytes.
-use Prim.Native.Nat.{ℕ, suc, _+_, _-_, _*_, _≤_, _<_}
+-- The idea for data: no character has more columns than bytes (`chars/proofs/NarrowLaws.antt`).
+use Prim.Native.Nat.{ℕ, suc, _+_, _-_, _*_, _≤_}
 use native.Mathlib.Omega.{arith}
-use mathlib.Core.Bool.{Bool, true, false, cond, _&&_, _||_, not, false≢true}
+use mathlib.Core.Bool.{Bool, true, false, cond}
 use mathlib.Core.Path.{_≡_, refl, sym, ap, _∙_}
 use mathlib.Core.List.{List, [], _∷_, _++_, tail}
-use lib.Dec.{leb, eqb}
 use lib.ListN.{length, drop, length-append, length-replicate}
 use lib.Seq.{take-append-seam, drop-append-seam}
-use borrow.Author.Tests.{leb-true}
-use Rattle.chars.specs.Utf8.{Row, span, within, table37, leads, rowIn, rowOf, complete, codePoint}
-use Rattle.chars.specs.Width.{Range, ranges, widthIn, charWidth}
 use Rattle.chars.specs.Chars.{Character, chars, bytesOf, wide}
-use Rattle.chars.proofs.CharsLaws.{Read, Valid, bytes-chars, valid-chars, width-two}
-use Rattle.chars.proofs.RangeLaws.{bounds}
+use Rattle.chars.proofs.CharsLaws.{Valid, bytes-chars, valid-chars}
+use Rattle.chars.proofs.NarrowLaws.{wide-text}
 use Rattle.recording.specs.Recording.{Bytes, Recording, Item, byte, push, pop, raw, items, encode, textOf}
 use Rattle.recording.specs.Coloured.{Coloured, coloured}
 use Rattle.recording.specs.Edit.{Op, edit, editData}
 use Rattle.recording.proofs.EditLaws.{edit-data}
 use Rattle.recording.proofs.ItemsLaws.{data-items, data-bytes}
-use Rattle.recording.proofs.Lists.{and-left, and-right}
 use Rattle.recording.proofs.SizeLaws.{entryCount, count-numbers, textLen, edit-count}
 use Rattle.recording.specs.Lists.{same}
 use Rattle.recording.specs.Share.{sumOf, rawLen, pushOf, times}
@@ -147,70 +142,6 @@ module _ (l : Bytes) (r : Recording) where
   floor-text-most = omega (arith, text-kept ops (dropRaws l [] (items r)) bare, text-shorter (dropRaws l [] (items r)))
 
 -- ── none is longer than what the office is left
--- below 1100 nothing is two columns wide
-abbrev lowNarrow : List Range → Bool
-lowNarrow [] = true
-lowNarrow (r ∷ rs) = (leb (r .columns) 1 || leb 0x1100 (r .first)) && lowNarrow rs
-
-narrow-in : (rs : List Range) (c : ℕ) → lowNarrow rs ≡ true → c < 0x1100 → widthIn rs c ≤ 1
-narrow-in [] c h b = omega arith
-narrow-in (r ∷ rs) c h b =
-    go (within (r .first) (r .last) c) refl (leb (r .columns) 1) refl (and-left (leb (r .columns) 1 || leb 0x1100 (r .first)) (lowNarrow rs) h)
-    (narrow-in rs c (and-right (leb (r .columns) 1 || leb 0x1100 (r .first)) (lowNarrow rs) h) b)
-  where
-    go : (t : Bool) → within (r .first) (r .last) c ≡ t → (u : Bool) → leb (r .columns) 1 ≡ u → (u || leb 0x1100 (r .first)) ≡ true → widthIn rs c ≤ 1
-        → cond t (r .columns) (widthIn rs c) ≤ 1
-    go false e u f g ih = ih
-    go true e true f g ih = leb-true (r .columns) 1 f
-    go true e false f g ih = absurd (omega (arith, b, leb-true 0x1100 (r .first) g, bounds (r .first) (r .last) c e))
-
-narrow : (c : ℕ) → c < 0x1100 → charWidth c ≤ 1
-unfolding charWidth ranges
-narrow c h = narrow-in ranges c refl h
-
--- a sequence of one byte is ASCII
-abbrev noneSingle : List Row → Bool
-noneSingle [] = true
-noneSingle (r ∷ rs) = not (eqb 1 (length r)) && noneSingle rs
-
-no-single : (rs : List Row) (b : ℕ) → noneSingle rs ≡ true → eqb 1 (length (rowIn rs b)) ≡ false
-no-single [] b h = refl
-no-single (r ∷ rs) b h =
-    go (leads r b) (eqb 1 (length r)) refl (and-left (not (eqb 1 (length r))) (noneSingle rs) h) (no-single rs b (and-right (not (eqb 1 (length r))) (noneSingle rs) h))
-  where
-    go : (t : Bool) (u : Bool) → eqb 1 (length r) ≡ u → not u ≡ true → eqb 1 (length (rowIn rs b)) ≡ false → eqb 1 (length (cond t r (rowIn rs b))) ≡ false
-    go false u e f ih = ih
-    go true true e f ih = absurd (false≢true f)
-    go true false e f ih = e
-
-single-ascii : (b : ℕ) → eqb 1 (length (rowOf b)) ≡ true → b ≤ 0x7F
-unfolding rowOf table37
-single-ascii b h = go (within 0x00 0x7F b) refl h
-  where
-    go : (t : Bool) → within 0x00 0x7F b ≡ t → eqb 1 (length (cond t (span 0x00 0x7F ∷ []) (rowIn (tail table37) b))) ≡ true → b ≤ 0x7F
-    go true e g = bounds 0x00 0x7F b e .1
-    go false e g = absurd (false≢true (sym (no-single (tail table37) b refl) ∙ g))
-
--- so no character has more columns than bytes
-replacement-width : charWidth 0xFFFD ≤ 1
-unfolding charWidth ranges
-replacement-width = omega arith
-
-single-width : (b : ℕ) → charWidth (cond (complete b []) (codePoint (b ∷ [])) 0xFFFD) ≤ 1
-unfolding complete
-single-width b = go (eqb 1 (length (rowOf b))) refl
-  where
-    go : (t : Bool) → eqb 1 (length (rowOf b)) ≡ t → charWidth (cond t b 0xFFFD) ≤ 1
-    go true e = narrow b (omega (arith, single-ascii b e))
-    go false e = replacement-width
-
-read-width : (b : ℕ) (more : List ℕ) → charWidth (cond (complete b more) (codePoint (b ∷ more)) 0xFFFD) ≤ suc (length more)
-read-width b [] = single-width b
-read-width b (x ∷ more) = omega (arith, width-two (cond (complete b (x ∷ more)) (codePoint (b ∷ x ∷ more)) 0xFFFD))
-
-wide-text : (c : Character) (rest : List ℕ) → Read c rest → wide c ≤ length (c .text)
-wide-text c rest R = rw (R .text, R .columns, R .code) (read-width (R .first) (R .more))
-
 length-bound : (hs : List Bool) (cs : List Character) → Valid cs → floorLength hs cs ≤ length (bytesOf cs)
 length-bound [] cs v = omega arith
 length-bound (h ∷ hs) [] v = omega arith
