@@ -45,15 +45,15 @@ left-alone m e cell = bare-left (cutting m e) (bare cell) refl
 pub cut-alone : (m : ℕ) (e cell : Bytes) → length e ≤ dataLimit → length cell ≤ dataLimit → length (cellText m e cell) ≤ dataLimit → CutAlone m e cell (cellText m e cell) (cellWidth m e cell)
 unfolding outcome settle refusalOf faultsOf resultOf overLimit noRoom secondFault ownFault linesLeft cellWidth
 cut-alone m e cell g a b = λ o c. rw (
-    left-alone m e cell,
-    bare-fine e g,
-    bare-fine cell a,
-    le-ltb dataLimit (length (cellText m e cell)) b,
-    le-ltb (o .dataBytes) (length (cellText m e cell)) c,
-    le-ltb (o .entryNumbers) 0 (omega arith),
-    le-ltb (o .text) 0 (omega arith),
-    le-ltb (o .lines) 0 (omega arith),
-  )
+  left-alone m e cell,
+  bare-fine e g,
+  bare-fine cell a,
+  le-ltb dataLimit (length (cellText m e cell)) b,
+  le-ltb (o .dataBytes) (length (cellText m e cell)) c,
+  le-ltb (o .entryNumbers) 0 (omega arith),
+  le-ltb (o .text) 0 (omega arith),
+  le-ltb (o .lines) 0 (omega arith),
+)
 
 -- ── its width
 pub cell-narrow : (m : ℕ) (e cell : Bytes) → cellWidth m e cell ≤ m

@@ -73,7 +73,7 @@ module _ (p : Plan) (s e : Bytes) (from to at : ℕ) (old : List ℕ) (h : p .co
         let m : mid ≡ at + length (part from (from + p .content) s) = omega (arith, em, run-length) in (
           omega (arith, er, em, ap length (cut-is z), length-append (part from (from + p .content) s) (take (p .ellipsis) e), run-length, length-take-le (p .ellipsis) e in-mark),
           en ∙ (λ i. overAt (m i) (q i) (ef i)) ∙ over-twice at (part from (from + p .content) s) (take (p .ellipsis) e) old w
-          ∙ ap (λ (x : Bytes). overAt at x old) (sym (cut-is z)),
+              ∙ ap (λ (x : Bytes). overAt at x old) (sym (cut-is z)),
         )
 
 -- two stores from k on
