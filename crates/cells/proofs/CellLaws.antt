@@ -8,21 +8,18 @@ use mathlib.Core.List.{List, [], _∷_, _++_}
 use lib.Dec.{ltb}
 use lib.ListN.{length, take}
 use borrow.Author.Tests.{le-ltb, ltb-false}
-use Rattle.chars.specs.Chars.{Character, chars, widthOf, textWidth, wellFormed}
-use Rattle.chars.specs.Cut.{keptWithin, truncateEndPos, truncateEndWidth}
-use Rattle.chars.proofs.CutLaws.{kept-within}
+use Rattle.chars.specs.Chars.{Character, chars, textWidth, wellFormed}
+use Rattle.chars.specs.Cut.{truncateEndPos, truncateEndWidth}
 use Rattle.chars.proofs.JoinLaws.{chars-append, width-join, formed-join, kept-wide, kept-formed}
-use Rattle.recording.specs.Lists.{AllOf}
 use Rattle.recording.specs.Recording.{Bytes, encode, strip}
 use Rattle.recording.specs.Refusals.{dataLimit, refuseIf, recordingFault}
-use Rattle.recording.specs.Outcome.{Room, done, overLimit, noRoom, refusalOf, settle}
+use Rattle.recording.specs.Outcome.{overLimit, noRoom, refusalOf, settle}
 use Rattle.layout.specs.Layout.{resultItems, linesLeft, number, resultOf, secondFault, ownFault, faultsOf, outcome}
 use Rattle.layout.proofs.StripLaws.{bare-left}
 use Rattle.truncate_plan.specs.declared.Plan.{Plan}
-use Rattle.truncate.specs.Planned.{finishedEnd}
 use Rattle.cells.specs.Cells.{bare, cutting, cellText, cellWidth, joined}
 use Rattle.cells.specs.Measured.{markOf, planWith}
-use Rattle.cells.specs.Shown.{CutAlone, WidthTrue, charsOfEach, ReadAlone}
+use Rattle.cells.specs.Shown.{CutAlone, WidthTrue, ReadAlone}
 use Rattle.cells.proofs.PlanLaws.{within-max, mark-fits, each-way, text-is, width-is}
 
 -- ── data without entries is refused for its length alone

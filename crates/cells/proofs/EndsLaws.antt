@@ -9,7 +9,7 @@ use mathlib.Core.List.{List, [], _∷_, _++_, flatten}
 use lib.Dec.{leb, ltb, eqb}
 use lib.ListN.{length, take, drop, getD, take-append-drop, drop-of-length-le}
 use lib.Seq.{drop-drop, drop-cons}
-use borrow.Author.Tests.{leb-true, lt-ltb, le-ltb, lt-leb, le-leb, eq-eqb, ne-eqb, eqb-true, ltb-false}
+use borrow.Author.Tests.{leb-true, lt-ltb, le-ltb, lt-leb, le-leb, eqb-true, ltb-false}
 use Rattle.buffer.specs.Place.{part}
 use Rattle.recording.specs.Recording.{Bytes}
 use Rattle.recording.proofs.Lists.{and-left, and-right, or-left, or-right, not-false}

@@ -1,5 +1,4 @@
--- The rows that pin Q-9 hold, computed; and 9 is reckoned on the joined result, however short each cell is.
-use Prim.Native.Nat.{ℕ}
+-- The rows that pin Q-9 hold, computed. (9 at the limit is a law over any page, `Turned`: a million bytes are not computed.)
 use mathlib.Core.Path.{_≡_, refl}
 use Rattle.buffer.specs.Place.{over}
 use Rattle.chars.specs.Utf8.{table37, rowOf, tailLen, complete}

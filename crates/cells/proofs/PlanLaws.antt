@@ -1,15 +1,13 @@
 -- What the code keeps of a cell is what the truncating call keeps of it: bytes, width and length. The ellipsis is measured once; a cell by two cuts that go on from each other.
 -- The idea: with the ellipsis measured the plan is `planEnd`, whose bytes and width `truncate` joins to the call's result.
-use Prim.Native.Nat.{ℕ, _+_, _-_, _*_, _≤_, _<_}
+use Prim.Native.Nat.{ℕ, _+_, _-_, _≤_}
 use native.Mathlib.Omega.{arith}
 use mathlib.Core.Bool.{Bool, true, false, cond}
 use mathlib.Core.Path.{_≡_, refl, sym, ap, _∙_}
 use mathlib.Core.List.{List, [], _∷_, _++_}
 use lib.Dec.{ltb}
 use lib.ListN.{length, take, drop, length-append, length-take}
-use lib.Seq.{length-take-le}
 use borrow.Author.Tests.{lt-ltb, le-ltb, ltb-true, ltb-false}
-use Rattle.buffer.specs.Place.{part}
 use Rattle.chars.specs.Chars.{chars, textWidth}
 use Rattle.chars.specs.Cut.{truncateEndPos, truncateEndWidth}
 use Rattle.chars.proofs.CutLaws.{kept-within, kept-end}
@@ -22,7 +20,7 @@ use Rattle.truncate.specs.Planned.{finishedEnd}
 use Rattle.truncate.proofs.PlanLaws.{end-number, end-uncut}
 use Rattle.truncate.proofs.HeldLaws.{end-result}
 use Rattle.cells.specs.declared.Mark.{Mark}
-use Rattle.cells.specs.Cells.{bare, partsFrom, cutting, cellText, cellWidth, joined}
+use Rattle.cells.specs.Cells.{bare, cellText, cellWidth, joined}
 use Rattle.cells.specs.Measured.{markOf, planWith, lengthWith}
 
 -- ── the ellipsis

@@ -10,15 +10,14 @@ use lib.Seq.{take-append-seam, drop-append-seam}
 use borrow.Author.Tests.{le-leb, le-ltb, ltb-false}
 use Rattle.buffer.specs.Place.{over, part}
 use Rattle.buffer.proofs.Laws.{take-over}
-use Rattle.recording.specs.declared.Answer.{Answer}
 use Rattle.recording.specs.Lists.{AllOf}
-use Rattle.recording.specs.Recording.{Bytes, Recording}
+use Rattle.recording.specs.Recording.{Bytes}
 use Rattle.recording.specs.Refusals.{dataLimit, firstOf, refuseIf}
-use Rattle.recording.specs.Outcome.{Room, Result, Faults, Outcome, done, overLimit, noRoom, refusalOf, settle, Lent, roomIn, lentAfter, Returned, returned, answerOf, Promised}
+use Rattle.recording.specs.Outcome.{Room, Result, Faults, Outcome, done, overLimit, noRoom, refusalOf, settle, Lent, roomIn, lentAfter, Returned, returned, answerOf}
 use Rattle.recording.proofs.FaultLaws.{refuseIf-zero, in-limits, granted, no-fault}
 use Rattle.recording.proofs.OutcomeLaws.{refusal-told, is-done}
-use Rattle.cells.specs.Cells.{bare, partsFrom, parts, cellText, cellWidth, joined, cellNumbers, neverFall, lastEnd, wrongEnds, cellsFaults, cellsResult, cellsOutcome}
-use Rattle.cells.specs.Shown.{endsOf, widthsOf, CutAlone, AllAlone, CutInOrder, LeftInOrder, InOrder, Turned}
+use Rattle.cells.specs.Cells.{bare, partsFrom, parts, cellText, joined, cellNumbers, neverFall, lastEnd, wrongEnds, cellsFaults, cellsResult, cellsOutcome}
+use Rattle.cells.specs.Shown.{endsOf, widthsOf, AllAlone, CutInOrder, InOrder, Turned}
 use Rattle.cells.proofs.EndsLaws.{rising, reaching, cells-whole}
 use Rattle.cells.proofs.PutLaws.{numbers-length, as-many}
 use Rattle.cells.proofs.CellLaws.{bare-fault, cut-alone, cell-narrow}

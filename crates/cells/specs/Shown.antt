@@ -1,6 +1,6 @@
 -- What Q-9 asks to be shown, clause by clause; `proofs/Shown.antt` has all of it, and the call's contract has `LeftInOrder`.
 use Prim.Native.Nat.{ℕ, _+_, _*_, _≤_}
-use mathlib.Core.Bool.{Bool, true}
+use mathlib.Core.Bool.{true}
 use mathlib.Core.Path.{_≡_}
 use mathlib.Core.List.{List, [], _∷_, _++_, flatten}
 use lib.Dec.{ltb}
@@ -10,7 +10,7 @@ use Rattle.recording.specs.declared.Answer.{Answer}
 use Rattle.recording.specs.Lists.{AllOf}
 use Rattle.recording.specs.Recording.{Bytes}
 use Rattle.recording.specs.Refusals.{dataLimit, firstOf, refuseIf}
-use Rattle.recording.specs.Outcome.{Room, Result, done, Lent, roomIn, returned, answerOf, Promised}
+use Rattle.recording.specs.Outcome.{Room, done, Lent, roomIn, returned, answerOf, Promised}
 use Rattle.layout.specs.Layout.{outcome}
 use Rattle.cells.specs.Cells.{bare, parts, cutting, cellText, cellWidth, joined, neverFall, lastEnd, wrongEnds, cellsOutcome}
 

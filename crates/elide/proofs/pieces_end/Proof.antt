@@ -2,7 +2,6 @@
 use native.Mathlib.Omega.{arith}
 use borrow.Author.Needs.{needs}
 use mathlib.Core.Path.{_∙_, sym}
-use Prim.Native.Nat.{_-_}
 use borrow.Rule.Slice.PartAt.{part-to-end}
 use Rattle.chars.proofs.FitLaws.{two-cuts, fits-whole, reaches-end, passes-max}
 use Rattle.elide.proofs.PartLaws.{end-uncut, end-alone, end-both}
