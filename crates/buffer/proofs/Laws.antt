@@ -3,8 +3,9 @@ use mathlib.Core.Path.{_≡_, sym, ap, _∙_}
 use mathlib.Core.List.{List, [], _∷_, _++_, append-assoc, append-nil}
 use Prim.Native.Nat.{ℕ, _+_, _-_, _≤_, _<_}
 use native.Mathlib.Omega.{arith}
+use native.Mathlib.Numerals.{add-one}
 use lib.ListN.{length, take, drop, set, replicate, take-append-drop, length-append, length-drop, length-take, length-replicate, replicate-append-replicate, drop-of-length-le}
-use lib.Seq.{sets-eq, take-append-seam, drop-append-seam, take-at, drop-at, drop-drop, take-length, length-take-le}
+use lib.Seq.{sets, sets-eq, take-append-seam, drop-append-seam, take-at, drop-at, drop-drop, take-length, length-take-le}
 use borrow.Rule.Slice.PartMut.{putMid}
 use borrow.Rule.Slice.PartAt.{part-to-end}
 use Rattle.buffer.specs.Place.{over, overAt, part}
@@ -48,10 +49,16 @@ over-twice at a b old h =
     )
     (ap (λ (x : List ℕ). take at old ++ x) (sym (append-assoc a b (drop (length a + length b) (drop at old)))))
 
--- a byte, or a number, is stored
-pub one-store : (l : List ℕ) (k b : ℕ) → k < length l → set l k b ≡ overAt k (b ∷ []) l
+-- bytes, or numbers, are stored one after another from k on
+pub stores : (vs l : List ℕ) (k : ℕ) → k + length vs ≤ length l → sets l k vs ≡ overAt k vs l
 unfolding overAt
-one-store l k b h = sets-eq (b ∷ []) l k (omega arith) ∙ append-assoc (take k l) (b ∷ []) (drop (k + 1) l) ∙ rw drop-drop
+stores vs l k h = sets-eq vs l k h ∙ append-assoc (take k l) vs (drop (k + length vs) l) ∙ rw drop-drop
+
+pub one-store : (l : List ℕ) (k b : ℕ) → k < length l → set l k b ≡ overAt k (b ∷ []) l
+one-store l k b h = stores (b ∷ []) l k (omega arith)
+
+pub two-stores : (l : List ℕ) (k a b : ℕ) → k + 2 ≤ length l → set (set l k a) (k + 1) b ≡ overAt k (a ∷ b ∷ []) l
+two-stores l k a b h = rw add-one (stores (a ∷ b ∷ []) l k h)
 
 -- and once more
 pub store-next : (at i b : ℕ) (l old : List ℕ) → l ≡ overAt at (replicate i b) old → at ≤ length old → at + i < length l → set l (at + i) b ≡ overAt at (replicate (i + 1) b) old

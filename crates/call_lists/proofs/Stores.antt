@@ -1,16 +1,12 @@
--- Stores one after another: two numbers over a list, and a copy from the front on.
+-- Stores one after another: a copy from the front on.
 use Prim.Native.Nat.{ℕ, _+_, _≤_, _<_}
 use native.Mathlib.Omega.{arith}
 use native.Mathlib.Numerals.{add-one}
 use mathlib.Core.Path.{_≡_, _∙_}
-use mathlib.Core.List.{List, [], _∷_, _++_, append-assoc}
+use mathlib.Core.List.{List, _++_}
 use lib.ListN.{length, take, drop, getD, set}
-use lib.Seq.{sets-eq, drop-drop, drop-cons, set-at, take-suc, append-snoc, length-take-le}
-use Rattle.buffer.specs.Place.{over, overAt}
-
-pub two-stores : (l : List ℕ) (k a b : ℕ) → k + 2 ≤ length l → set (set l k a) (k + 1) b ≡ overAt k (a ∷ b ∷ []) l
-unfolding overAt
-two-stores l k a b h = rw add-one (sets-eq (a ∷ b ∷ []) l k h ∙ append-assoc (take k l) (a ∷ b ∷ []) (drop (k + 2) l) ∙ rw drop-drop)
+use lib.Seq.{drop-cons, set-at, take-suc, append-snoc, length-take-le}
+use Rattle.buffer.specs.Place.{over}
 
 pub store-next : (src out : List ℕ) (i : ℕ) → i < length src → i < length out → set (take i src ++ drop i out) i (getD src i 0) ≡ take (i + 1) src ++ drop (i + 1) out
 store-next src out i h g =

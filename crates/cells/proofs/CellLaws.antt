@@ -10,6 +10,7 @@ use lib.ListN.{length, take}
 use borrow.Author.Tests.{le-ltb, ltb-false}
 use Rattle.chars.specs.Chars.{Character, chars, textWidth, wellFormed}
 use Rattle.chars.specs.Cut.{truncateEndPos, truncateEndWidth}
+use Rattle.chars.proofs.FitLaws.{within-max}
 use Rattle.chars.proofs.JoinLaws.{chars-append, width-join, formed-join, kept-wide, kept-formed}
 use Rattle.recording.specs.Recording.{Bytes, encode, strip}
 use Rattle.recording.specs.Refusals.{dataLimit, refuseIf, recordingFault}
@@ -20,7 +21,7 @@ use Rattle.truncate_plan.specs.declared.Plan.{Plan}
 use Rattle.cells.specs.Cells.{bare, cutting, cellText, cellWidth, joined}
 use Rattle.cells.specs.Measured.{markOf, planWith}
 use Rattle.cells.specs.Shown.{CutAlone, WidthTrue, ReadAlone}
-use Rattle.cells.proofs.PlanLaws.{within-max, mark-fits, each-way, text-is, width-is}
+use Rattle.cells.proofs.PlanLaws.{mark-fits, each-way, text-is, width-is}
 
 -- ── data without entries is refused for its length alone
 pub bare-fault : (d : Bytes) → recordingFault (bare d) ≡ refuseIf (ltb dataLimit (length d)) 1

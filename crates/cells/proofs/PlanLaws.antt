@@ -6,12 +6,11 @@ use mathlib.Core.Bool.{Bool, true, false, cond}
 use mathlib.Core.Path.{_≡_, refl, sym, ap, _∙_}
 use mathlib.Core.List.{List, [], _∷_, _++_}
 use lib.Dec.{ltb}
-use lib.ListN.{length, take, drop, length-append, length-take}
+use lib.ListN.{length, take, drop, length-append}
 use borrow.Author.Tests.{lt-ltb, le-ltb, ltb-true, ltb-false}
-use Rattle.chars.specs.Chars.{chars, textWidth}
+use Rattle.chars.specs.Chars.{textWidth}
 use Rattle.chars.specs.Cut.{truncateEndPos, truncateEndWidth}
-use Rattle.chars.proofs.CutLaws.{kept-within, kept-end}
-use Rattle.chars.proofs.FitLaws.{two-cuts, fits-whole, reaches-end, passes-max}
+use Rattle.chars.proofs.FitLaws.{within-max, kept-length, two-cuts, fits-whole, reaches-end, passes-max}
 use Rattle.chars.proofs.NarrowLaws.{width-short}
 use Rattle.recording.specs.Recording.{Bytes}
 use Rattle.truncate_plan.specs.declared.Plan.{Plan}
@@ -24,10 +23,6 @@ use Rattle.cells.specs.Cells.{bare, cellText, cellWidth, joined}
 use Rattle.cells.specs.Measured.{markOf, planWith, lengthWith}
 
 -- ── the ellipsis
-pub within-max : (m : ℕ) (s : Bytes) → truncateEndWidth m s ≤ m
-unfolding truncateEndWidth
-within-max m s = kept-within m (chars s)
-
 -- what is kept of it fits beside the room: if it is cut, it leaves none
 pub mark-fits : (m : ℕ) (e : Bytes) → (m - textWidth e) + truncateEndWidth m e ≤ m
 mark-fits m e = go (ltb m (textWidth e)) refl
@@ -70,14 +65,6 @@ plan-with : (m : ℕ) (e cell : Bytes) → planWith (markOf m e) m cell ≡ plan
 unfolding planWith markOf planEnd
 plan-with m e cell = refl
 
--- a text kept up to a cut is as long as the cut says
-take-kept : (m : ℕ) (s : Bytes) → length (take (truncateEndPos m s) s) ≡ truncateEndPos m s
-unfolding truncateEndPos
-take-kept m s = ap length (kept-end m s)
-
-pub pos-within : (m : ℕ) (s : Bytes) → truncateEndPos m s ≤ length s
-pos-within m s = omega (arith, take-kept m s, length-take (truncateEndPos m s) s)
-
 -- a cell is cut or it is not: what is true of both ways, of the bytes and the plan
 module _ (m : ℕ) (e cell : Bytes) where
   abbrev room : ℕ
@@ -101,7 +88,7 @@ module _ (m : ℕ) (e cell : Bytes) where
   by-plan : length (finishedEnd (planWith (markOf m e) m cell) cell e) ≡ planWith (markOf m e) m cell .content + planWith (markOf m e) m cell .ellipsis
   by-plan =
       each-way (λ t p. length t ≡ p .content + p .ellipsis)
-      (omega (arith, length-append (take (truncateEndPos room cell) cell) (take (truncateEndPos m e) e), take-kept room cell, take-kept m e)) (omega arith)
+      (omega (arith, length-append (take (truncateEndPos room cell) cell) (take (truncateEndPos m e) e), kept-length room cell, kept-length m e)) (omega arith)
 
 module _ (m : ℕ) (e cell : Bytes) (p : Plan) (q : p ≡ planWith (markOf m e) m cell) where
   pub text-is : finishedEnd p cell e ≡ cellText m e cell

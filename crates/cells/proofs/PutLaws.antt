@@ -2,19 +2,19 @@
 use Prim.Native.Nat.{ℕ, _+_, _-_, _*_, _≤_, _<_}
 use native.Mathlib.Omega.{arith}
 use native.Mathlib.Nat.{mul-le-mul, suc-mul}
-use native.Mathlib.Numerals.{add-one}
 use mathlib.Core.Bool.{Bool, true, false, cond}
 use mathlib.Core.Path.{_≡_, refl, sym, ap, _∙_}
-use mathlib.Core.List.{List, [], _∷_, _++_, append-assoc}
+use mathlib.Core.List.{List, [], _∷_, _++_}
 use lib.Dec.{leb, ltb}
-use lib.ListN.{length, take, drop, getD, set, length-append}
-use lib.Seq.{sets-eq, take-take, length-take-le, drop-drop}
+use lib.ListN.{length, take, drop, getD, length-append}
+use lib.Seq.{take-take, length-take-le}
 use borrow.Author.Tests.{leb-true}
 use Rattle.buffer.specs.Place.{over, overAt, part}
 use Rattle.buffer.proofs.Laws.{over-twice, length-part}
 use Rattle.buffer.proofs.FillLaws.{Filled, fill-start, fill-more, fill-end, fill-room}
 use Rattle.chars.specs.Chars.{textWidth}
 use Rattle.chars.specs.Cut.{truncateEndPos, truncateEndWidth}
+use Rattle.chars.proofs.FitLaws.{pos-within}
 use Rattle.recording.specs.Recording.{Bytes}
 use Rattle.recording.proofs.Lists.{and-left, and-right}
 use Rattle.recording.specs.Refusals.{dataLimit}
@@ -24,7 +24,7 @@ use Rattle.cells.specs.declared.Mark.{Mark}
 use Rattle.cells.specs.Cells.{partsFrom, parts, cellText, joined, cellNumbers, neverFall, lastEnd, wrongEnds}
 use Rattle.cells.specs.Measured.{markOf, planWith, lengthWith}
 use Rattle.cells.proofs.EndsLaws.{Ahead, ahead-start, ahead-next, end-above, end-within, parts-next, none-left, last-above, few, rising, reaching}
-use Rattle.cells.proofs.PlanLaws.{text-is, width-is, pos-within}
+use Rattle.cells.proofs.PlanLaws.{text-is, width-is}
 
 -- ── one cell: its first bytes, or all of it
 front-part : (n from to : ℕ) (s : Bytes) → n ≤ to - from → part from (from + n) s ≡ take n (part from to s)
@@ -75,11 +75,6 @@ module _ (p : Plan) (s e : Bytes) (from to at : ℕ) (old : List ℕ) (h : p .co
           en ∙ (λ i. overAt (m i) (q i) (ef i)) ∙ over-twice at (part from (from + p .content) s) (take (p .ellipsis) e) old w
               ∙ ap (λ (x : Bytes). overAt at x old) (sym (cut-is z)),
         )
-
--- two stores from k on
-pub two-stores : (l : List ℕ) (k a b : ℕ) → k + 2 ≤ length l → set (set l k a) (k + 1) b ≡ overAt k (a ∷ b ∷ []) l
-unfolding overAt
-two-stores l k a b h = rw add-one (sets-eq (a ∷ b ∷ []) l k h ∙ append-assoc (take k l) (a ∷ b ∷ []) (drop (k + 2) l) ∙ rw drop-drop)
 
 -- ── all cells, measured
 -- i of them are: `total` bytes are kept of what comes before `from`

@@ -7,13 +7,25 @@ use mathlib.Core.Bool.{Bool, true, false, cond}
 use mathlib.Core.Path.{_≡_, refl, sym, ap, _∙_}
 use mathlib.Core.List.{List, [], _∷_, _++_}
 use lib.Dec.{leb}
-use lib.ListN.{length, take, drop, length-append}
+use lib.ListN.{length, take, drop, length-append, length-take}
 use lib.Seq.{take-length, drop-append-seam}
 use borrow.Author.Tests.{leb-true, le-leb}
 use Rattle.chars.specs.Chars.{Character, chars, bytesOf, wide, widthOf, textWidth}
 use Rattle.chars.specs.Cut.{keptWithin, truncateEndPos, truncateEndWidth}
 use Rattle.chars.proofs.CharsLaws.{bytes-chars, bytes-append, width-append, chars-beginning, chars-rest}
 use Rattle.chars.proofs.CutLaws.{keptRest, split-kept, kept-within, kept-whole, kept-end}
+
+-- ── what a cut keeps is within its width, and as long as it says
+pub within-max : (m : ℕ) (s : List ℕ) → truncateEndWidth m s ≤ m
+unfolding truncateEndWidth
+within-max m s = kept-within m (chars s)
+
+pub kept-length : (m : ℕ) (s : List ℕ) → length (take (truncateEndPos m s) s) ≡ truncateEndPos m s
+unfolding truncateEndPos
+kept-length m s = ap length (kept-end m s)
+
+pub pos-within : (m : ℕ) (s : List ℕ) → truncateEndPos m s ≤ length s
+pos-within m s = omega (arith, kept-length m s, length-take (truncateEndPos m s) s)
 
 -- ── a cut that goes on from a narrower one
 pub kept-on : (a m : ℕ) (cs : List Character) → a ≤ m → keptWithin m cs ≡ keptWithin a cs ++ keptWithin (m - widthOf (keptWithin a cs)) (keptRest a cs)

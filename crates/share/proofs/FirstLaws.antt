@@ -8,15 +8,15 @@ use native.Mathlib.Numerals.{add-one, add-two, add-three}
 use native.Mathlib.Omega.{arith}
 use lib.Dec.{eqb}
 use lib.ListN.{length, take, drop, set, length-drop, take-append-drop}
-use lib.Seq.{sets-eq, drop-drop, length-take-le, take-append-seam}
+use lib.Seq.{length-take-le, take-append-seam}
 use borrow.Author.Tests.{eq-eqb, ne-eqb, eqb-true}
 use Rattle.buffer.specs.Place.{overAt}
+use Rattle.buffer.proofs.Laws.{stores}
 use Rattle.recording.specs.declared.Entry.{Entry}
 use Rattle.recording.specs.Lists.{same}
 use Rattle.recording.specs.Recording.{Bytes, entriesOf, numbersOf, partOf, isPush, pushedIn, newText}
 use Rattle.recording.proofs.EntryLaws.{entries-few}
 use Rattle.recording.proofs.Lists.{same-equal}
-use Rattle.recording.proofs.ItemsLaws.{}
 use Rattle.recording.proofs.Lists.{and-left, and-right}
 use Rattle.recording.proofs.ShareLaws.{or-comm, pushed-snoc}
 use Rattle.recording.specs.Share.{Inside}
@@ -26,9 +26,7 @@ use Rattle.share.proofs.SizeLaws.{new-most, inside-next, before-next, e
 -- four stores from k on
 pub four-stores : (l : List ℕ) (k a b c d : ℕ) → k + 4 ≤ length l
     → set (set (set (set l k a) (k + 1) b) (k + 2) c) (k + 3) d ≡ overAt k (a ∷ b ∷ c ∷ d ∷ []) l
-unfolding overAt
-four-stores l k a b c d h =
-    rw (add-one, add-two, add-three) (sets-eq (a ∷ b ∷ c ∷ d ∷ []) l k h ∙ append-assoc (take k l) (a ∷ b ∷ c ∷ d ∷ []) (drop (k + 4) l) ∙ rw drop-drop)
+four-stores l k a b c d h = rw (add-one, add-two, add-three) (stores (a ∷ b ∷ c ∷ d ∷ []) l k h)
 
 -- ── the entries that brought a text serve for all
 module _ (u : Bytes) (those : List Entry) (t : Bytes) where

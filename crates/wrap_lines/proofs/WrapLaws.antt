@@ -5,11 +5,11 @@ use native.Mathlib.Omega.{arith}
 use native.Mathlib.Numerals.{add-one, add-two}
 use mathlib.Core.Bool.{Bool, true, false}
 use mathlib.Core.Path.{_≡_, refl, sym, ap, _∙_}
-use mathlib.Core.List.{List, [], _∷_, _++_, append-assoc}
-use lib.ListN.{length, take, drop, set, length-append}
-use lib.Seq.{sets-eq, drop-drop}
+use mathlib.Core.List.{List, [], _∷_, _++_}
+use lib.ListN.{length, drop, set, length-append}
 use borrow.Author.Tests.{lt-ltb, le-ltb}
 use Rattle.buffer.specs.Place.{over, overAt}
+use Rattle.buffer.proofs.Laws.{stores}
 use Rattle.buffer.proofs.FillLaws.{Filled, fill-start, fill-room, fill-more, fill-end}
 use Rattle.recording.specs.Refusals.{dataLimit}
 use Rattle.recording.specs.Outcome.{refused, done, overLimit, noRoom, refusalOf, settle}
@@ -22,8 +22,7 @@ use Rattle.wrap_lines.specs.WrapBytes.{lineSize, shownBytes, wrapResult,
 
 -- three stores from k on
 pub three-stores : (l : List ℕ) (k a b c : ℕ) → k + 3 ≤ length l → set (set (set l k a) (k + 1) b) (k + 2) c ≡ overAt k (a ∷ b ∷ c ∷ []) l
-unfolding overAt
-three-stores l k a b c h = rw (add-one, add-two) (sets-eq (a ∷ b ∷ c ∷ []) l k h ∙ append-assoc (take k l) (a ∷ b ∷ c ∷ []) (drop (k + 3) l) ∙ rw drop-drop)
+three-stores l k a b c h = rw (add-one, add-two) (stores (a ∷ b ∷ c ∷ []) l k h)
 
 -- ── how many numbers, how many bytes
 pub numbers-length : (d : List ℕ) (ls : List Line) → length (lineNumbers d ls) ≡ length ls * lineSize

@@ -1,7 +1,7 @@
 -- Two stores are two numbers over the list (`two-stores`).
 use native.Mathlib.Omega.{arith}
 use borrow.Author.Needs.{needs}
-use Rattle.call_lists.proofs.Stores.{two-stores}
+use Rattle.buffer.proofs.Laws.{two-stores}
 use lib.ListN.{length-set}
 use Rattle.call_lists.proofs.put_two.Statement.{statement}
 use Rattle.call_lists.proofs.put_two.Tie as tie

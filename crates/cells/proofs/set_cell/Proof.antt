@@ -2,7 +2,7 @@
 use native.Mathlib.Omega.{arith}
 use borrow.Author.Needs.{needs}
 use lib.ListN.{length-set}
-use Rattle.cells.proofs.PutLaws.{two-stores}
+use Rattle.buffer.proofs.Laws.{two-stores}
 use Rattle.cells.proofs.set_cell.Statement.{statement}
 use Rattle.cells.proofs.set_cell.Tie as tie
 use Rattle.cells.proofs.set_cell.Reads as reads
