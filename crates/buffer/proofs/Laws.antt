@@ -10,17 +10,10 @@ use borrow.Rule.Slice.PartMut.{put_mid}
 use borrow.Author.Rules.{part_to_end}
 use Rattle.buffer.specs.Place.{over, over_at, part}
 
--- a callee that wrote `new` over the front of `&mut out[at..]` has written it into out from `at` on
-pub lent_back : (at : ℕ) (new xs ys : List ℕ) → ys ≡ over new (take (length xs - at) (drop at xs)) → put_mid at (length xs - at) xs ys ≡ over_at at new xs
-unfolding over_at
-lent_back at new xs ys e =
-    let none : drop (length xs - at) (drop at xs) ≡ [] = drop_of_length-le (drop at xs) {i = length xs - at} (omega (arith, length-drop at xs)) in
-    rw (e, part_to_end, none, append-nil)
-
--- what the kit's copy leaves, as `over`
-pub copied_over : (src dst : List ℕ) → take (length src) src ++ drop (length src) dst ≡ over src dst
-unfolding over
-copied_over src dst = rw (take-length src)
+-- a callee that left `new` in the part of xs of its length from `at` on has written it into xs from `at` on
+pub lent_part : (at n : ℕ) (new xs ys : List ℕ) → n ≡ length new → ys ≡ new → put_mid at n xs ys ≡ over_at at new xs
+unfolding over_at over
+lent_part at n new xs ys e y = rw (y, e)
 
 -- what is put where the result so far ends makes the result longer
 pub put_over : (done new old : List ℕ) → over_at (length done) new (over done old) ≡ over (done ++ new) old

@@ -10,7 +10,7 @@ pub fn put(out: &mut [u8], at: usize, src: &[u8], a: usize, b: usize) -> usize
     ensures { (result ≡ at + (b - a)) × (out.new ≡ over_at at (part a b src.now) out.old)
         × RunHeld at result (part a b src.now) out.old out.new }
 {
-    bytes::copy(&src[a..b], &mut out[at..]);
+    out[at..at + (b - a)].copy_from_slice(&src[a..b]);
     at + (b - a)
 }
 

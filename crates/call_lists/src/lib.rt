@@ -14,7 +14,7 @@ use requests::all_fit;
 use writer::Settled;
 
 // Where the content stands: in the first set or in the other one, and up to which lengths; and how many calls were not refused.
-#[derive(Drop)]
+#[derive(Clone, Copy)]
 pub struct Held {
     pub first: bool,
     pub bytes: usize,

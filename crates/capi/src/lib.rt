@@ -59,7 +59,7 @@ pub extern "C" fn ruszvedok_well_formed(s: &[u8]) -> bool
 
 // A place in a text, and the width of the part that is kept.
 #[repr(C)]
-#[derive(Drop)]
+#[derive(Clone, Copy)]
 pub struct Place {
     pub pos: usize,
     pub width: u64,

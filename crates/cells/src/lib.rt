@@ -28,7 +28,7 @@ const CELL_LIMIT: usize = 64;
 const CELL_NUMBERS: usize = 2;
 
 // The ellipsis of all cells, measured: the width that a cell keeps before it, how many bytes of it are kept, and how wide these are.
-#[derive(Drop)]
+#[derive(Clone, Copy)]
 struct Mark {
     room: u64,
     kept: usize,

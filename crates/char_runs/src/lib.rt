@@ -9,7 +9,7 @@ ghost use Rattle.char_runs.specs.Runs.{WholeUpTo, VisibleFrom, Covered};
 use chars::seen_at;
 
 // A stretch of characters: where it ends, and its width.
-#[derive(Drop)]
+#[derive(Clone, Copy)]
 pub struct Stretch {
     pub end: usize,
     pub width: usize,

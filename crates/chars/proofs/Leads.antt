@@ -32,6 +32,8 @@ same_row (a ∷ ar) (b ∷ bs) t =
     let p = same_span a b (and_left (same_span_of a b) (same_row_of ar bs) t) in
     let q = same_row ar bs (and_right (same_span_of a b) (same_row_of ar bs) t) in
     λ i. p i ∷ q i
+same_row [] (b ∷ bs) t = elim t [ ]
+same_row (a ∷ ar) [] t = elim t [ ]
 
 -- the three digits of an entry
 abbrev pub len_of : ℕ → ℕ

@@ -14,7 +14,7 @@ ghost use Rattle.chars.specs.Read.{read_of, ill_formed_read};
 ghost use Rattle.chars.specs.Cut.{truncate_end_pos_of, truncate_end_width, truncate_start_pos_of, truncate_start_width, zero_width_len_of};
 
 // What a byte says that leads a sequence: the sequence's length (0: it leads none) and the second byte's bounds.
-#[derive(Drop)]
+#[derive(Clone, Copy)]
 struct Lead {
     len: u8,
     low: u8,
@@ -34,7 +34,7 @@ fn lead_in(t: &[u16; 256], b: u8) -> Lead
 }
 
 // A character that was read: its code point, how many bytes it takes, and whether these are well-formed.
-#[derive(Drop)]
+#[derive(Clone, Copy)]
 pub struct Read {
     pub code: u32,
     pub len: usize,
@@ -264,7 +264,7 @@ pub fn seen_any(t: &[u16; 256], s: &[u8], at: usize) -> usize
 }
 
 // A character that is passed: how many bytes it takes, and how wide it is.
-#[derive(Drop)]
+#[derive(Clone, Copy)]
 pub struct Seen {
     pub len: usize,
     pub width: u32,
@@ -313,7 +313,7 @@ pub fn text_width(t: &[u16; 256], s: &[u8]) -> u64
 }
 
 // A place in a text, and the width of the part that is kept.
-#[derive(Drop)]
+#[derive(Clone, Copy)]
 pub struct Cut {
     pub pos: usize,
     pub width: u64,

@@ -14,7 +14,7 @@ ghost use Rattle.elide.specs.Elide.{complete_newline_outcome};
 const LIMIT: usize = 1048576;
 
 // What is left of a text, its bytes from .. to, and of its ellipsis, its bytes begin .. end; and the width of both.
-#[derive(Drop)]
+#[derive(Clone, Copy)]
 pub struct Pieces {
     from: usize,
     to: usize,

@@ -14,7 +14,7 @@ use open_label::{Walk, any_under};
 use writer::place_at;
 
 // What is written of the data up to `to`: the bytes themselves, or so many stars. The bytes behind it up to `until` belong to the same character, and go as it goes: copied, or without a trace.
-#[derive(Drop)]
+#[derive(Clone, Copy)]
 pub struct Run {
     pub to: usize,
     pub until: usize,

@@ -11,7 +11,7 @@ ghost use Rattle.line.specs.Line.{seen_of, one_head, head_from, room_of_state, a
 use chars::{Seen, seen_at};
 
 // A head of a word: how many bytes it takes, and how wide it is.
-#[derive(Drop)]
+#[derive(Clone, Copy)]
 pub struct Head {
     pub len: usize,
     pub width: u64,
@@ -19,7 +19,7 @@ pub struct Head {
 
 // Where a line ends, where the next one starts, if there is one, and how wide the line is.
 // `end` and `width` stand apart: side by side a caller that lists both would read them as one right after they were written as two, which waits for the memory.
-#[derive(Drop)]
+#[derive(Clone, Copy)]
 pub struct Next {
     pub end: usize,
     pub next: usize,

@@ -12,21 +12,21 @@ use recording::{Entry, entry_at};
 use writer::{Cursor, place_at};
 
 // How many labels are open, and since which depth the reader's label is; 0: it is not.
-#[derive(Drop)]
+#[derive(Clone, Copy)]
 pub struct Open {
     pub depth: usize,
     pub since: usize,
 }
 
 // A place in the content with how far the buffers are written, and what is open there.
-#[derive(Drop)]
+#[derive(Clone, Copy)]
 pub struct Walk {
     pub c: Cursor,
     pub o: Open,
 }
 
 // What the floor is left of the entries: whether the label is pushed at all, and how many entry numbers and text bytes there are without the raw sequences under it.
-#[derive(Drop)]
+#[derive(Clone, Copy)]
 pub struct Kept {
     pub found: bool,
     pub entries: usize,
@@ -34,7 +34,7 @@ pub struct Kept {
 }
 
 // What one reading of the entries finds.
-#[derive(Drop)]
+#[derive(Clone, Copy)]
 pub enum Scanned {
     // A pop without an open label, or a label that is never closed.
     Unbalanced,

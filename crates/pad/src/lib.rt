@@ -18,7 +18,7 @@ use share::text_size;
 use writer::{Cursor, Settled, place_at, put_entry, put_recording, settle};
 
 // Where the fill goes.
-#[derive(Drop)]
+#[derive(Clone, Copy)]
 enum Side {
     // All of it before the content.
     Start,

@@ -33,14 +33,14 @@ use well_formed::is_well_formed;
 use writer::{Cursor, Settled, place_at, put_bytes, put_entry, settle};
 
 // What a recording and a label have that pass all checks: the length of the entries' texts, and what the floor is left of the entries.
-#[derive(Drop)]
+#[derive(Clone, Copy)]
 pub struct Sizes {
     pub office: usize,
     pub floor: Kept,
 }
 
 // What the checks of a recording and a label found.
-#[derive(Drop)]
+#[derive(Clone, Copy)]
 pub enum Admitted {
     Refused(Refusal),
     Fine(Sizes),

@@ -1,10 +1,12 @@
 // A recording: data bytes, entries and the entries' texts; the refusals, and what calls and checks answer.
+#![tactic(auto)]
+
 ghost use Rattle.std.specs.Prelude.{◌≡◌, ◌+◌, ◌≤◌, ◌∷◌, length, drop};
 ghost use Rattle.recording.specs.Recording.{entries_of};
 ghost use Rattle.recording.specs.Refusals.{number_of_refusal};
 
 // The refusals, by document 01's causes and then document 02's, and those of a list of calls; `specs/Refusals.antt` gives each its number.
-#[derive(Drop)]
+#[derive(Clone, Copy)]
 pub enum Refusal {
     // Data over its limit.
     DataTooLong,
@@ -60,6 +62,7 @@ pub enum Refusal {
 }
 
 // The documents' number of a refusal, from 31 on document 02's; 61 and above are those of a list of calls, which neither numbers.
+#[tactic(auto, unfolding(crate::specs::Refusals::number_of))]
 pub fn number_of(f: Refusal) -> u64
     ensures { result ≡ number_of_refusal f }
 {
@@ -96,7 +99,7 @@ pub fn number_of(f: Refusal) -> u64
 }
 
 // One entry of a recording: four numbers.
-#[derive(Drop)]
+#[derive(Clone, Copy)]
 pub struct Entry {
     pub position: u32,
     pub kind: u32,
@@ -105,21 +108,21 @@ pub struct Entry {
 }
 
 // What a check finds: a refusal, or the length of the entries' texts, one after another.
-#[derive(Drop)]
+#[derive(Clone, Copy)]
 pub enum Checked {
     Refused(Refusal),
     Fine(usize),
 }
 
 // How long the entries' texts are, one after another: of a content and of a second recording.
-#[derive(Drop)]
+#[derive(Clone, Copy)]
 pub struct TextSizes {
     pub content: usize,
     pub second: usize,
 }
 
 // What a check of a content and a second recording found: a refusal, or the lengths of their texts.
-#[derive(Drop)]
+#[derive(Clone, Copy)]
 pub enum CheckedBoth {
     // The first refusal of the content, or of the second recording if the content has none.
     Refused(Refusal),
@@ -127,7 +130,7 @@ pub enum CheckedBoth {
 }
 
 // What a call answers: its refusal, or the lengths that it left and its number (a width or a count).
-#[derive(Drop)]
+#[derive(Clone, Copy)]
 pub enum Answer {
     Refused(Refusal),
     Done {
@@ -139,7 +142,7 @@ pub enum Answer {
 }
 
 // What a question answers, which leaves nothing: its refusal, or two numbers.
-#[derive(Drop)]
+#[derive(Clone, Copy)]
 pub enum Reply {
     Refused(Refusal),
     Found { first: usize, second: usize },

@@ -18,7 +18,7 @@ use share::own_size;
 use writer::{Cursor, Settled, keep, put_bytes, settle, skip};
 
 // What the records so far say: whether one of them is bad, the end of the last one, and the size of the result up to there, capped above the limit.
-#[derive(Drop)]
+#[derive(Clone, Copy)]
 pub struct Scan {
     pub bad: bool,
     pub at: u32,

@@ -18,7 +18,7 @@ use share::own_size;
 use writer::{Cursor, Settled, keep, settle};
 
 // The state of the writing: whether the call is refused, and how far the content is read and the buffers are written.
-#[derive(Drop)]
+#[derive(Clone, Copy)]
 pub struct Work {
     pub verdict: Settled,
     pub cursor: Cursor,

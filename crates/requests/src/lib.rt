@@ -16,7 +16,7 @@ use unindent::write_unindented;
 use wrap::write_wrapped;
 
 // One call of a list: its kind, its width, and its ranges: bytes from..to and text start..end of the pool of bytes, numbers first..last of the pool of numbers.
-#[derive(Drop)]
+#[derive(Clone, Copy)]
 pub struct Request {
     pub kind: u32,
     pub width: u32,

@@ -225,7 +225,7 @@ fn sheet_buffer() -> [u8; 65537]
 }
 
 // How many bytes were read to the start of a buffer, and whether a read failed.
-#[derive(Drop)]
+#[derive(Clone, Copy)]
 struct Reading {
     len: usize,
     failed: bool,

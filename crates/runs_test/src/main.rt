@@ -8,7 +8,7 @@ use recording::Answer;
 use runs::run_calls;
 
 // A list that is refused: its range among the calls, how much data is used, and how much of the other text and of the list of answers is lent.
-#[derive(Drop)]
+#[derive(Clone, Copy)]
 struct Row {
     from: u32,
     to: u32,
@@ -18,7 +18,7 @@ struct Row {
 }
 
 // How long the content is.
-#[derive(Drop)]
+#[derive(Clone, Copy)]
 struct Used {
     data: usize,
     entries: usize,

@@ -10,7 +10,7 @@ ghost use Rattle.share.specs.Sizes.{raw_in, raws_in, label_in, labels_in, first_
 use recording::{Entry, entry_at};
 
 // Where a label's text starts, and how many of its bytes come to the text: all of them, or none if a push has them.
-#[derive(Drop)]
+#[derive(Clone, Copy)]
 pub struct Place {
     pub start: u32,
     pub add: usize,
@@ -176,7 +176,7 @@ pub fn set_entry(numbers: &mut [u32], k: usize, e: Entry)
 }
 
 // The entries that brought a new text, up to `end` in a list of their own; and the size that is counted with them.
-#[derive(Drop)]
+#[derive(Clone, Copy)]
 struct Firsts {
     end: usize,
     size: usize,

@@ -24,7 +24,7 @@ use share::own_size;
 use writer::{Cursor, Settled, keep, put_bytes, settle, skip};
 
 // A place in the data, and the column there.
-#[derive(Drop)]
+#[derive(Clone, Copy)]
 pub struct Place {
     pub at: usize,
     pub column: u32,

@@ -36,13 +36,13 @@ const COLUMN_NUMBERS: usize = 2;
 const NUMBERS_LIMIT: usize = 24;
 
 // What lines that are not turned away come to: the bytes of their rows, each with its 0A, and their boards.
-#[derive(Drop)]
+#[derive(Clone, Copy)]
 struct Totals {
     bytes: usize,
     boards: u64,
 }
 
-#[derive(Drop)]
+#[derive(Clone, Copy)]
 enum Scanned {
     Refused(Refusal),
     Fine(Totals),

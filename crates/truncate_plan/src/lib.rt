@@ -7,7 +7,7 @@ ghost use Rattle.truncate_plan.specs.Plan.{plan_end, plan_start};
 use chars::{text_width, trim_start_zero_width_chars, truncate_end_pos, truncate_start_pos};
 
 // What a call is about to keep: whether it cuts, the places in the content and the ellipsis where it does, and the width kept.
-#[derive(Drop)]
+#[derive(Clone, Copy)]
 pub struct Plan {
     pub cut: bool,
     pub content: usize,

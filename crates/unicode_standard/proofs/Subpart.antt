@@ -38,6 +38,7 @@ module _ (f : Row → Bool) (b : ℕ) (bad : (r : Row) → leads r b ≡ false �
       let u = leb→le c.low c.high (and_left (leb c.low c.high) (above c.high rs) q) in
       let e : leads (c ∷ cs) b ≡ false = rw (lt-leb c.low b (omega arith)) in
       rw (bad (c ∷ cs) e) (none c.high rs (and_right (leb c.low c.high) (above c.high rs) q) (omega arith))
+  none n ([] ∷ rs) h k = elim h [ ]
 
   or_false : (x y : Bool) → y ≡ false → (x || y) ≡ x
   or_false true y e = refl
@@ -57,6 +58,7 @@ module _ (f : Row → Bool) (b : ℕ) (bad : (r : Row) → leads r b ≡ false �
           or_false (f (c ∷ cs)) (any_row f rs)
           (none c.high rs (and_left (above c.high rs) (apart rs) h) (leb-true b c.high (second (leb c.low b) (leb b c.high) e)))
       go false e ih = rw (bad (c ∷ cs) e) ih
+  one_row_lem ([] ∷ rs) h = elim h [ ]
 
 and_false : (x y : Bool) → x ≡ false → (x && y) ≡ false
 and_false x y e = rw e

@@ -23,7 +23,7 @@ use wrap_lines::{LINE_NUMBERS, count_lines, numbers_of, set_line};
 use writer::{Cursor, Settled, keep, put_bytes, settle, skip};
 
 // Where the writing has come to, and how many lines it has listed.
-#[derive(Drop)]
+#[derive(Clone, Copy)]
 pub struct Wrapped {
     pub cursor: Cursor,
     pub count: usize,

@@ -18,7 +18,7 @@ const DATA_LIMIT: usize = 1048576;
 pub const LINE_NUMBERS: usize = 3;
 
 // How many lines there are, and how many bytes of the data they show.
-#[derive(Drop)]
+#[derive(Clone, Copy)]
 pub struct Lines {
     pub count: usize,
     pub bytes: usize,

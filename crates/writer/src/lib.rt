@@ -18,7 +18,7 @@ use recording::{Entry, Refusal, entry_at};
 use share::{Place, place_in_result, set_entry};
 
 // A place in a content (data offset, index of the next entry's first number), and how far the three buffers are written.
-#[derive(Drop)]
+#[derive(Clone, Copy)]
 pub struct Cursor {
     pub at: usize,
     pub k: usize,
@@ -28,7 +28,7 @@ pub struct Cursor {
 }
 
 // Whether a result fits: its refusal, or that there is room.
-#[derive(Drop)]
+#[derive(Clone, Copy)]
 pub enum Settled {
     Refused(Refusal),
     Room,

@@ -9,25 +9,25 @@ use Rattle.answer_numbers.specs.Five.{three}
 use Rattle.answer_numbers.proofs.store_reply.Statement.{statement}
 use Rattle.answer_numbers.proofs.store_reply.Tie as tie
 
-enum-known-a : tie.Need-enum-known-a
+enum-known-a : tie.Need-enum_known-a
 enum-known-a c = search rules
 
-number-of-requires : tie.Need-number-of-requires
+number-of-requires : tie.Need-number_of-requires
 number-of-requires c κs = search rules
 
-enum-known-a-2 : tie.Need-enum-known-a-2
+enum-known-a-2 : tie.Need-enum_known-a-in-Found-1
 enum-known-a-2 c = search rules
 
-returns : tie.Need-returns
+returns : tie.Need-returns-in-Refused
 unfolding three reply_of
 returns c =
     ap (λ (n : ℕ). n ∷ 0 ∷ 0 ∷ []) c.before.number_of.ensures
-    ∙ sym (ap (λ (x : Reply). three (reply_of x)) c.before.before.before.a.given.1)
+    ∙ sym (ap (λ (x : Reply). three (reply_of x)) c.before.before.before.a-1.given.1)
 
-returns-2 : tie.Need-returns-2
+returns-2 : tie.Need-returns-in-Found
 unfolding three reply_of
 returns-2 c =
-    sym (ap (λ (x : Reply). three (reply_of x)) c.before.before.a2.given.1)
+    sym (ap (λ (x : Reply). three (reply_of x)) c.before.before.a-in-Found-1.given.1)
 
-pub store-reply-spec : {M : Type 1} → statement M
-store-reply-spec = tie.close (tie.spec enum-known-a number-of-requires enum-known-a-2 returns returns-2)
+pub store_reply_spec : {M : Type 1} → statement M
+store_reply_spec = tie.close (tie.spec enum-known-a number-of-requires enum-known-a-2 returns returns-2)

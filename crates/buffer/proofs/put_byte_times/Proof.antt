@@ -12,50 +12,50 @@ use Rattle.buffer.proofs.put_byte_times.Tie as tie
 use Rattle.buffer.proofs.put_byte_times.Reads as reads
 use Rattle.buffer.proofs.put_byte_times.Lts as lts
 
-abbrev invariant-loop : tie.invariant-loop
+abbrev invariant-loop : tie.invariant-loop-i
 invariant-loop out₀ at b n i₀ out i =
     (i ≤ n) × (length out ≡ length out₀) × (out ≡ over_at at (replicate i b) out₀)
 
-abbrev decreases-loop : tie.decreases-loop
+abbrev decreases-loop : tie.decreases-loop-i
 decreases-loop out₀ at b n i₀ out i =
     n - i
 
-loop-holds : tie.Need-loop-init invariant-loop decreases-loop
+loop-holds : tie.Need-loop-i-init invariant-loop decreases-loop
 loop-holds c =
     (search rules, search rules, sym (over_none _ _))
 
-add-out : tie.Need-overflow-add-out invariant-loop decreases-loop
+add-out : tie.Need-overflow_add-out invariant-loop decreases-loop
 add-out c = search rules
 
-slice-write-out : tie.Need-slice-write-out invariant-loop decreases-loop
+slice-write-out : tie.Need-bounds-out-at invariant-loop decreases-loop
 slice-write-out c = search rules
 
-add-i : tie.Need-overflow-add-i invariant-loop decreases-loop
+add-i : tie.Need-overflow_add-i invariant-loop decreases-loop
 add-i c = search rules
 
-loop-less : tie.Need-loop-smaller invariant-loop decreases-loop
+loop-less : tie.Need-loop-i-smaller invariant-loop decreases-loop
 loop-less c = search rules
 
-loop-again : tie.Need-loop-preserved invariant-loop decreases-loop
+loop-again : tie.Need-loop-i-preserved invariant-loop decreases-loop
 loop-again c =
-    let l = c.before.loop in (search rules, search rules, store_next _ _ _ _ _ l.invariant.2 (omega arith) (omega arith))
+    let l = c.before.loop-i in (search rules, search rules, store_next _ _ _ _ _ l.invariant.2 (omega arith) (omega arith))
 
-add-result : tie.Need-overflow-add-result invariant-loop decreases-loop
+add-result : tie.Need-overflow_add-result invariant-loop decreases-loop
 add-result c = search rules
 
-same_length : tie.Need-same-length invariant-loop decreases-loop
+same_length : tie.Need-shape_of-out invariant-loop decreases-loop
 same_length c = search rules
 
 returns : tie.Need-returns invariant-loop decreases-loop
 returns c =
-    let l = c.before.loop in
+    let l = c.before.loop-i in
     let a = c.before.before.args in
     let e : l.i ≡ a.n = omega arith in
     let stored = l.invariant.2 ∙ ap (λ (m : ℕ). over_at a.at (replicate m a.b) a.out.now) e in
     (search rules, stored, run_held a.at (a.at + a.n) (replicate a.n a.b) a.out.now l.out stored (omega (arith, length-replicate a.n a.b)))
 
-pub put-byte-times-spec : {M : Type 1} → statement M
-put-byte-times-spec =
+pub put_byte_times_spec : {M : Type 1} → statement M
+put_byte_times_spec =
     tie.close
     (tie.spec
     invariant-loop

@@ -5,14 +5,14 @@ use Rattle.call_lists.proofs.alike.Tie as tie
 use Rattle.call_lists.proofs.alike.Reads as reads
 use Rattle.call_lists.proofs.alike.Lts as lts
 
-returns : tie.Need-returns
-returns c = rw (ne_eqb _ _ c.if1.true)
+returns : tie.Need-returns-then-d-bytes
+returns c = rw (ne_eqb _ _ c.if-d-bytes.true)
 
-returns-2 : tie.Need-returns-2
-returns-2 c = rw (eq-eqb _ _ c.before.if1.false, ne_eqb _ _ c.if2.true)
+returns-2 : tie.Need-returns-then-e-numbers
+returns-2 c = rw (eq-eqb _ _ c.before.if-d-bytes.false, ne_eqb _ _ c.if-e-numbers.true)
 
-returns-3 : tie.Need-returns-3
-returns-3 c = rw (eq-eqb _ _ c.before.if1.false, eq-eqb _ _ c.if2.false)
+returns-3 : tie.Need-returns
+returns-3 c = rw (eq-eqb _ _ c.before.if-d-bytes.false, eq-eqb _ _ c.if-e-numbers.false)
 
 pub alike_spec : {M : Type 1} → statement M
 alike_spec = tie.close (tie.spec returns returns-2 returns-3)

@@ -18,28 +18,28 @@ abbrev other : tie.Start → Lent
 other s = lent_of s.args.other-bytes.now s.args.other_numbers.now s.args.other_texts.now
 
 -- ── what is asked on the way
-returns : tie.Need-returns
-returns c = let s = c.before.before.before.before.before.before.before in stays s.args.s (first s) (other s) c.if1.true
+returns : tie.Need-returns-then-s
+returns c = let s = c.before.before.before.before.before.before.before in stays s.args.s (first s) (other s) c.if-s.true
 
 put-requires : tie.Need-put-requires
 put-requires c κs = search rules
 
-put-numbers-requires : tie.Need-put-numbers-requires
+put-numbers-requires : tie.Need-put_numbers-requires
 put-numbers-requires c κs = search rules
 
 put-requires-2 : tie.Need-put-requires-2
 put-requires-2 c κs = search rules
 
-same_length : tie.Need-same-length
+same_length : tie.Need-shape_of-bytes
 same_length c = search rules
 
-same-length-2 : tie.Need-same-length-2
+same-length-2 : tie.Need-shape_of-numbers
 same-length-2 c = search rules
 
-same-length-3 : tie.Need-same-length-3
+same-length-3 : tie.Need-shape_of-texts
 same-length-3 c = search rules
 
-returns-2 : tie.Need-returns-2
+returns-2 : tie.Need-returns
 returns-2 c =
     let z = c.before.before in
     let y = z.before.before.before.before in
@@ -47,10 +47,10 @@ returns-2 c =
     let e = x.before.before in
     let s = e.before.before.before.before.before.before.before in
     copied s.args.s s.args.bytes.now s.args.numbers.now s.args.texts.now s.args.other-bytes.now s.args.other_numbers.now s.args.other_texts.now _ _ _
-    e.if1.false x.put.ensures.1 y.put-numbers.ensures z.put2.ensures.1
+    e.if-s.false x.put.ensures.1 y.put_numbers.ensures z.put-2.ensures.1
 
-pub bring-back-spec : {M : Type 1} → statement M
-bring-back-spec =
+pub bring_back_spec : {M : Type 1} → statement M
+bring_back_spec =
     tie.close
     (tie.spec
     returns

@@ -8,21 +8,21 @@ use Rattle.call_lists.proofs.moved.Tie as tie
 use Rattle.call_lists.proofs.moved.Reads as reads
 use Rattle.call_lists.proofs.moved.Lts as lts
 
-enum_told : tie.Need-enum-told
+enum_told : tie.Need-enum_told-1
 enum_told c = search rules
 
-enum-known-a : tie.Need-enum-known-a
+enum-known-a : tie.Need-enum_known-a
 enum-known-a c = search rules
 
-add-t8 : tie.Need-overflow-add-t8
+add-t8 : tie.Need-overflow_add-result
 add-t8 c = search rules
 
-returns : tie.Need-returns
-returns c = rw c.enum_told.given.1 (held_refused _ _)
+returns : tie.Need-returns-in-Refused
+returns c = rw c.enum_told-1.given.1 (held_refused _ _)
 
-returns-2 : tie.Need-returns-2
+returns-2 : tie.Need-returns-in-Done
 unfolding held_by answer_of
-returns-2 c = rw c.before.before.before.a.given.1
+returns-2 c = rw c.before.before.before.a-1.given.1
 
-pub moved-spec : {M : Type 1} → statement M
-moved-spec = tie.close (tie.spec enum_told enum-known-a add-t8 returns returns-2)
+pub moved_spec : {M : Type 1} → statement M
+moved_spec = tie.close (tie.spec enum_told enum-known-a add-t8 returns returns-2)

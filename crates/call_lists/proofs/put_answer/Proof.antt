@@ -9,37 +9,37 @@ use Rattle.call_lists.proofs.put_answer.Lts as lts
 use Rattle.recording.proofs.number_of.Reads as number-of-reads
 use Rattle.call_lists.proofs.put_two.Reads as put-two-reads
 
-enum-known-a : tie.Need-enum-known-a
+enum-known-a : tie.Need-enum_known-a
 enum-known-a c = search rules
 
-number-of-requires : tie.Need-number-of-requires
+number-of-requires : tie.Need-number_of-requires
 number-of-requires c κs = search rules
 
-put-two-requires : tie.Need-put-two-requires
+put-two-requires : tie.Need-put_two-requires
 put-two-requires c κs = search rules
 
-enum-known-a-2 : tie.Need-enum-known-a-2
+enum-known-a-2 : tie.Need-enum_known-a-in-Done-1
 enum-known-a-2 c = search rules
 
-put-two-requires-2 : tie.Need-put-two-requires-2
+put-two-requires-2 : tie.Need-put_two-requires-in-Done
 put-two-requires-2 c κs = search rules
 
-same_length : tie.Need-same-length
+same_length : tie.Need-shape_of-answers-in-Refused
 same_length c = search rules
 
-returns : tie.Need-returns
+returns : tie.Need-returns-in-Refused
 unfolding answer_of
-returns c = rw (c.before.before.before.before.before.before.a.given.1, sym c.before.before.before.number_of.ensures) c.before.before.put_two.ensures
+returns c = rw (c.before.before.before.before.before.before.a-1.given.1, sym c.before.before.before.number_of.ensures) c.before.before.put_two.ensures
 
-same-length-2 : tie.Need-same-length-2
+same-length-2 : tie.Need-shape_of-answers-in-Done
 same-length-2 c = search rules
 
-returns-2 : tie.Need-returns-2
+returns-2 : tie.Need-returns-in-Done
 unfolding answer_of
-returns-2 c = rw c.before.before.before.before.before.a2.given.1 c.before.before.put-two2.ensures
+returns-2 c = rw c.before.before.before.before.before.a-in-Done-1.given.1 c.before.before.put_two-in-Done.ensures
 
-pub put-answer-spec : {M : Type 1} → statement M
-put-answer-spec =
+pub put_answer_spec : {M : Type 1} → statement M
+put_answer_spec =
     tie.close
     (tie.spec
     enum-known-a

@@ -11,52 +11,52 @@ use Rattle.call_lists.proofs.put_numbers.Tie as tie
 use Rattle.call_lists.proofs.put_numbers.Reads as reads
 use Rattle.call_lists.proofs.put_numbers.Lts as lts
 
-abbrev invariant-loop : tie.invariant-loop
+abbrev invariant-loop : tie.invariant-loop-i
 invariant-loop to₀ from n i₀ to i =
     (i ≤ n) × (length to ≡ length to₀) × (to ≡ take i from ++ drop i to₀)
 
-abbrev decreases-loop : tie.decreases-loop
+abbrev decreases-loop : tie.decreases-loop-i
 decreases-loop to₀ from n i₀ to i =
     n - i
 
-loop-holds : tie.Need-loop-init invariant-loop decreases-loop
+loop-holds : tie.Need-loop-i-init invariant-loop decreases-loop
 loop-holds c = (omega arith, refl, refl)
 
-mul-to : tie.Need-overflow-mul-to invariant-loop decreases-loop
+mul-to : tie.Need-offset_bounds-from-i invariant-loop decreases-loop
 mul-to c = search rules
 
-shared-slice-read-to : tie.Need-shared-slice-read-to invariant-loop decreases-loop
+shared-slice-read-to : tie.Need-bounds-from-i invariant-loop decreases-loop
 shared-slice-read-to c = search rules
 
-mul-to-2 : tie.Need-overflow-mul-to-2 invariant-loop decreases-loop
+mul-to-2 : tie.Need-offset_bounds-to-i invariant-loop decreases-loop
 mul-to-2 c = search rules
 
-slice-write-to : tie.Need-slice-write-to invariant-loop decreases-loop
+slice-write-to : tie.Need-bounds-to-i invariant-loop decreases-loop
 slice-write-to c = search rules
 
-add-i : tie.Need-overflow-add-i invariant-loop decreases-loop
+add-i : tie.Need-overflow_add-i invariant-loop decreases-loop
 add-i c = search rules
 
-loop-less : tie.Need-loop-smaller invariant-loop decreases-loop
+loop-less : tie.Need-loop-i-smaller invariant-loop decreases-loop
 loop-less c = search rules
 
-loop-again : tie.Need-loop-preserved invariant-loop decreases-loop
+loop-again : tie.Need-loop-i-preserved invariant-loop decreases-loop
 loop-again c =
     let s = c.before.before.before in
-    let l = c.before.before.loop in
+    let l = c.before.before.loop-i in
     (search rules, search rules, cc (store_next s.args.from.now s.args.to.now l.i (omega arith) (omega arith)))
 
-same_length : tie.Need-same-length invariant-loop decreases-loop
-same_length c = c.before.loop.invariant.1
+same_length : tie.Need-shape_of-to invariant-loop decreases-loop
+same_length c = c.before.loop-i.invariant.1
 
 returns : tie.Need-returns invariant-loop decreases-loop
 returns c =
     let s = c.before.before in
-    let l = c.before.loop in
-    all_stored s.args.n s.args.from.now s.args.to.now l.to l.i s.requires.0 l.invariant.0 c.loop-test.false l.invariant.2
+    let l = c.before.loop-i in
+    all_stored s.args.n s.args.from.now s.args.to.now l.to l.i s.requires.0 l.invariant.0 c.loop-i-test.false l.invariant.2
 
-pub put-numbers-spec : {M : Type 1} → statement M
-put-numbers-spec =
+pub put_numbers_spec : {M : Type 1} → statement M
+put_numbers_spec =
     tie.close
     (tie.spec
     invariant-loop

@@ -5,14 +5,14 @@ use Rattle.call_lists.proofs.too_long.Tie as tie
 use Rattle.call_lists.proofs.too_long.Reads as reads
 use Rattle.call_lists.proofs.too_long.Lts as lts
 
-returns : tie.Need-returns
-returns c = rw (lt-ltb _ _ c.if1.true)
+returns : tie.Need-returns-then-bytes-d
+returns c = rw (lt-ltb _ _ c.if-bytes-d.true)
 
-returns-2 : tie.Need-returns-2
-returns-2 c = rw (le-ltb _ _ c.before.if1.false, lt-ltb _ _ c.if2.true)
+returns-2 : tie.Need-returns-then-numbers-e
+returns-2 c = rw (le-ltb _ _ c.before.if-bytes-d.false, lt-ltb _ _ c.if-numbers-e.true)
 
-returns-3 : tie.Need-returns-3
-returns-3 c = rw (le-ltb _ _ c.before.if1.false, le-ltb _ _ c.if2.false)
+returns-3 : tie.Need-returns
+returns-3 c = rw (le-ltb _ _ c.before.if-bytes-d.false, le-ltb _ _ c.if-numbers-e.false)
 
-pub too-long-spec : {M : Type 1} → statement M
-too-long-spec = tie.close (tie.spec returns returns-2 returns-3)
+pub too_long_spec : {M : Type 1} → statement M
+too_long_spec = tie.close (tie.spec returns returns-2 returns-3)

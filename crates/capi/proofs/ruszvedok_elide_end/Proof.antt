@@ -6,20 +6,20 @@ use Rattle.answer_numbers.specs.Five.{five}
 use Rattle.capi.proofs.ruszvedok_elide_end.Statement.{statement}
 use Rattle.capi.proofs.ruszvedok_elide_end.Tie as tie
 
-elide-end-requires : tie.Need-elide-end-requires
+elide-end-requires : tie.Need-elide_end-a-requires
 elide-end-requires c κs = search rules
 
 store-requires : tie.Need-store-requires
 store-requires c κs = search rules
 
-same_length : tie.Need-same-length
+same_length : tie.Need-shape_of-out
 same_length c = search rules
 
 returns : tie.Need-returns
 returns c =
-    let k = c.before.before.before.before.elide-end in
+    let k = c.before.before.before.before.elide_end-a in
     (c.store.ensures ∙ ap five k.ensures.0, k.ensures.1)
 
-pub ruszvedok-elide-end-spec : {M : Type 1} → statement M
-ruszvedok-elide-end-spec =
+pub ruszvedok_elide_end_spec : {M : Type 1} → statement M
+ruszvedok_elide_end_spec =
     tie.close (tie.spec elide-end-requires store-requires same_length returns)

@@ -6,20 +6,20 @@ use Rattle.answer_numbers.specs.Five.{five}
 use Rattle.capi.proofs.ruszvedok_elide_start.Statement.{statement}
 use Rattle.capi.proofs.ruszvedok_elide_start.Tie as tie
 
-elide-start-requires : tie.Need-elide-start-requires
+elide-start-requires : tie.Need-elide_start-a-requires
 elide-start-requires c κs = search rules
 
 store-requires : tie.Need-store-requires
 store-requires c κs = search rules
 
-same_length : tie.Need-same-length
+same_length : tie.Need-shape_of-out
 same_length c = search rules
 
 returns : tie.Need-returns
 returns c =
-    let k = c.before.before.before.before.elide-start in
+    let k = c.before.before.before.before.elide_start-a in
     (c.store.ensures ∙ ap five k.ensures.0, k.ensures.1)
 
-pub ruszvedok-elide-start-spec : {M : Type 1} → statement M
-ruszvedok-elide-start-spec =
+pub ruszvedok_elide_start_spec : {M : Type 1} → statement M
+ruszvedok_elide_start_spec =
     tie.close (tie.spec elide-start-requires store-requires same_length returns)

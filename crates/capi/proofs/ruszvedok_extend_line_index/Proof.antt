@@ -6,20 +6,20 @@ use Rattle.answer_numbers.specs.Five.{five}
 use Rattle.capi.proofs.ruszvedok_extend_line_index.Statement.{statement}
 use Rattle.capi.proofs.ruszvedok_extend_line_index.Tie as tie
 
-extend-line-index-requires : tie.Need-extend-line-index-requires
+extend-line-index-requires : tie.Need-extend_line_index-a-requires
 extend-line-index-requires c κs = search rules
 
 store-requires : tie.Need-store-requires
 store-requires c κs = search rules
 
-same_length : tie.Need-same-length
+same_length : tie.Need-shape_of-index
 same_length c = search rules
 
 returns : tie.Need-returns
 returns c =
-    let k = c.before.before.before.before.extend-line-index in
+    let k = c.before.before.before.before.extend_line_index-a in
     (c.store.ensures ∙ ap five k.ensures.0, k.ensures.1)
 
-pub ruszvedok-extend-line-index-spec : {M : Type 1} → statement M
-ruszvedok-extend-line-index-spec =
+pub ruszvedok_extend_line_index_spec : {M : Type 1} → statement M
+ruszvedok_extend_line_index_spec =
     tie.close (tie.spec extend-line-index-requires store-requires same_length returns)

@@ -6,16 +6,16 @@ use Rattle.answer_numbers.specs.Five.{three}
 use Rattle.capi.proofs.ruszvedok_line_at.Statement.{statement}
 use Rattle.capi.proofs.ruszvedok_line_at.Tie as tie
 
-line-at-requires : tie.Need-line-at-requires
+line-at-requires : tie.Need-line_at-a-requires
 line-at-requires c κs = search rules
 
-store-reply-requires : tie.Need-store-reply-requires
+store-reply-requires : tie.Need-store_reply-requires
 store-reply-requires c κs = search rules
 
 returns : tie.Need-returns
 returns c =
-    c.store-reply.ensures ∙ ap three c.before.before.line_at_lem.ensures
+    c.store_reply.ensures ∙ ap three c.before.before.line_at_lem.ensures
 
-pub ruszvedok-line-at-spec : {M : Type 1} → statement M
-ruszvedok-line-at-spec =
+pub ruszvedok_line_at_spec : {M : Type 1} → statement M
+ruszvedok_line_at_spec =
     tie.close (tie.spec line-at-requires store-reply-requires returns)

@@ -6,16 +6,16 @@ use Rattle.answer_numbers.specs.Five.{three}
 use Rattle.capi.proofs.ruszvedok_place_of.Statement.{statement}
 use Rattle.capi.proofs.ruszvedok_place_of.Tie as tie
 
-place-of-requires : tie.Need-place-of-requires
+place-of-requires : tie.Need-place_of-a-requires
 place-of-requires c κs = search rules
 
-store-reply-requires : tie.Need-store-reply-requires
+store-reply-requires : tie.Need-store_reply-requires
 store-reply-requires c κs = search rules
 
 returns : tie.Need-returns
 returns c =
-    c.store-reply.ensures ∙ ap three c.before.before.place_of.ensures
+    c.store_reply.ensures ∙ ap three c.before.before.place_of-a.ensures
 
-pub ruszvedok-place-of-spec : {M : Type 1} → statement M
-ruszvedok-place-of-spec =
+pub ruszvedok_place_of_spec : {M : Type 1} → statement M
+ruszvedok_place_of_spec =
     tie.close (tie.spec place-of-requires store-reply-requires returns)

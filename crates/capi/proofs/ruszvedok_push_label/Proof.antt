@@ -6,23 +6,23 @@ use Rattle.answer_numbers.specs.Five.{five}
 use Rattle.capi.proofs.ruszvedok_push_label.Statement.{statement}
 use Rattle.capi.proofs.ruszvedok_push_label.Tie as tie
 
-push-label-requires : tie.Need-push-label-requires
+push-label-requires : tie.Need-push_label-a-requires
 push-label-requires c κs = search rules
 
 store-requires : tie.Need-store-requires
 store-requires c κs = search rules
 
-same_length : tie.Need-same-length
+same_length : tie.Need-shape_of-entries
 same_length c = search rules
 
-same-length-2 : tie.Need-same-length-2
+same-length-2 : tie.Need-shape_of-text
 same-length-2 c = search rules
 
 returns : tie.Need-returns
 returns c =
-    let k = c.before.before.before.before.before.before.push-label in
+    let k = c.before.before.before.before.before.before.push_label-a in
     (c.store.ensures ∙ ap five k.ensures.0, k.ensures.1)
 
-pub ruszvedok-push-label-spec : {M : Type 1} → statement M
-ruszvedok-push-label-spec =
+pub ruszvedok_push_label_spec : {M : Type 1} → statement M
+ruszvedok_push_label_spec =
     tie.close (tie.spec push-label-requires store-requires same_length same-length-2 returns)

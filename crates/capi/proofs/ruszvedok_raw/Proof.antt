@@ -6,23 +6,23 @@ use Rattle.answer_numbers.specs.Five.{five}
 use Rattle.capi.proofs.ruszvedok_raw.Statement.{statement}
 use Rattle.capi.proofs.ruszvedok_raw.Tie as tie
 
-raw-requires : tie.Need-raw-requires
+raw-requires : tie.Need-raw-a-requires
 raw-requires c κs = search rules
 
 store-requires : tie.Need-store-requires
 store-requires c κs = search rules
 
-same_length : tie.Need-same-length
+same_length : tie.Need-shape_of-entries
 same_length c = search rules
 
-same-length-2 : tie.Need-same-length-2
+same-length-2 : tie.Need-shape_of-text
 same-length-2 c = search rules
 
 returns : tie.Need-returns
 returns c =
-    let k = c.before.before.before.before.before.before.raw in
+    let k = c.before.before.before.before.before.before.raw-a in
     (c.store.ensures ∙ ap five k.ensures.0, k.ensures.1)
 
-pub ruszvedok-raw-spec : {M : Type 1} → statement M
-ruszvedok-raw-spec =
+pub ruszvedok_raw_spec : {M : Type 1} → statement M
+ruszvedok_raw_spec =
     tie.close (tie.spec raw-requires store-requires same_length same-length-2 returns)

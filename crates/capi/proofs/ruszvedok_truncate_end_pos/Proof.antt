@@ -4,12 +4,12 @@ use borrow.Author.Rules.{rules}
 use Rattle.capi.proofs.ruszvedok_truncate_end_pos.Statement.{statement}
 use Rattle.capi.proofs.ruszvedok_truncate_end_pos.Tie as tie
 
-cut-end-requires : tie.Need-cut-end-requires
+cut-end-requires : tie.Need-cut_end-c-requires
 cut-end-requires c κs = search rules
 
 returns : tie.Need-returns
 returns c = search rules
 
-pub ruszvedok-truncate-end-pos-spec : {M : Type 1} → statement M
-ruszvedok-truncate-end-pos-spec =
+pub ruszvedok_truncate_end_pos_spec : {M : Type 1} → statement M
+ruszvedok_truncate_end_pos_spec =
     tie.close (tie.spec cut-end-requires returns)

@@ -4,12 +4,12 @@ use borrow.Author.Rules.{rules}
 use Rattle.capi.proofs.ruszvedok_truncate_start_pos.Statement.{statement}
 use Rattle.capi.proofs.ruszvedok_truncate_start_pos.Tie as tie
 
-cut-start-requires : tie.Need-cut-start-requires
+cut-start-requires : tie.Need-cut_start-c-requires
 cut-start-requires c κs = search rules
 
 returns : tie.Need-returns
 returns c = search rules
 
-pub ruszvedok-truncate-start-pos-spec : {M : Type 1} → statement M
-ruszvedok-truncate-start-pos-spec =
+pub ruszvedok_truncate_start_pos_spec : {M : Type 1} → statement M
+ruszvedok_truncate_start_pos_spec =
     tie.close (tie.spec cut-start-requires returns)

@@ -6,26 +6,26 @@ use Rattle.answer_numbers.specs.Five.{five}
 use Rattle.capi.proofs.ruszvedok_write_for_floor.Statement.{statement}
 use Rattle.capi.proofs.ruszvedok_write_for_floor.Tie as tie
 
-write-for-floor-requires : tie.Need-write-for-floor-requires
+write-for-floor-requires : tie.Need-write_for_floor-a-requires
 write-for-floor-requires c κs = search rules
 
 store-requires : tie.Need-store-requires
 store-requires c κs = search rules
 
-same_length : tie.Need-same-length
+same_length : tie.Need-shape_of-bytes
 same_length c = search rules
 
-same-length-2 : tie.Need-same-length-2
+same-length-2 : tie.Need-shape_of-numbers
 same-length-2 c = search rules
 
-same-length-3 : tie.Need-same-length-3
+same-length-3 : tie.Need-shape_of-texts
 same-length-3 c = search rules
 
 returns : tie.Need-returns
 returns c =
-    let k = c.before.before.before.before.before.before.before.before.write-for-floor in
+    let k = c.before.before.before.before.before.before.before.before.write_for_floor-a in
     (c.store.ensures ∙ ap five k.ensures.0, k.ensures.1)
 
-pub ruszvedok-write-for-floor-spec : {M : Type 1} → statement M
-ruszvedok-write-for-floor-spec =
+pub ruszvedok_write_for_floor_spec : {M : Type 1} → statement M
+ruszvedok_write_for_floor_spec =
     tie.close (tie.spec write-for-floor-requires store-requires same_length same-length-2 same-length-3 returns)

@@ -6,26 +6,26 @@ use Rattle.answer_numbers.specs.Five.{five}
 use Rattle.capi.proofs.ruszvedok_write_replaced.Statement.{statement}
 use Rattle.capi.proofs.ruszvedok_write_replaced.Tie as tie
 
-write-replaced-flat-requires : tie.Need-write-replaced-flat-requires
+write-replaced-flat-requires : tie.Need-write_replaced_flat-a-requires
 write-replaced-flat-requires c κs = search rules
 
 store-requires : tie.Need-store-requires
 store-requires c κs = search rules
 
-same_length : tie.Need-same-length
+same_length : tie.Need-shape_of-bytes
 same_length c = search rules
 
-same-length-2 : tie.Need-same-length-2
+same-length-2 : tie.Need-shape_of-numbers
 same-length-2 c = search rules
 
-same-length-3 : tie.Need-same-length-3
+same-length-3 : tie.Need-shape_of-texts
 same-length-3 c = search rules
 
 returns : tie.Need-returns
 returns c =
-    let k = c.before.before.before.before.before.before.before.before.write-replaced-flat in
+    let k = c.before.before.before.before.before.before.before.before.write_replaced_flat-a in
     (c.store.ensures ∙ ap five k.ensures.0, k.ensures.1)
 
-pub ruszvedok-write-replaced-spec : {M : Type 1} → statement M
-ruszvedok-write-replaced-spec =
+pub ruszvedok_write_replaced_spec : {M : Type 1} → statement M
+ruszvedok_write_replaced_spec =
     tie.close (tie.spec write-replaced-flat-requires store-requires same_length same-length-2 same-length-3 returns)

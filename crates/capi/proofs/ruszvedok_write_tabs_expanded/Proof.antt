@@ -6,26 +6,26 @@ use Rattle.answer_numbers.specs.Five.{five}
 use Rattle.capi.proofs.ruszvedok_write_tabs_expanded.Statement.{statement}
 use Rattle.capi.proofs.ruszvedok_write_tabs_expanded.Tie as tie
 
-write-tabs-expanded-requires : tie.Need-write-tabs-expanded-requires
+write-tabs-expanded-requires : tie.Need-write_tabs_expanded-a-requires
 write-tabs-expanded-requires c κs = search rules
 
 store-requires : tie.Need-store-requires
 store-requires c κs = search rules
 
-same_length : tie.Need-same-length
+same_length : tie.Need-shape_of-bytes
 same_length c = search rules
 
-same-length-2 : tie.Need-same-length-2
+same-length-2 : tie.Need-shape_of-numbers
 same-length-2 c = search rules
 
-same-length-3 : tie.Need-same-length-3
+same-length-3 : tie.Need-shape_of-texts
 same-length-3 c = search rules
 
 returns : tie.Need-returns
 returns c =
-    let k = c.before.before.before.before.before.before.before.before.write-tabs-expanded in
+    let k = c.before.before.before.before.before.before.before.before.write_tabs_expanded-a in
     (c.store.ensures ∙ ap five k.ensures.0, k.ensures.1)
 
-pub ruszvedok-write-tabs-expanded-spec : {M : Type 1} → statement M
-ruszvedok-write-tabs-expanded-spec =
+pub ruszvedok_write_tabs_expanded_spec : {M : Type 1} → statement M
+ruszvedok_write_tabs_expanded_spec =
     tie.close (tie.spec write-tabs-expanded-requires store-requires same_length same-length-2 same-length-3 returns)

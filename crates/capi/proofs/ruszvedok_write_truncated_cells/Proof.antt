@@ -6,23 +6,23 @@ use Rattle.answer_numbers.specs.Five.{five}
 use Rattle.capi.proofs.ruszvedok_write_truncated_cells.Statement.{statement}
 use Rattle.capi.proofs.ruszvedok_write_truncated_cells.Tie as tie
 
-write-truncated-cells-requires : tie.Need-write-truncated-cells-requires
+write-truncated-cells-requires : tie.Need-write_truncated_cells-a-requires
 write-truncated-cells-requires c κs = search rules
 
 store-requires : tie.Need-store-requires
 store-requires c κs = search rules
 
-same_length : tie.Need-same-length
+same_length : tie.Need-shape_of-bytes
 same_length c = search rules
 
-same-length-2 : tie.Need-same-length-2
+same-length-2 : tie.Need-shape_of-cells
 same-length-2 c = search rules
 
 returns : tie.Need-returns
 returns c =
-    let k = c.before.before.before.before.before.before.write-truncated-cells in
+    let k = c.before.before.before.before.before.before.write_truncated_cells-a in
     (c.store.ensures ∙ ap five k.ensures.0.0, k.ensures.0.1)
 
-pub ruszvedok-write-truncated-cells-spec : {M : Type 1} → statement M
-ruszvedok-write-truncated-cells-spec =
+pub ruszvedok_write_truncated_cells_spec : {M : Type 1} → statement M
+ruszvedok_write_truncated_cells_spec =
     tie.close (tie.spec write-truncated-cells-requires store-requires same_length same-length-2 returns)

@@ -6,29 +6,29 @@ use Rattle.answer_numbers.specs.Five.{five}
 use Rattle.capi.proofs.ruszvedok_write_wrapped.Statement.{statement}
 use Rattle.capi.proofs.ruszvedok_write_wrapped.Tie as tie
 
-write-wrapped-requires : tie.Need-write-wrapped-requires
+write-wrapped-requires : tie.Need-write_wrapped-a-requires
 write-wrapped-requires c κs = search rules
 
 store-requires : tie.Need-store-requires
 store-requires c κs = search rules
 
-same_length : tie.Need-same-length
+same_length : tie.Need-shape_of-bytes
 same_length c = search rules
 
-same-length-2 : tie.Need-same-length-2
+same-length-2 : tie.Need-shape_of-numbers
 same-length-2 c = search rules
 
-same-length-3 : tie.Need-same-length-3
+same-length-3 : tie.Need-shape_of-texts
 same-length-3 c = search rules
 
-same-length-4 : tie.Need-same-length-4
+same-length-4 : tie.Need-shape_of-lines
 same-length-4 c = search rules
 
 returns : tie.Need-returns
 returns c =
-    let k = c.before.before.before.before.before.before.before.before.before.before.write-wrapped in
+    let k = c.before.before.before.before.before.before.before.before.before.before.write_wrapped-a in
     (c.store.ensures ∙ ap five k.ensures.0, k.ensures.1)
 
-pub ruszvedok-write-wrapped-spec : {M : Type 1} → statement M
-ruszvedok-write-wrapped-spec =
+pub ruszvedok_write_wrapped_spec : {M : Type 1} → statement M
+ruszvedok_write_wrapped_spec =
     tie.close (tie.spec write-wrapped-requires store-requires same_length same-length-2 same-length-3 same-length-4 returns)

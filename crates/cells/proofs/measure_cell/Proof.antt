@@ -10,67 +10,67 @@ use Rattle.cells.proofs.measure_cell.Lts as lts
 use Rattle.chars.proofs.text_width.Reads as text-width-reads
 use Rattle.chars.proofs.truncate_end_pos.Reads as truncate-end-pos-reads
 
-text-width-requires : tie.Need-text-width-requires
+text-width-requires : tie.Need-text_width-requires
 text-width-requires c κs = search rules
 
-returns : tie.Need-returns
+returns : tie.Need-returns-then-cell-max
 returns c =
     let x = c.before.before.before.args in
-    let w = c.text-width in
-    let k = cell_short x.m x.max w.result x.cell.now c.before.if1.true w.ensures.0 in
+    let w = c.text_width in
+    let k = cell_short x.m x.max w.result x.cell.now c.before.if-cell-max.true w.ensures.0 in
     (k.0, (omega arith, omega arith, k.1))
 
-truncate-end-pos-requires : tie.Need-truncate-end-pos-requires
+truncate-end-pos-requires : tie.Need-truncate_end_pos-k-requires
 truncate-end-pos-requires c κs = search rules
 
-sub-truncate-end-pos : tie.Need-overflow-sub-truncate-end-pos
+sub-truncate-end-pos : tie.Need-slice_bounds-truncate_end_pos-count
 sub-truncate-end-pos c = search rules
 
-part-truncate-end-pos-start : tie.Need-slice-bounds-truncate-end-pos-start
+part-truncate-end-pos-start : tie.Need-slice_bounds-truncate_end_pos-start
 part-truncate-end-pos-start c = search rules
 
-part-truncate-end-pos-end : tie.Need-slice-bounds-truncate-end-pos-end
+part-truncate-end-pos-end : tie.Need-slice_bounds-truncate_end_pos-end
 part-truncate-end-pos-end c = search rules
 
-sub-truncate-end-pos-2 : tie.Need-overflow-sub-truncate-end-pos-2
+sub-truncate-end-pos-2 : tie.Need-overflow_sub-max
 sub-truncate-end-pos-2 c = search rules
 
-truncate-end-pos-requires-2 : tie.Need-truncate-end-pos-requires-2
+truncate-end-pos-requires-2 : tie.Need-truncate_end_pos-more-requires
 truncate-end-pos-requires-2 c κs = search rules
 
-add-if2 : tie.Need-overflow-add-if2
+add-if2 : tie.Need-overflow_add-at
 add-if2 c = search rules
 
-add-t18 : tie.Need-overflow-add-t18
+add-t18 : tie.Need-overflow_add-result
 add-t18 c = search rules
 
-returns-2 : tie.Need-returns-2
+returns-2 : tie.Need-returns-then-at-more
 returns-2 c =
     let s = c.before.before.before.before.before.before.before.before.before.before in
     let x = s.args in
-    let k = c.before.before.before.before.before.before.before.truncate-end-pos in
-    let r = c.before.before.before.before.truncate-end-pos2 in (
+    let k = c.before.before.before.before.before.before.before.truncate_end_pos-k in
+    let r = c.before.before.before.before.truncate_end_pos-more in (
       cell_whole x.m x.max x.cell.now _ _ _ _ _ s.requires.1 k.ensures.0.0 k.ensures.0.1 (part_to_end x.cell.now k.result.pos) r.ensures.0.0 r.ensures.0.1
-          c.before.before.if2.true,
+          c.before.before.if-at-more.true,
       (omega arith, omega arith, omega (arith, k.ensures.1.1, r.ensures.1.1)),
     )
 
-add-t9 : tie.Need-overflow-add-t9
+add-t9 : tie.Need-overflow_add-result-2
 add-t9 c = search rules
 
-returns-3 : tie.Need-returns-3
+returns-3 : tie.Need-returns
 returns-3 c =
     let s = c.before.before.before.before.before.before.before.before.before.before in
     let x = s.args in
-    let k = c.before.before.before.before.before.before.before.truncate-end-pos in
-    let r = c.before.before.before.before.truncate-end-pos2 in (
+    let k = c.before.before.before.before.before.before.before.truncate_end_pos-k in
+    let r = c.before.before.before.before.truncate_end_pos-more in (
       cell_cut x.m x.max x.cell.now _ _ _ _ _ s.requires.1 k.ensures.0.0 k.ensures.0.1 (part_to_end x.cell.now k.result.pos) r.ensures.0.0 r.ensures.0.1
-          c.before.before.if2.false,
+          c.before.before.if-at-more.false,
       (k.ensures.1.0, omega arith, omega (arith, k.ensures.1.1)),
     )
 
-pub measure-cell-spec : {M : Type 1} → statement M
-measure-cell-spec =
+pub measure_cell_spec : {M : Type 1} → statement M
+measure_cell_spec =
     tie.close
     (tie.spec
     text-width-requires

@@ -14,33 +14,33 @@ use Rattle.cells.proofs.measure_cell.Reads as measure-cell-reads
 use Rattle.cells.proofs.measure_ellipsis.Reads as measure-ellipsis-reads
 use Rattle.chars.proofs.text_width.Reads as text-width-reads
 
-text-width-requires : tie.Need-text-width-requires
+text-width-requires : tie.Need-text_width-requires
 unfolding lead_table
 text-width-requires c κs = search rules
 
-returns : tie.Need-returns
+returns : tie.Need-returns-then-cell-max
 returns c =
     let x = c.before.before.before.before.before.args in
-    let w = c.text-width in
-    let k = cell_short (mark_of x.max-width x.ellipsis.now) x.max-width w.result x.cell.now c.before.before.if1.true w.ensures.0 in
+    let w = c.text_width in
+    let k = cell_short (mark_of x.max-width x.ellipsis.now) x.max-width w.result x.cell.now c.before.before.if-cell-max.true w.ensures.0 in
     (k.0 ∙ plan_with_lem x.max-width x.ellipsis.now x.cell.now, (omega arith, omega arith))
 
-measure-ellipsis-requires : tie.Need-measure-ellipsis-requires
+measure-ellipsis-requires : tie.Need-measure_ellipsis-m-requires
 unfolding lead_table
 measure-ellipsis-requires c κs = search rules
 
-measure-cell-requires : tie.Need-measure-cell-requires
+measure-cell-requires : tie.Need-measure_cell-requires
 unfolding lead_table
 measure-cell-requires c κs = search rules
 
-returns-2 : tie.Need-returns-2
+returns-2 : tie.Need-returns
 returns-2 c =
     let x = c.before.before.before.before.before.before.before.args in
-    let m = c.before.before.measure-ellipsis in
-    let r = c.measure-cell in (
+    let m = c.before.before.measure_ellipsis-m in
+    let r = c.measure_cell in (
       r.ensures.0 ∙ ap (λ (k : Mark). plan_with k x.max-width x.cell.now) m.ensures.0 ∙ plan_with_lem x.max-width x.ellipsis.now x.cell.now,
       (r.ensures.1.0, omega (arith, r.ensures.1.1, m.ensures.1.0)),
     )
 
-pub plan-cell-spec : {M : Type 1} → statement M
-plan-cell-spec = tie.close (tie.spec text-width-requires returns measure-ellipsis-requires measure-cell-requires returns-2)
+pub plan_cell_spec : {M : Type 1} → statement M
+plan_cell_spec = tie.close (tie.spec text-width-requires returns measure-ellipsis-requires measure-cell-requires returns-2)

@@ -9,50 +9,50 @@ use Rattle.cells.proofs.put_cell.Reads as reads
 use Rattle.cells.proofs.put_cell.Lts as lts
 use Rattle.buffer.proofs.put.Reads as put_reads
 
-add-put : tie.Need-overflow-add-put
+add-put : tie.Need-overflow_add-from
 add-put c = search rules
 
-put-requires : tie.Need-put-requires
+put-requires : tie.Need-put-end-requires
 put-requires c κs =
     let s = c.before.before.before.before.before in
     let a = s.args in
-    let f = first_fits a.p a.content.now a.ellipsis.now a.from a.to a.at a.bytes.now s.requires.0.2 s.requires.0.1 _ s.requires.1.1 s.requires.1.0 in
+    let f = first_fits a.p a.content.now a.ellipsis.now a.from a.to a.at a.bytes-1.now s.requires.0.2 s.requires.0.1 _ s.requires.1.1 s.requires.1.0 in
     (omega arith, omega (arith, s.requires.0), omega (arith, f))
 
-same_length : tie.Need-same-length
+same_length : tie.Need-shape_of-bytes-then-not-p
 same_length c = search rules
 
-returns : tie.Need-returns
+returns : tie.Need-returns-then-not-p
 returns c =
     let s = c.before.before.before.before.before.before.before.before.before.before in
     let a = s.args in
-    let z = not-true a.p.cut c.if1.true in
-    let k = c.before.before.before.before.put in
-    put_whole a.p a.content.now a.ellipsis.now a.from a.to a.at a.bytes.now s.requires.0.2 s.requires.0.1 _ _ z (s.requires.1.0 z) k.ensures.0 k.ensures.1
+    let z = c.if-not-p.true in
+    let k = c.before.before.before.before.put-end in
+    put_whole a.p a.content.now a.ellipsis.now a.from a.to a.at a.bytes-1.now s.requires.0.2 s.requires.0.1 _ _ z (s.requires.1.0 z) k.ensures.0 k.ensures.1
 
-put-requires-2 : tie.Need-put-requires-2
+put-requires-2 : tie.Need-put-requires
 put-requires-2 c κs =
     let s = c.before.before.before.before.before.before.before.before.before.before.before in
     let a = s.args in
-    let z = not_false a.p.cut c.before.if1.false in
-    let k = c.before.before.before.before.before.put in
-    let f = second_fits a.p a.content.now a.ellipsis.now a.from a.to a.at a.bytes.now s.requires.0.2 s.requires.0.1 z s.requires.0.3 _ s.requires.1.1 in
+    let z = c.before.if-not-p.false in
+    let k = c.before.before.before.before.before.put-end in
+    let f = second_fits a.p a.content.now a.ellipsis.now a.from a.to a.at a.bytes-1.now s.requires.0.2 s.requires.0.1 z s.requires.0.3 _ s.requires.1.1 in
     (omega arith, s.requires.0.3, omega (arith, f, k.ensures.0, k.auto.0))
 
-same-length-2 : tie.Need-same-length-2
+same-length-2 : tie.Need-shape_of-bytes
 same-length-2 c = search rules
 
-returns-2 : tie.Need-returns-2
+returns-2 : tie.Need-returns
 returns-2 c =
     let s = c.before.before.before.before.before.before.before.before.before.before.before.before.before.before in
     let a = s.args in
-    let z = not_false a.p.cut c.before.before.before.before.if1.false in
-    let k = c.before.before.before.before.before.before.before.before.put in
-    let l = c.before.before.put2 in
-    put_cut a.p a.content.now a.ellipsis.now a.from a.to a.at a.bytes.now s.requires.0.2 s.requires.0.1 z s.requires.0.3 _ _ _ _ (omega (arith, s.requires.1.1)) k.ensures.0
+    let z = c.before.before.before.before.if-not-p.false in
+    let k = c.before.before.before.before.before.before.before.before.put-end in
+    let l = c.before.before.put in
+    put_cut a.p a.content.now a.ellipsis.now a.from a.to a.at a.bytes-1.now s.requires.0.2 s.requires.0.1 z s.requires.0.3 _ _ _ _ (omega (arith, s.requires.1.1)) k.ensures.0
     k.ensures.1 l.ensures.0 l.ensures.1
 
-pub put-cell-spec : {M : Type 1} → statement M
-put-cell-spec =
+pub put_cell_spec : {M : Type 1} → statement M
+put_cell_spec =
     tie.close
     (tie.spec add-put put-requires same_length returns put-requires-2 same-length-2 returns-2)

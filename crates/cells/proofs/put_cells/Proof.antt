@@ -20,144 +20,144 @@ use Rattle.cells.proofs.measure_cell.Reads as measure-cell-reads
 use Rattle.cells.proofs.put_cell.Reads as put-cell-reads
 use Rattle.cells.proofs.set_cell.Reads as set-cell-reads
 
-abbrev invariant-loop : tie.invariant-loop
+abbrev invariant-loop : tie.invariant-loop-k
 invariant-loop t content ends ellipsis m max-width bytes₀ cells₀ max at₀ from₀ k₀ bytes cells at from k =
     Written max-width ellipsis ends content bytes₀ cells₀ bytes cells at from k
 
-abbrev decreases-loop : tie.decreases-loop
+abbrev decreases-loop : tie.decreases-loop-k
 decreases-loop t content ends ellipsis m max-width bytes₀ cells₀ max at₀ from₀ k₀ bytes cells at from k = length ends - k
 
 -- the start of the call, from a turn
-abbrev start : tie.In-loop invariant-loop decreases-loop → tie.Start invariant-loop decreases-loop
+abbrev start : tie.In-loop-k invariant-loop decreases-loop → tie.Start invariant-loop decreases-loop
 start c = c.before.before.before.before.before.before.before
 
 -- where a cell is measured, and where it is written
-abbrev turn : tie.After-measure-cell invariant-loop decreases-loop → tie.In-loop invariant-loop decreases-loop
+abbrev turn : tie.After-measure_cell-p invariant-loop decreases-loop → tie.In-loop-k invariant-loop decreases-loop
 turn c = c.before.before.before
 
-abbrev put : tie.After-struct-known invariant-loop decreases-loop → tie.After-put-cell invariant-loop decreases-loop
+abbrev put : tie.After-struct_known-1 invariant-loop decreases-loop → tie.After-put_cell-at invariant-loop decreases-loop
 put c = c.before.before.before.before
 
 -- what is known of the end that is read
-above : (c : tie.In-loop invariant-loop decreases-loop) → c.before.loop.from ≤ get_or (start c).args.ends.now c.before.loop.k 0
-above c = end_above _ _ _ _ c.before.loop.invariant.ahead c.loop-test.true
+above : (c : tie.In-loop-k invariant-loop decreases-loop) → c.before.loop-k.from ≤ get_or (start c).args.ends.now c.before.loop-k.k 0
+above c = end_above _ _ _ _ c.before.loop-k.invariant.ahead c.loop-k-test.true
 
-within : (c : tie.In-loop invariant-loop decreases-loop) → get_or (start c).args.ends.now c.before.loop.k 0 ≤ length (start c).args.content.now
-within c = end_within _ _ _ _ c.before.loop.invariant.ahead c.loop-test.true
+within : (c : tie.In-loop-k invariant-loop decreases-loop) → get_or (start c).args.ends.now c.before.loop-k.k 0 ≤ length (start c).args.content.now
+within c = end_within _ _ _ _ c.before.loop-k.invariant.ahead c.loop-k-test.true
 
 -- the end that is read, and the cell up to it
-abbrev end : tie.In-loop invariant-loop decreases-loop → ℕ
-end c = get_or (start c).args.ends.now c.before.loop.k 0
+abbrev end : tie.In-loop-k invariant-loop decreases-loop → ℕ
+end c = get_or (start c).args.ends.now c.before.loop-k.k 0
 
-abbrev cell : tie.In-loop invariant-loop decreases-loop → List ℕ
-cell c = part c.before.loop.from (end c) (start c).args.content.now
+abbrev cell : tie.In-loop-k invariant-loop decreases-loop → List ℕ
+cell c = part c.before.loop-k.from (end c) (start c).args.content.now
 
-planned : (c : tie.After-measure-cell invariant-loop decreases-loop)
-    → c.measure-cell.result ≡ plan_with (mark_of (start (turn c)).args.max-width (start (turn c)).args.ellipsis.now) (start (turn c)).args.max-width (cell (turn c))
+planned : (c : tie.After-measure_cell-p invariant-loop decreases-loop)
+    → c.measure_cell-p.result ≡ plan_with (mark_of (start (turn c)).args.max-width (start (turn c)).args.ellipsis.now) (start (turn c)).args.max-width (cell (turn c))
 planned c =
     let a = (start (turn c)).args in
-    c.measure-cell.ensures.0 ∙ ap (λ (k : Mark). plan_with k a.max-width (cell (turn c))) (start (turn c)).pre.1.0.0
+    c.measure_cell-p.ensures.0 ∙ ap (λ (k : Mark). plan_with k a.max-width (cell (turn c))) (start (turn c)).requires.1.0.0
 
-loop-holds : tie.Need-loop-init invariant-loop decreases-loop
+loop-holds : tie.Need-loop-k-init invariant-loop decreases-loop
 loop-holds c =
     write_start _ _ _ _ _ _ c.before.before.before.before.before.requires.1.1.0
 
-mul-end : tie.Need-overflow-mul-end invariant-loop decreases-loop
+mul-end : tie.Need-offset_bounds-ends-k invariant-loop decreases-loop
 mul-end c = search rules
 
-shared-slice-read-end : tie.Need-shared-slice-read-end invariant-loop decreases-loop
+shared-slice-read-end : tie.Need-bounds-ends-k invariant-loop decreases-loop
 shared-slice-read-end c = search rules
 
-cast-end : tie.Need-overflow-cast-end invariant-loop decreases-loop
+cast-end : tie.Need-overflow_cast-end invariant-loop decreases-loop
 cast-end c =
-    omega (arith, c.shared-slice-known4.given c.before.before.loop.k)
+    omega (arith, c.shared_slice_known-in-loop-k-1.given c.before.before.loop-k.k)
 
-sub-measure-cell : tie.Need-overflow-sub-measure-cell invariant-loop decreases-loop
+sub-measure-cell : tie.Need-slice_bounds-measure_cell-count invariant-loop decreases-loop
 sub-measure-cell c = omega (arith, above c.before)
 
-part-measure-cell-start : tie.Need-slice-bounds-measure-cell-start invariant-loop decreases-loop
+part-measure-cell-start : tie.Need-slice_bounds-measure_cell-start invariant-loop decreases-loop
 part-measure-cell-start c = omega (arith, above c.before)
 
-part-measure-cell-end : tie.Need-slice-bounds-measure-cell-end invariant-loop decreases-loop
+part-measure-cell-end : tie.Need-slice_bounds-measure_cell-end invariant-loop decreases-loop
 part-measure-cell-end c = omega (arith, within c.before)
 
-measure-cell-requires : tie.Need-measure-cell-requires invariant-loop decreases-loop
+measure-cell-requires : tie.Need-measure_cell-p-requires invariant-loop decreases-loop
 measure-cell-requires c κs = search rules
 
-put-cell-requires : tie.Need-put-cell-requires invariant-loop decreases-loop
+put-cell-requires : tie.Need-put_cell-at-requires invariant-loop decreases-loop
 put-cell-requires c κs =
     let f = c.before in
     let l = turn f in
     let s = start l in
-    let k = f.measure-cell in
-    let n = length_part l.before.loop.from (end l) s.args.content.now (within l) in (
-      (above l, within l, omega (arith, k.ensures.1.0, n), omega (arith, k.ensures.1.1, s.pre.1.0.2)),
+    let k = f.measure_cell-p in
+    let n = length_part l.before.loop-k.from (end l) s.args.content.now (within l) in (
+      (above l, within l, omega (arith, k.ensures.1.0, n), omega (arith, k.ensures.1.1, s.requires.1.0.2)),
       (
         λ z. uncut s.args.max-width s.args.ellipsis.now (cell l) k.result (planned f) z ∙ n,
-        cell_fits _ _ _ _ _ _ _ _ _ _ _ l.before.loop.inv l.loop-test.taken k.result (cell l) (end l) refl refl (planned f) s.pre.1.1.1.1,
+        cell_fits _ _ _ _ _ _ _ _ _ _ _ l.before.loop-k.invariant l.loop-k-test.true k.result (cell l) (end l) refl refl (planned f) s.requires.1.1.1.1,
       ),
     )
 
-mul-set-cell : tie.Need-overflow-mul-set-cell invariant-loop decreases-loop
+mul-set-cell : tie.Need-overflow_mul-k invariant-loop decreases-loop
 mul-set-cell c =
     let l = turn c.before.before.before.before.before in
-    omega (arith, l.loop-test.taken, few _ _ (start l).pre.1.1.0)
+    omega (arith, l.loop-k-test.true, few _ _ (start l).requires.1.1.0)
 
-cast-set-cell : tie.Need-overflow-cast-set-cell invariant-loop decreases-loop
+cast-set-cell : tie.Need-overflow_cast-at invariant-loop decreases-loop
 cast-set-cell c =
     let p = c.before.before.before in
     let f = p.before.before in
     let l = turn f in
     omega (
       arith,
-      p.put-cell.ensures.0,
-      end_small _ _ _ _ _ _ _ _ _ _ _ l.before.loop.inv l.loop-test.taken f.measure-cell.result (cell l) (end l) refl refl (planned f) (start l).pre.1.1.1.0,
+      p.put_cell-at.ensures.0,
+      end_small _ _ _ _ _ _ _ _ _ _ _ l.before.loop-k.invariant l.loop-k-test.true f.measure_cell-p.result (cell l) (end l) refl refl (planned f) (start l).requires.1.1.1.0,
     )
 
-cast-set-cell-2 : tie.Need-overflow-cast-set-cell-2 invariant-loop decreases-loop
+cast-set-cell-2 : tie.Need-overflow_cast-p invariant-loop decreases-loop
 cast-set-cell-2 c =
     let f = (put c).before.before in
-    omega (arith, f.measure-cell.ensures.1.2, (start (turn f)).fits)
+    omega (arith, f.measure_cell-p.ensures.1.2, (start (turn f)).fits)
 
-set-cell-requires : tie.Need-set-cell-requires invariant-loop decreases-loop
+set-cell-requires : tie.Need-set_cell-requires invariant-loop decreases-loop
 set-cell-requires c κs =
     let f = (put c).before.before in
     let l = turn f in
-    numbers_fit _ _ _ _ _ _ _ _ _ _ _ l.before.loop.inv l.loop-test.taken f.measure-cell.result (cell l) (end l) refl refl (planned f) (start l).pre.1.1.1.2
+    numbers_fit _ _ _ _ _ _ _ _ _ _ _ l.before.loop-k.invariant l.loop-k-test.true f.measure_cell-p.result (cell l) (end l) refl refl (planned f) (start l).requires.1.1.1.2
 
-add-k : tie.Need-overflow-add-k invariant-loop decreases-loop
+add-k : tie.Need-overflow_add-k invariant-loop decreases-loop
 add-k c =
     let l = turn (put c.before.before.before).before.before in
-    omega (arith, l.loop-test.taken, few _ _ (start l).pre.1.1.0)
+    omega (arith, l.loop-k-test.true, few _ _ (start l).requires.1.1.0)
 
-loop-less : tie.Need-loop-smaller invariant-loop decreases-loop
+loop-less : tie.Need-loop-k-smaller invariant-loop decreases-loop
 loop-less c =
     let l = turn (put c.before.before.before).before.before in
-    omega (arith, l.loop-test.taken)
+    omega (arith, l.loop-k-test.true)
 
-loop-again : tie.Need-loop-preserved invariant-loop decreases-loop
+loop-again : tie.Need-loop-k-preserved invariant-loop decreases-loop
 loop-again c =
     let n = c.before.before in
     let p = put n.before in
     let f = p.before.before in
     let l = turn f in
-    write_next _ _ _ _ _ _ _ _ _ _ _ l.before.loop.inv l.loop-test.taken f.measure-cell.result (cell l) (end l) refl refl (planned f) _ _ _ p.put-cell.ensures.0 p.put-cell.ensures.1
-    p.put-cell.kept.0 n.set-cell.ensures n.set-cell.auto.0
+    write_next _ _ _ _ _ _ _ _ _ _ _ l.before.loop-k.invariant l.loop-k-test.true f.measure_cell-p.result (cell l) (end l) refl refl (planned f) _ _ _ p.put_cell-at.ensures.0 p.put_cell-at.ensures.1
+    p.put_cell-at.kept.0 n.set_cell.ensures n.set_cell.auto.0
 
-same_length : tie.Need-same-length invariant-loop decreases-loop
-same_length c = c.before.loop.invariant.bytes.long
+same_length : tie.Need-shape_of-bytes invariant-loop decreases-loop
+same_length c = c.before.loop-k.invariant.bytes-1.long
 
-same-length-2 : tie.Need-same-length-2 invariant-loop decreases-loop
-same-length-2 c = c.before.loop.invariant.numbers.long
+same-length-2 : tie.Need-shape_of-cells invariant-loop decreases-loop
+same-length-2 c = c.before.loop-k.invariant.numbers.long
 
 returns : tie.Need-returns invariant-loop decreases-loop
 returns c =
-    let l = c.before.loop in
-    let w = write_end _ _ _ _ _ _ _ _ _ _ _ l.invariant c.loop-test.false in
+    let l = c.before.loop-k in
+    let w = write_end _ _ _ _ _ _ _ _ _ _ _ l.invariant c.loop-k-test.false in
     (w.0, (w.1, w.2))
 
-pub put-cells-spec : {M : Type 1} → statement M
-put-cells-spec =
+pub put_cells_spec : {M : Type 1} → statement M
+put_cells_spec =
     tie.close
     (tie.spec
     invariant-loop

@@ -8,23 +8,23 @@ use Rattle.cells.proofs.set_cell.Tie as tie
 use Rattle.cells.proofs.set_cell.Reads as reads
 use Rattle.cells.proofs.set_cell.Lts as lts
 
-mul-cells : tie.Need-overflow-mul-cells
+mul-cells : tie.Need-offset_bounds-cells-k
 mul-cells c = search rules
 
-slice-write-cells : tie.Need-slice-write-cells
+slice-write-cells : tie.Need-bounds-cells-k
 slice-write-cells c = search rules
 
-add-cells : tie.Need-overflow-add-cells
+add-cells : tie.Need-overflow_add-cells
 add-cells c = search rules
 
-mul-cells-2 : tie.Need-overflow-mul-cells-2
+mul-cells-2 : tie.Need-offset_bounds-cells-k-2
 mul-cells-2 c = search rules
 
-slice-write-cells-2 : tie.Need-slice-write-cells-2
+slice-write-cells-2 : tie.Need-bounds-cells-k-2
 slice-write-cells-2 c =
     simp length-set (omega arith)
 
-same_length : tie.Need-same-length
+same_length : tie.Need-shape_of-cells
 same_length c =
     simp length-set
 
@@ -32,8 +32,8 @@ returns : tie.Need-returns
 returns c =
     two_stores _ _ _ _ c.requires
 
-pub set-cell-spec : {M : Type 1} → statement M
-set-cell-spec =
+pub set_cell_spec : {M : Type 1} → statement M
+set_cell_spec =
     tie.close
     (tie.spec
     mul-cells

@@ -15,50 +15,50 @@ use Rattle.cells.proofs.settle_cells.Lts as lts
 use Rattle.cells.proofs.joined_len.Reads as joined-len-reads
 use Rattle.writer.proofs.settle.Reads as settle-reads
 
-mul-numbers : tie.Need-overflow-mul-numbers
+mul-numbers : tie.Need-overflow_mul-numbers
 mul-numbers c =
     omega (arith, few _ _ c.before.before.requires.1.1.0)
 
-mul-settle : tie.Need-overflow-mul-settle
+mul-settle : tie.Need-overflow_mul-ends
 mul-settle c =
     let s = c.before.before.before in
     omega (arith, product_small s.args.m s.args.ends.now _ s.requires.1.1.0 s.requires.1.1.2)
 
-add-settle : tie.Need-overflow-add-settle
+add-settle : tie.Need-overflow_add-content
 add-settle c =
     let s = c.before.before.before in
     omega (arith, product_small s.args.m s.args.ends.now _ s.requires.1.1.0 s.requires.1.1.2, s.requires.1.1.1)
 
-settle-requires : tie.Need-settle-requires
+settle-requires : tie.Need-settle-largest-requires
 settle-requires c κs = search rules
 
-enum_told : tie.Need-enum-told
+enum_told : tie.Need-enum_told-1
 enum_told c = search rules
 
-returns : tie.Need-returns
+returns : tie.Need-returns-in-Room
 unfolding settled_fault
 returns c =
     let s = c.before.before.before.before.before.before in
     let a = s.args in
-    let h = sym c.before.before.settle.ensures ∙ ap settled_fault c.enum_told.given.1 in
+    let h = sym c.before.before.settle-largest.ensures ∙ ap settled_fault c.enum_told-1.given.1 in
     sym (smaller_fits _ _ _ _ _ _ _ h (most_bytes a.m a.max a.ends.now a.content.now s.requires.1.1.0) (omega arith))
 
-enum-told-2 : tie.Need-enum-told-2
+enum-told-2 : tie.Need-enum_told-in-Refused
 enum-told-2 c = search rules
 
-joined-len-requires : tie.Need-joined-len-requires
+joined-len-requires : tie.Need-joined_len-requires
 joined-len-requires c κs = search rules
 
-settle-requires-2 : tie.Need-settle-requires-2
+settle-requires-2 : tie.Need-settle-requires
 settle-requires-2 c κs = search rules
 
-returns-2 : tie.Need-returns-2
+returns-2 : tie.Need-returns
 returns-2 c =
     let a = c.before.before.before.before.before.before.before.before.args in
-    c.settle2.ensures ∙ ap (λ (n : ℕ). sizes_fault n 0 0 (length a.ends.now * 2) (room_of_state a.bytes 0 0 a.cells)) c.before.joined-len.ensures
+    c.settle.ensures ∙ ap (λ (n : ℕ). sizes_fault n 0 0 (length a.ends.now * 2) (room_of_state a.bytes 0 0 a.cells)) c.before.joined_len.ensures
 
-pub settle-cells-spec : {M : Type 1} → statement M
-settle-cells-spec =
+pub settle_cells_spec : {M : Type 1} → statement M
+settle_cells_spec =
     tie.close
     (tie.spec
     mul-numbers

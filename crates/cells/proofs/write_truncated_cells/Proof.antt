@@ -22,102 +22,102 @@ use Rattle.cells.proofs.wrong_ends.Reads as wrong-ends-reads
 
 -- ── the places on the way, and what is known there
 -- once the ends are tested
-abbrev start : tie.Else3 → tie.Start
+abbrev start : tie.Else-wrong_ends → tie.Start
 start c = c.before.before.before.before.before.before.before.before.before
 
-right : (c : tie.Else3) → wrong_ends_of (start c).args.ends.now (length (start c).args.content.now) ≡ false
-right c = sym c.before.wrong-ends.ensures ∙ c.if3.false
+right : (c : tie.Else-wrong_ends) → wrong_ends_of (start c).args.ends.now (length (start c).args.content.now) ≡ false
+right c = sym c.before.wrong_ends.ensures ∙ c.if-wrong_ends.false
 
 -- once the sizes are settled
-abbrev tested : tie.After-settle-cells → tie.Else3
+abbrev tested : tie.After-settle_cells-verdict → tie.Else-wrong_ends
 tested c = c.before.before.before.before
 
-settled : (c : tie.After-settle-cells)
+settled : (c : tie.After-settle_cells-verdict)
     → let a = (start (tested c)).args in
-    settled_fault c.settle_cells.result
+    settled_fault c.settle_cells-verdict.result
     ≡ sizes_fault (length_with (mark_of a.max-width a.ellipsis.now) a.max-width (parts a.ends.now a.content.now)) 0 0 (length a.ends.now * 2)
-    (room_of_state (length a.bytes.now) 0 0 (length a.cells.now))
+    (room_of_state (length a.bytes-1.now) 0 0 (length a.cells-1.now))
 settled c =
     let a = (start (tested c)).args in
-    c.settle_cells.ensures
-    ∙ ap (λ (k : Mark). sizes_fault (length_with k a.max-width (parts a.ends.now a.content.now)) 0 0 (length a.ends.now * 2) (room_of_state (length a.bytes.now) 0 0 (length a.cells.now)))
-    c.before.before.measure-ellipsis.ensures.0
+    c.settle_cells-verdict.ensures
+    ∙ ap (λ (k : Mark). sizes_fault (length_with k a.max-width (parts a.ends.now a.content.now)) 0 0 (length a.ends.now * 2) (room_of_state (length a.bytes-1.now) 0 0 (length a.cells-1.now)))
+    c.before.before.measure_ellipsis-m.ensures.0
 
 -- ── what is asked on the way
-returns : tie.Need-returns
+returns : tie.Need-returns-then-content-gt-DATA_LIMIT
 returns c =
     let a = c.before.before.before.before.before.before.args in
-    data_refused a.max-width a.ends.now a.ellipsis.now a.content.now a.bytes.now a.cells.now c.if1.true
+    data_refused a.max-width a.ends.now a.ellipsis.now a.content.now a.bytes-1.now a.cells-1.now c.if-content-gt-DATA_LIMIT.true
 
-returns-2 : tie.Need-returns-2
+returns-2 : tie.Need-returns-then-ellipsis-gt-DATA_LIMIT
 returns-2 c =
     let a = c.before.before.before.before.before.before.before.args in
-    ellipsis_refused a.max-width a.ends.now a.ellipsis.now a.content.now a.bytes.now a.cells.now c.before.if1.false c.if2.true
+    ellipsis_refused a.max-width a.ends.now a.ellipsis.now a.content.now a.bytes-1.now a.cells-1.now c.before.if-content-gt-DATA_LIMIT.false c.if-ellipsis-gt-DATA_LIMIT.true
 
-wrong-ends-requires : tie.Need-wrong-ends-requires
+wrong-ends-requires : tie.Need-wrong_ends-requires
 wrong-ends-requires c κs = search rules
 
-returns-3 : tie.Need-returns-3
+returns-3 : tie.Need-returns-then-wrong_ends
 returns-3 c =
     let a = c.before.before.before.before.before.before.before.before.before.args in
-    let w = c.before.wrong-ends in
-    ends_refused a.max-width a.ends.now a.ellipsis.now a.content.now a.bytes.now a.cells.now c.before.before.before.if1.false c.before.before.if2.false
-    (sym w.ensures ∙ c.if3.true)
+    let w = c.before.wrong_ends in
+    ends_refused a.max-width a.ends.now a.ellipsis.now a.content.now a.bytes-1.now a.cells-1.now c.before.before.before.if-content-gt-DATA_LIMIT.false c.before.before.if-ellipsis-gt-DATA_LIMIT.false
+    (sym w.ensures ∙ c.if-wrong_ends.true)
 
-measure-ellipsis-requires : tie.Need-measure-ellipsis-requires
+measure-ellipsis-requires : tie.Need-measure_ellipsis-m-requires
 unfolding lead_table
 measure-ellipsis-requires c κs = refl
 
-settle-cells-requires : tie.Need-settle-cells-requires
+settle-cells-requires : tie.Need-settle_cells-verdict-requires
 unfolding lead_table
 settle-cells-requires c κs =
     let t = c.before.before.before in
-    let k = c.before.measure-ellipsis in
-    (refl, (k.ensures.1.1, (right t, t.before.before.before.if1.false, omega (arith, k.ensures.1.0, t.before.before.if2.false))))
+    let k = c.before.measure_ellipsis-m in
+    (refl, (k.ensures.1.1, (right t, t.before.before.before.if-content-gt-DATA_LIMIT.false, omega (arith, k.ensures.1.0, t.before.before.if-ellipsis-gt-DATA_LIMIT.false))))
 
-enum-known-verdict : tie.Need-enum-known-verdict
+enum-known-verdict : tie.Need-enum_known-verdict
 enum-known-verdict c = search rules
 
-returns-4 : tie.Need-returns-4
+returns-4 : tie.Need-returns-in-Refused
 returns-4 c =
     let k = c.before.before.before in
     let t = tested k in
     let a = (start t).args in
-    sizes_refused a.max-width a.ends.now a.ellipsis.now a.content.now a.bytes.now a.cells.now t.before.before.before.if1.left t.before.before.if2.left (right t)
-    k.settle_cells.result (settled k) c.before.verdict.given.0.0 c.before.verdict.given.1
+    sizes_refused a.max-width a.ends.now a.ellipsis.now a.content.now a.bytes-1.now a.cells-1.now t.before.before.before.if-content-gt-DATA_LIMIT.false t.before.before.if-ellipsis-gt-DATA_LIMIT.false (right t)
+    k.settle_cells-verdict.result (settled k) c.before.verdict-1.given.0.0 c.before.verdict-1.given.1
 
-enum_told : tie.Need-enum-told
+enum_told : tie.Need-enum_told-1
 enum_told c = search rules
 
-put-cells-requires : tie.Need-put-cells-requires
+put-cells-requires : tie.Need-put_cells-end-requires
 unfolding lead_table
 put-cells-requires c κs =
     let k = c.before.before.before.before.before in
     let t = tested k in
     let a = (start t).args in
-    let m = k.before.before.measure-ellipsis in
-    let h = has_room a.max-width a.ends.now a.ellipsis.now a.content.now a.bytes.now a.cells.now t.before.before.before.if1.left t.before.before.if2.left (right t)
-    k.settle_cells.result (settled k) c.before.before.before.enum_told.given.1 in
+    let m = k.before.before.measure_ellipsis-m in
+    let h = has_room a.max-width a.ends.now a.ellipsis.now a.content.now a.bytes-1.now a.cells-1.now t.before.before.before.if-content-gt-DATA_LIMIT.false t.before.before.if-ellipsis-gt-DATA_LIMIT.false (right t)
+    k.settle_cells-verdict.result (settled k) c.before.before.before.enum_told-1.given.1 in
     (refl, ((m.ensures.0, m.ensures.1.1, m.ensures.1.0), (right t, h)))
 
-same_length : tie.Need-same-length
+same_length : tie.Need-shape_of-bytes
 same_length c = search rules
 
-same-length-2 : tie.Need-same-length-2
+same-length-2 : tie.Need-shape_of-cells
 same-length-2 c = search rules
 
-returns-5 : tie.Need-returns-5
+returns-5 : tie.Need-returns
 returns-5 c =
     let w = c.before.before.before.before in
     let k = w.before.before.before.before.before.before in
     let t = tested k in
     let a = (start t).args in
-    let e = w.put-cells.ensures in
-    written a.max-width a.ends.now a.ellipsis.now a.content.now a.bytes.now a.cells.now t.before.before.before.if1.left t.before.before.if2.left (right t)
-    k.settle_cells.result (settled k) w.before.before.before.before.enum_told.given.1 _ _ _ e.0 e.1.0 e.1.1
+    let e = w.put_cells-end.ensures in
+    written a.max-width a.ends.now a.ellipsis.now a.content.now a.bytes-1.now a.cells-1.now t.before.before.before.if-content-gt-DATA_LIMIT.false t.before.before.if-ellipsis-gt-DATA_LIMIT.false (right t)
+    k.settle_cells-verdict.result (settled k) w.before.before.before.before.enum_told-1.given.1 _ _ _ e.0 e.1.0 e.1.1
 
-pub write-truncated-cells-spec : {M : Type 1} → statement M
-write-truncated-cells-spec =
+pub write_truncated_cells_spec : {M : Type 1} → statement M
+write_truncated_cells_spec =
     tie.close
     (tie.spec
     returns

@@ -13,60 +13,60 @@ use Rattle.cells.proofs.wrong_ends.Tie as tie
 use Rattle.cells.proofs.wrong_ends.Reads as reads
 use Rattle.cells.proofs.wrong_ends.Lts as lts
 
-abbrev invariant-loop : tie.invariant-loop
+abbrev invariant-loop : tie.invariant-loop-k
 invariant-loop ends n last₀ k₀ last k =
     (k ≤ length ends) × (never_fall last (drop k ends) ≡ never_fall 0 ends) × (last_end last (drop k ends) ≡ last_end 0 ends)
 
-abbrev decreases-loop : tie.decreases-loop
+abbrev decreases-loop : tie.decreases-loop-k
 decreases-loop ends n last₀ k₀ last k = length ends - k
 
-returns : tie.Need-returns invariant-loop decreases-loop
-returns c = too_many _ _ c.if1.true
+returns : tie.Need-returns-then-ends-gt-CELL_LIMIT invariant-loop decreases-loop
+returns c = too_many _ _ c.if-ends-gt-CELL_LIMIT.true
 
-loop-holds : tie.Need-loop-init invariant-loop decreases-loop
+loop-holds : tie.Need-loop-k-init invariant-loop decreases-loop
 loop-holds c = (omega arith, refl, refl)
 
-mul-end : tie.Need-overflow-mul-end invariant-loop decreases-loop
+mul-end : tie.Need-offset_bounds-ends-k invariant-loop decreases-loop
 mul-end c = search rules
 
-shared-slice-read-end : tie.Need-shared-slice-read-end invariant-loop decreases-loop
+shared-slice-read-end : tie.Need-bounds-ends-k invariant-loop decreases-loop
 shared-slice-read-end c = search rules
 
-cast-end : tie.Need-overflow-cast-end invariant-loop decreases-loop
+cast-end : tie.Need-overflow_cast-end invariant-loop decreases-loop
 cast-end c =
-    omega (arith, c.shared-slice-known.given c.before.before.loop.k)
+    omega (arith, c.shared_slice_known-1.given c.before.before.loop-k.k)
 
-returns-2 : tie.Need-returns-2 invariant-loop decreases-loop
+returns-2 : tie.Need-returns-then-end-last invariant-loop decreases-loop
 returns-2 c =
-    let l = c.before.before.before.loop in
-    falls _ _ (sym l.invariant.1 ∙ never_falls _ l.k l.last c.before.before.loop-test.true c.if2.true)
+    let l = c.before.before.before.loop-k in
+    falls _ _ (sym l.invariant.1 ∙ never_falls _ l.k l.last c.before.before.loop-k-test.true c.if-end-last.true)
 
-add-k : tie.Need-overflow-add-k invariant-loop decreases-loop
+add-k : tie.Need-overflow_add-k invariant-loop decreases-loop
 add-k c = search rules
 
-loop-less : tie.Need-loop-smaller invariant-loop decreases-loop
+loop-less : tie.Need-loop-k-smaller invariant-loop decreases-loop
 loop-less c = search rules
 
-loop-again : tie.Need-loop-preserved invariant-loop decreases-loop
+loop-again : tie.Need-loop-k-preserved invariant-loop decreases-loop
 loop-again c =
-    let l = c.before.before.before.loop in
-    let more = c.before.before.loop-test.true in (
+    let l = c.before.before.before.loop-k in
+    let more = c.before.before.loop-k-test.true in (
       omega (arith, more),
-      sym (never_next _ l.k l.last more c.if2.false) ∙ l.invariant.1,
+      sym (never_next _ l.k l.last more c.if-end-last.false) ∙ l.invariant.1,
       sym (last_next _ l.k l.last more) ∙ l.invariant.2,
     )
 
-returns-3 : tie.Need-returns-3 invariant-loop decreases-loop
+returns-3 : tie.Need-returns invariant-loop decreases-loop
 returns-3 c =
-    let l = c.before.loop in
-    let z = none_left _ l.k c.loop-test.false in
+    let l = c.before.loop-k in
+    let z = none_left _ l.k c.loop-k-test.false in
     let never = sym l.invariant.1 ∙ ap (never_fall l.last) z in
     let last = ap (last_end l.last) (sym z) ∙ l.invariant.2 in
     let n = c.before.before.before.args.n in
-    ap (λ (j : ℕ). not (eqb j n)) last ∙ judged _ _ c.before.before.if1.false never
+    ap (λ (j : ℕ). not (eqb j n)) last ∙ judged _ _ c.before.before.if-ends-gt-CELL_LIMIT.false never
 
-pub wrong-ends-spec : {M : Type 1} → statement M
-wrong-ends-spec =
+pub wrong_ends_spec : {M : Type 1} → statement M
+wrong_ends_spec =
     tie.close
     (tie.spec
     invariant-loop

@@ -5,13 +5,13 @@ use Rattle.char_runs.proofs.continues.Tie as tie
 use Rattle.char_runs.proofs.continues.Reads as reads
 use Rattle.char_runs.proofs.continues.Lts as lts
 
-returns : tie.Need-returns
+returns : tie.Need-returns-then-b-lt128
 returns c =
-    rw (lt-leb 0x80 c.before.args.b c.if1.true)
+    rw (lt-leb 0x80 c.before.args.b c.if-b-lt128.true)
 
-returns-2 : tie.Need-returns-2
+returns-2 : tie.Need-returns
 returns-2 c =
-    rw (le-leb 0x80 c.before.args.b c.if1.false)
+    rw (le-leb 0x80 c.before.args.b c.if-b-lt128.false)
 
-pub continues-spec : {M : Type 1} → statement M
-continues-spec = tie.close (tie.spec returns returns-2)
+pub continues_spec : {M : Type 1} → statement M
+continues_spec = tie.close (tie.spec returns returns-2)

@@ -17,85 +17,85 @@ use Rattle.char_runs.proofs.covered.Lts as lts
 use Rattle.char_runs.proofs.visible_end.Reads as visible-end-reads
 use Rattle.chars.proofs.seen_at.Reads as seen-at-reads
 
-abbrev invariant-loop : tie.invariant-loop
+abbrev invariant-loop : tie.invariant-loop-i
 invariant-loop t s at end i₀ width₀ i width =
     Plain s at end i width
 
-abbrev decreases-loop : tie.decreases-loop
+abbrev decreases-loop : tie.decreases-loop-i
 decreases-loop t s at end i₀ width₀ i width =
     end - i
 
-visible-end-requires : tie.Need-visible-end-requires invariant-loop decreases-loop
+visible-end-requires : tie.Need-visible_end-i-requires invariant-loop decreases-loop
 visible-end-requires c κs = search rules
 
-sub-width : tie.Need-overflow-sub-width invariant-loop decreases-loop
+sub-width : tie.Need-overflow_sub-width invariant-loop decreases-loop
 sub-width c = search rules
 
-loop-holds : tie.Need-loop-init invariant-loop decreases-loop
+loop-holds : tie.Need-loop-i-init invariant-loop decreases-loop
 loop-holds c =
     let s = c.before.before in
     let a = s.args in
-    let v = c.visible-end in
+    let v = c.visible_end-i in
     let i : a.at + (v.result - a.at) ≡ v.result = omega (arith, v.ensures.0) in
     rw i at (plain-visible a.s.now a.at a.end (v.result - a.at) (omega (arith, v.ensures.0, v.ensures.1)) s.requires.1.1 (rw i v.ensures.2))
 
-shared-slice-read-if1 : tie.Need-shared-slice-read-if1 invariant-loop decreases-loop
+shared-slice-read-if1 : tie.Need-bounds-s-i invariant-loop decreases-loop
 shared-slice-read-if1 c = search rules
 
-returns : tie.Need-returns invariant-loop decreases-loop
+returns : tie.Need-returns-then-s-i-eq10 invariant-loop decreases-loop
 returns c =
-    let l = c.before.before.before.loop in
+    let l = c.before.before.before.loop-i in
     let s = c.before.before.before.before.before.before in
     let a = s.args in
     let none : l.i ≡ a.at → same (char_in a.at a.s.now).text (0x0A ∷ []) ≡ false → Passes a.s.now a.at a.end =
-    λ e n. absurd (false≢true (sym n ∙ newline_alone a.s.now a.at (subst (λ (i : ℕ). get_or a.s.now i 0 ≡ 0x0A) e c.if1.true))) in
+    λ e n. absurd (false≢true (sym n ∙ newline_alone a.s.now a.at (subst (λ (i : ℕ). get_or a.s.now i 0 ≡ 0x0A) e c.if-s-i-eq10.true))) in
     plain_covered a.s.now a.at a.end l.i l.width s.requires.1.1 l.invariant none
 
-seen-at-requires : tie.Need-seen-at-requires invariant-loop decreases-loop
+seen-at-requires : tie.Need-seen_at-c-requires invariant-loop decreases-loop
 seen-at-requires c κs = search rules
 
-add-if2 : tie.Need-overflow-add-if2 invariant-loop decreases-loop
+add-if2 : tie.Need-overflow_add-i invariant-loop decreases-loop
 add-if2 c = search rules
 
-returns-2 : tie.Need-returns-2 invariant-loop decreases-loop
+returns-2 : tie.Need-returns-then-end-i invariant-loop decreases-loop
 returns-2 c =
-    let l = c.before.before.before.before.before.before.loop in
+    let l = c.before.before.before.before.before.before.loop-i in
     let s = c.before.before.before.before.before.before.before.before.before in
     let a = s.args in
-    let passes : Passes a.s.now l.i a.end = omega (arith, c.before.before.seen_at.ensures.0.0, c.if2.true) in
+    let passes : Passes a.s.now l.i a.end = omega (arith, c.before.before.seen_at-c.ensures.0.0, c.if-end-i.true) in
     plain_covered a.s.now a.at a.end l.i l.width s.requires.1.1 l.invariant (λ e n. subst (λ (i : ℕ). Passes a.s.now i a.end) e passes)
 
-cast-width : tie.Need-overflow-cast-width invariant-loop decreases-loop
+cast-width : tie.Need-overflow_cast-width invariant-loop decreases-loop
 cast-width c = search rules
 
-add-width : tie.Need-overflow-add-width invariant-loop decreases-loop
+add-width : tie.Need-overflow_add-width invariant-loop decreases-loop
 add-width c = search rules
 
-add-i : tie.Need-overflow-add-i invariant-loop decreases-loop
+add-i : tie.Need-overflow_add-i-in-loop-i invariant-loop decreases-loop
 add-i c = search rules
 
-loop-less : tie.Need-loop-smaller invariant-loop decreases-loop
+loop-less : tie.Need-loop-i-smaller invariant-loop decreases-loop
 loop-less c = search rules
 
-loop-again : tie.Need-loop-preserved invariant-loop decreases-loop
+loop-again : tie.Need-loop-i-preserved invariant-loop decreases-loop
 loop-again c =
-    let l = c.before.before.before.before.before.before.before.before.loop in
-    let k = c.before.before.before.before.seen_at in
+    let l = c.before.before.before.before.before.before.before.before.loop-i in
+    let k = c.before.before.before.before.seen_at-c in
     let s = c.before.before.before.before.before.before.before.before.before.before.before in
     let a = s.args in
-    let more : l.i < length a.s.now = omega (arith, c.before.before.before.before.before.before.before.loop-test.true, s.requires.1.1) in
-    plain_further a.s.now a.at a.end l.i l.width k.result.len k.result.width more (omega (arith, c.before.before.if2.false))
-    k.ensures.1.0 k.ensures.1.2 k.ensures.0.0 k.ensures.0.1 c.before.before.before.before.before.if1.false l.invariant
+    let more : l.i < length a.s.now = omega (arith, c.before.before.before.before.before.before.before.loop-i-test.true, s.requires.1.1) in
+    plain_further a.s.now a.at a.end l.i l.width k.result.len k.result.width more (omega (arith, c.before.before.if-end-i.false))
+    k.ensures.1.0 k.ensures.1.2 k.ensures.0.0 k.ensures.0.1 c.before.before.before.before.before.if-s-i-eq10.false l.invariant
 
-returns-3 : tie.Need-returns-3 invariant-loop decreases-loop
+returns-3 : tie.Need-returns invariant-loop decreases-loop
 returns-3 c =
-    let l = c.before.loop in
+    let l = c.before.loop-i in
     let s = c.before.before.before.before in
     let a = s.args in
-    plain_covered a.s.now a.at a.end l.i l.width s.requires.1.1 l.invariant (λ e n. absurd (omega (arith, e, c.loop-test.false, s.requires.1.0)))
+    plain_covered a.s.now a.at a.end l.i l.width s.requires.1.1 l.invariant (λ e n. absurd (omega (arith, e, c.loop-i-test.false, s.requires.1.0)))
 
-pub covered-spec : {M : Type 1} → statement M
-covered-spec =
+pub covered_spec : {M : Type 1} → statement M
+covered_spec =
     tie.close
     (tie.spec
     invariant-loop

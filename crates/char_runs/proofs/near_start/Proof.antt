@@ -12,50 +12,50 @@ use Rattle.char_runs.proofs.near_start.Reads as reads
 use Rattle.char_runs.proofs.near_start.Lts as lts
 use Rattle.char_runs.proofs.continues.Reads as continues-reads
 
-abbrev invariant-loop : tie.invariant-loop
+abbrev invariant-loop : tie.invariant-loop-i
 invariant-loop s at end i₀ i =
     (at ≤ i) × (i < end)
 
-abbrev decreases-loop : tie.decreases-loop
+abbrev decreases-loop : tie.decreases-loop-i
 decreases-loop s at end i₀ i =
     i
 
-sub-i : tie.Need-overflow-sub-i invariant-loop decreases-loop
+sub-i : tie.Need-overflow_sub-i invariant-loop decreases-loop
 sub-i c = search rules
 
-loop-holds : tie.Need-loop-init invariant-loop decreases-loop
+loop-holds : tie.Need-loop-i-init invariant-loop decreases-loop
 loop-holds c = search rules
 
-shared-slice-read-continues : tie.Need-shared-slice-read-continues invariant-loop decreases-loop
+shared-slice-read-continues : tie.Need-bounds-s-i invariant-loop decreases-loop
 shared-slice-read-continues c = search rules
 
 continues-requires : tie.Need-continues-requires invariant-loop decreases-loop
 continues-requires c κs = search rules
 
-returns : tie.Need-returns invariant-loop decreases-loop
+returns : tie.Need-returns-then-not-continues invariant-loop decreases-loop
 returns c =
-    let l = c.before.before.before.before.loop in
+    let l = c.before.before.before.before.loop-i in
     let s = c.before.before.before.before.before.before in
     let k = c.before.continues in
-    let seam = seam-byte s.args.s.now s.args.at l.i l.invariant.0 (omega (arith, l.invariant.1, s.requires.1)) (sym k.ensures ∙ not-true k.result c.if1.true) in
+    let seam = seam-byte s.args.s.now s.args.at l.i l.invariant.0 (omega (arith, l.invariant.1, s.requires.1)) (sym k.ensures ∙ c.if-not-continues.true) in
     (l.invariant.0, l.invariant.1, seam)
 
-sub-i-2 : tie.Need-overflow-sub-i-2 invariant-loop decreases-loop
+sub-i-2 : tie.Need-overflow_sub-i-in-loop-i invariant-loop decreases-loop
 sub-i-2 c = search rules
 
-loop-less : tie.Need-loop-smaller invariant-loop decreases-loop
+loop-less : tie.Need-loop-i-smaller invariant-loop decreases-loop
 loop-less c = search rules
 
-loop-again : tie.Need-loop-preserved invariant-loop decreases-loop
+loop-again : tie.Need-loop-i-preserved invariant-loop decreases-loop
 loop-again c = search rules
 
-returns-2 : tie.Need-returns-2 invariant-loop decreases-loop
+returns-2 : tie.Need-returns invariant-loop decreases-loop
 returns-2 c =
     let s = c.before.before.before in
     (omega arith, s.requires.0, seam_none s.args.s.now s.args.at)
 
-pub near-start-spec : {M : Type 1} → statement M
-near-start-spec =
+pub near_start_spec : {M : Type 1} → statement M
+near_start_spec =
     tie.close
     (tie.spec
     invariant-loop

@@ -9,44 +9,44 @@ use Rattle.char_runs.proofs.visible_end.Tie as tie
 use Rattle.char_runs.proofs.visible_end.Reads as reads
 use Rattle.char_runs.proofs.visible_end.Lts as lts
 
-abbrev invariant-loop : tie.invariant-loop
+abbrev invariant-loop : tie.invariant-loop-i
 invariant-loop s at end i₀ i = (at ≤ i) × (i ≤ end) × VisibleFrom s at i
 
-abbrev decreases-loop : tie.decreases-loop
+abbrev decreases-loop : tie.decreases-loop-i
 decreases-loop s at end i₀ i = end - i
 
-loop-holds : tie.Need-loop-init invariant-loop decreases-loop
+loop-holds : tie.Need-loop-i-init invariant-loop decreases-loop
 loop-holds c = (search rules, search rules, λ k q p. absurd (omega (arith, q, p)))
 
-shared-slice-read-if1 : tie.Need-shared-slice-read-if1 invariant-loop decreases-loop
+shared-slice-read-if1 : tie.Need-bounds-s-i invariant-loop decreases-loop
 shared-slice-read-if1 c = search rules
 
-shared-slice-read-if2 : tie.Need-shared-slice-read-if2 invariant-loop decreases-loop
+shared-slice-read-if2 : tie.Need-bounds-s-i-in-loop-i invariant-loop decreases-loop
 shared-slice-read-if2 c = search rules
 
-add-i : tie.Need-overflow-add-i invariant-loop decreases-loop
+add-i : tie.Need-overflow_add-i invariant-loop decreases-loop
 add-i c = search rules
 
-loop-less : tie.Need-loop-smaller invariant-loop decreases-loop
+loop-less : tie.Need-loop-i-smaller invariant-loop decreases-loop
 loop-less c = search rules
 
-loop-again : tie.Need-loop-preserved invariant-loop decreases-loop
+loop-again : tie.Need-loop-i-preserved invariant-loop decreases-loop
 loop-again c =
-    let l = c.before.before.before.before.before.loop in
-    let more = below_more _ _ l.invariant.2 (λ p. (omega (arith, c.before.before.if1.false), omega (arith, c.if2.false))) in
+    let l = c.before.before.before.before.before.loop-i in
+    let more = below_more _ _ l.invariant.2 (λ p. (omega (arith, c.before.before.if-s-i-lt32.false), omega (arith, c.if-s-i-ge127.false))) in
     (search rules, search rules, more)
 
-returns : tie.Need-returns invariant-loop decreases-loop
+returns : tie.Need-returns-after-loop-i invariant-loop decreases-loop
 returns c = search rules
 
-returns-2 : tie.Need-returns-2 invariant-loop decreases-loop
+returns-2 : tie.Need-returns-then-s-i-lt32 invariant-loop decreases-loop
 returns-2 c = search rules
 
-returns-3 : tie.Need-returns-3 invariant-loop decreases-loop
+returns-3 : tie.Need-returns-then-s-i-ge127 invariant-loop decreases-loop
 returns-3 c = search rules
 
-pub visible-end-spec : {M : Type 1} → statement M
-visible-end-spec =
+pub visible_end_spec : {M : Type 1} → statement M
+visible_end_spec =
     tie.close
     (tie.spec
     invariant-loop

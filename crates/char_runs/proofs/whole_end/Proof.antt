@@ -17,81 +17,81 @@ use Rattle.char_runs.proofs.continues.Reads as continues-reads
 use Rattle.char_runs.proofs.near_start.Reads as near-start-reads
 use Rattle.chars.proofs.seen_at.Reads as seen-at-reads
 
-abbrev invariant-loop : tie.invariant-loop
+abbrev invariant-loop : tie.invariant-loop-i
 invariant-loop t s at end i₀ i =
     (at ≤ i) × (i ≤ end) × Seam (drop at s) (i - at)
 
-abbrev decreases-loop : tie.decreases-loop
+abbrev decreases-loop : tie.decreases-loop-i
 decreases-loop t s at end i₀ i =
     end - i
 
-returns : tie.Need-returns invariant-loop decreases-loop
+returns : tie.Need-returns-then-end-s invariant-loop decreases-loop
 returns c =
     let s = c.before.before in
     let a = s.args in
-    let seam = seam_end a.s.now a.at a.end (omega (arith, s.requires.1.0)) c.if1.true in
+    let seam = seam_end a.s.now a.at a.end (omega (arith, s.requires.1.0)) c.if-end-s.true in
     record { from = omega (arith, s.requires.1.0); to = omega arith; seam = seam; none = λ e. absurd (omega (arith, e, s.requires.1.0)) }
 
-shared-slice-read-continues : tie.Need-shared-slice-read-continues invariant-loop decreases-loop
+shared-slice-read-continues : tie.Need-bounds-s-end invariant-loop decreases-loop
 shared-slice-read-continues c = search rules
 
 continues-requires : tie.Need-continues-requires invariant-loop decreases-loop
 continues-requires c κs = search rules
 
-returns-2 : tie.Need-returns-2 invariant-loop decreases-loop
+returns-2 : tie.Need-returns-then-not-continues invariant-loop decreases-loop
 returns-2 c =
     let s = c.before.before.before.before.before in
     let a = s.args in
     let k = c.before.continues in
-    let more : a.end < length a.s.now = omega (arith, s.requires.1.1, c.before.before.before.if1.false) in
-    let seam = seam-byte a.s.now a.at a.end (omega (arith, s.requires.1.0)) more (sym k.ensures ∙ not-true k.result c.if2.true) in
+    let more : a.end < length a.s.now = omega (arith, s.requires.1.1, c.before.before.before.if-end-s.false) in
+    let seam = seam-byte a.s.now a.at a.end (omega (arith, s.requires.1.0)) more (sym k.ensures ∙ c.if-not-continues.true) in
     record { from = omega (arith, s.requires.1.0); to = omega arith; seam = seam; none = λ e. absurd (omega (arith, e, s.requires.1.0)) }
 
-near-start-requires : tie.Need-near-start-requires invariant-loop decreases-loop
+near-start-requires : tie.Need-near_start-i-requires invariant-loop decreases-loop
 near-start-requires c κs = search rules
 
-loop-holds : tie.Need-loop-init invariant-loop decreases-loop
+loop-holds : tie.Need-loop-i-init invariant-loop decreases-loop
 loop-holds c =
-    let n = c.near-start.ensures in
+    let n = c.near_start-i.ensures in
     (n.0, omega (arith, n.1), n.2)
 
-seen-at-requires : tie.Need-seen-at-requires invariant-loop decreases-loop
+seen-at-requires : tie.Need-seen_at-c-requires invariant-loop decreases-loop
 seen-at-requires c κs =
     let s = c.before.before.before.before.before.before.before.before in
-    (s.requires.0, omega (arith, c.loop-test.true, s.requires.1.1))
+    (s.requires.0, omega (arith, c.loop-i-test.true, s.requires.1.1))
 
-add-if3 : tie.Need-overflow-add-if3 invariant-loop decreases-loop
+add-if3 : tie.Need-overflow_add-i invariant-loop decreases-loop
 add-if3 c = search rules
 
-returns-3 : tie.Need-returns-3 invariant-loop decreases-loop
+returns-3 : tie.Need-returns-then-end-i invariant-loop decreases-loop
 returns-3 c =
-    let l = c.before.before.before.before.loop in
-    let k = c.before.before.seen_at in
+    let l = c.before.before.before.before.loop-i in
+    let k = c.before.before.seen_at-c in
     let a = c.before.before.before.before.before.before.before.before.before.before.before.args in
     record {
       from = l.invariant.0;
       to = l.invariant.1;
       seam = l.invariant.2;
-      none = λ e. subst (λ (i : ℕ). Passes a.s.now i a.end) e (omega (arith, k.ensures.0.0, c.if3.true));
+      none = λ e. subst (λ (i : ℕ). Passes a.s.now i a.end) e (omega (arith, k.ensures.0.0, c.if-end-i.true));
     }
 
-add-i : tie.Need-overflow-add-i invariant-loop decreases-loop
+add-i : tie.Need-overflow_add-i-in-loop-i invariant-loop decreases-loop
 add-i c = search rules
 
-loop-less : tie.Need-loop-smaller invariant-loop decreases-loop
+loop-less : tie.Need-loop-i-smaller invariant-loop decreases-loop
 loop-less c = search rules
 
-loop-again : tie.Need-loop-preserved invariant-loop decreases-loop
+loop-again : tie.Need-loop-i-preserved invariant-loop decreases-loop
 loop-again c =
-    let l = c.before.before.before.before.before.loop in
-    let k = c.before.before.before.seen_at in
+    let l = c.before.before.before.before.before.loop-i in
+    let k = c.before.before.before.seen_at-c in
     let s = c.before.before.before.before.before.before.before.before.before.before.before.before in
-    let more : l.i < length s.args.s.now = omega (arith, c.before.before.before.before.loop-test.true, s.requires.1.1) in
+    let more : l.i < length s.args.s.now = omega (arith, c.before.before.before.before.loop-i-test.true, s.requires.1.1) in
     (search rules, search rules, (char_further s.args.s.now s.args.at l.i k.result.len l.invariant.0 more k.ensures.0.0 l.invariant.2).0)
 
-returns-4 : tie.Need-returns-4 invariant-loop decreases-loop
+returns-4 : tie.Need-returns invariant-loop decreases-loop
 returns-4 c =
-    let l = c.before.loop in
+    let l = c.before.loop-i in
     record {
       from = l.invariant.0;
       to = l.invariant.1;
@@ -99,13 +99,13 @@ returns-4 c =
       none = λ e. absurd (omega (
         arith,
         e,
-        c.loop-test.false,
+        c.loop-i-test.false,
         c.before.before.before.before.before.before.before.before.requires.1.0,
       ));
     }
 
-pub whole-end-spec : {M : Type 1} → statement M
-whole-end-spec =
+pub whole_end_spec : {M : Type 1} → statement M
+whole_end_spec =
     tie.close
     (tie.spec
     invariant-loop

@@ -7,14 +7,14 @@ use Rattle.chars.proofs.byte_at.Tie as tie
 use Rattle.chars.proofs.byte_at.Reads as reads
 use Rattle.chars.proofs.byte_at.Lts as lts
 
-shared-slice-read-result : tie.Need-shared-slice-read-result
+shared-slice-read-result : tie.Need-bounds-s-i
 shared-slice-read-result c = search rules
 
-returns : tie.Need-returns
+returns : tie.Need-returns-then-i-s
 returns c = search rules
 
-returns-2 : tie.Need-returns-2
-returns-2 c = sym (get_or-eq_default c.before.args.s.now 0 c.if1.false)
+returns-2 : tie.Need-returns-else-i-s
+returns-2 c = sym (get_or-eq_default c.before.args.s.now 0 c.if-i-s.false)
 
-pub byte-at-spec : {M : Type 1} → statement M
-byte-at-spec = tie.close (tie.spec shared-slice-read-result returns returns-2)
+pub byte_at_spec : {M : Type 1} → statement M
+byte_at_spec = tie.close (tie.spec shared-slice-read-result returns returns-2)

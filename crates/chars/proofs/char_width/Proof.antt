@@ -4,12 +4,12 @@ use Rattle.chars.specs.Width.{ranges, range_numbers}
 use Rattle.chars.proofs.char_width.Statement.{statement}
 use Rattle.chars.proofs.char_width.Tie as tie
 
-width-in-requires : tie.Need-width-in-requires
+width-in-requires : tie.Need-width_in-requires
 unfolding ranges range_numbers
 width-in-requires c κs = search rules
 
 returns : tie.Need-returns
 returns c = search rules
 
-pub char-width-spec : {M : Type 1} → statement M
-char-width-spec = tie.close (tie.spec width-in-requires returns)
+pub char_width_spec : {M : Type 1} → statement M
+char_width_spec = tie.close (tie.spec width-in-requires returns)

@@ -4,12 +4,12 @@ use Rattle.chars.specs.Leads.{lead_table}
 use Rattle.chars.proofs.cut_end.Statement.{statement}
 use Rattle.chars.proofs.cut_end.Tie as tie
 
-truncate-end-pos-requires : tie.Need-truncate-end-pos-requires
+truncate-end-pos-requires : tie.Need-truncate_end_pos-requires
 unfolding lead_table
 truncate-end-pos-requires c κs = search rules
 
 returns : tie.Need-returns
 returns c = search rules
 
-pub cut-end-spec : {M : Type 1} → statement M
-cut-end-spec = tie.close (tie.spec truncate-end-pos-requires returns)
+pub cut_end_spec : {M : Type 1} → statement M
+cut_end_spec = tie.close (tie.spec truncate-end-pos-requires returns)

@@ -4,16 +4,16 @@ use Rattle.chars.specs.Leads.{lead_table}
 use Rattle.chars.proofs.cut_start.Statement.{statement}
 use Rattle.chars.proofs.cut_start.Tie as tie
 
-text-width-requires : tie.Need-text-width-requires
+text-width-requires : tie.Need-text_width-total-requires
 unfolding lead_table
 text-width-requires c κs = search rules
 
-truncate-start-pos-requires : tie.Need-truncate-start-pos-requires
+truncate-start-pos-requires : tie.Need-truncate_start_pos-requires
 unfolding lead_table
 truncate-start-pos-requires c κs = search rules
 
 returns : tie.Need-returns
 returns c = search rules
 
-pub cut-start-spec : {M : Type 1} → statement M
-cut-start-spec = tie.close (tie.spec text-width-requires truncate-start-pos-requires returns)
+pub cut_start_spec : {M : Type 1} → statement M
+cut_start_spec = tie.close (tie.spec text-width-requires truncate-start-pos-requires returns)

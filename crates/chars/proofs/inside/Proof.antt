@@ -7,11 +7,11 @@ use Rattle.chars.proofs.inside.Tie as tie
 use Rattle.chars.proofs.inside.Reads as reads
 use Rattle.chars.proofs.inside.Lts as lts
 
-returns : tie.Need-returns
-returns c = sym (below _ _ _ c.if1.true)
+returns : tie.Need-returns-then-code-first
+returns c = sym (below _ _ _ c.if-code-first.true)
 
-returns-2 : tie.Need-returns-2
-returns-2 c = simp (le-leb _ _ c.if1.false)
+returns-2 : tie.Need-returns
+returns-2 c = simp (le-leb _ _ c.if-code-first.false)
 
-pub inside-spec : {M : Type 1} → statement M
-inside-spec = tie.close (tie.spec returns returns-2)
+pub inside_spec : {M : Type 1} → statement M
+inside_spec = tie.close (tie.spec returns returns-2)

@@ -14,25 +14,25 @@ use Rattle.chars.proofs.read_char.Lts as lts
 use Rattle.chars.proofs.byte_at.Reads as byte-at-reads
 use Rattle.chars.proofs.decode.Reads as decode-reads
 
-shared-slice-read-a : tie.Need-shared-slice-read-a
+shared-slice-read-a : tie.Need-bounds-s-at
 shared-slice-read-a c = search rules
 
-add-byte-at : tie.Need-overflow-add-byte-at
+add-byte-at : tie.Need-overflow_add-at
 add-byte-at c = search rules
 
-byte-at-requires : tie.Need-byte-at-requires
+byte-at-requires : tie.Need-byte_at-b-requires
 byte-at-requires c κs = search rules
 
-add-byte-at-2 : tie.Need-overflow-add-byte-at-2
+add-byte-at-2 : tie.Need-overflow_add-at-2
 add-byte-at-2 c = search rules
 
-byte-at-requires-2 : tie.Need-byte-at-requires-2
+byte-at-requires-2 : tie.Need-byte_at-c-requires
 byte-at-requires-2 c κs = search rules
 
-add-byte-at-3 : tie.Need-overflow-add-byte-at-3
+add-byte-at-3 : tie.Need-overflow_add-at-3
 add-byte-at-3 c = search rules
 
-byte-at-requires-3 : tie.Need-byte-at-requires-3
+byte-at-requires-3 : tie.Need-byte_at-d-requires
 byte-at-requires-3 c κs = search rules
 
 decode-requires : tie.Need-decode-requires
@@ -45,13 +45,13 @@ returns c =
     let at = b.before.before.before.args.at in
     let more = b.before.before.before.requires.1 in
     let e : c.decode.result ≡ read_of (char_in at s) =
-    c.decode.ensures ∙ ap read_of (read_in s at b.byte_at.result c.before.before.byte-at2.result c.before.byte-at3.result b.byte_at.ensures
-    c.before.before.byte-at2.ensures c.before.byte-at3.ensures) in
+    c.decode.ensures ∙ ap read_of (read_in s at b.byte_at-b.result c.before.before.byte_at-c.result c.before.byte_at-d.result b.byte_at-b.ensures
+    c.before.before.byte_at-c.ensures c.before.byte_at-d.ensures) in
     let n = ap (λ (r : Read). r.len) e in
     (e, (omega (arith, n, char_some s at more), omega (arith, n, char_four s at more), omega (arith, n, char_inside s at more)))
 
-pub read-char-spec : {M : Type 1} → statement M
-read-char-spec =
+pub read_char_spec : {M : Type 1} → statement M
+read_char_spec =
     tie.close
     (tie.spec
     shared-slice-read-a

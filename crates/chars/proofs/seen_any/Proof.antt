@@ -14,50 +14,50 @@ use Rattle.chars.proofs.seen_any.Lts as lts
 use Rattle.chars.proofs.char_width.Reads as char-width-reads
 use Rattle.chars.proofs.read_char.Reads as read-char-reads
 
-read-char-requires : tie.Need-read-char-requires
+read-char-requires : tie.Need-read_char-c-requires
 read-char-requires c κs = search rules
 
-char-width-requires : tie.Need-char-width-requires
+char-width-requires : tie.Need-char_width-w-requires
 char-width-requires c κs = search rules
 
-cast-w : tie.Need-overflow-cast-w
+cast-w : tie.Need-overflow_cast-w
 cast-w c = search rules
 
-mul-result : tie.Need-overflow-mul-result
+mul-result : tie.Need-overflow_mul-result
 mul-result c = search rules
 
-add-result : tie.Need-overflow-add-result
+add-result : tie.Need-overflow_add-result
 add-result c = search rules
 
-add-result-2 : tie.Need-overflow-add-result-2
+add-result-2 : tie.Need-overflow_add-result-then-c
 add-result-2 c = search rules
 
-returns : tie.Need-returns
+returns : tie.Need-returns-then-c
 returns c =
     let w = c.before in
-    let e = w.before.before.read-char.ensures.0 in
+    let e = w.before.before.read_char-c.ensures.0 in
     let n = ap (λ (x : Read). x.len) e in
-    let o = ap {B = ℕ} (λ (b : Bool). cond b 1 0) (sym (ap (λ (x : Read). x.ok) e) ∙ w.before.if1.true) in
-    let v = w.char-width.ensures.0 ∙ ap (λ (x : Read). char_width_of x.code) e ∙ sym (char_columns _ _) in
+    let o = ap {B = ℕ} (λ (b : Bool). cond b 1 0) (sym (ap (λ (x : Read). x.ok) e) ∙ w.before.if-c.true) in
+    let v = w.char_width-w.ensures.0 ∙ ap (λ (x : Read). char_width_of x.code) e ∙ sym (char_columns _ _) in
     ((omega arith, omega arith, omega arith), (omega arith, omega arith, omega arith))
 
-mul-result-2 : tie.Need-overflow-mul-result-2
+mul-result-2 : tie.Need-overflow_mul-result-2
 mul-result-2 c = search rules
 
-add-result-3 : tie.Need-overflow-add-result-3
+add-result-3 : tie.Need-overflow_add-result-2
 add-result-3 c = search rules
 
-returns-2 : tie.Need-returns-2
+returns-2 : tie.Need-returns
 returns-2 c =
-    let e = c.before.before.read-char.ensures.0 in
+    let e = c.before.before.read_char-c.ensures.0 in
     let n = ap (λ (x : Read). x.len) e in
-    let no = sym (ap (λ (x : Read). x.ok) e) ∙ c.before.if1.false in
+    let no = sym (ap (λ (x : Read). x.ok) e) ∙ c.before.if-c.false in
     let o = ap {B = ℕ} (λ (b : Bool). cond b 1 0) no in
     let v = ill_columns _ _ no in
     ((omega arith, omega arith, omega arith), (omega arith, omega arith, omega arith))
 
-pub seen-any-spec : {M : Type 1} → statement M
-seen-any-spec =
+pub seen_any_spec : {M : Type 1} → statement M
+seen_any_spec =
     tie.close
     (tie.spec
     read-char-requires

@@ -8,35 +8,35 @@ use Rattle.chars.proofs.seen_at.Reads as reads
 use Rattle.chars.proofs.seen_at.Lts as lts
 use Rattle.chars.proofs.seen_any.Reads as seen-any-reads
 
-shared-slice-read-a : tie.Need-shared-slice-read-a
+shared-slice-read-a : tie.Need-bounds-s-at
 shared-slice-read-a c = search rules
 
-seen-any-requires : tie.Need-seen-any-requires
+seen-any-requires : tie.Need-seen_any-p-requires
 seen-any-requires c κs = search rules
 
-cast-t12 : tie.Need-overflow-cast-t12
+cast-t12 : tie.Need-overflow_cast-result
 cast-t12 c = search rules
 
-returns : tie.Need-returns
+returns : tie.Need-returns-then-a-lt32
 returns c = search rules
 
-seen-any-requires-2 : tie.Need-seen-any-requires-2
+seen-any-requires-2 : tie.Need-seen_any-p-requires-then-a-gt126
 seen-any-requires-2 c κs = search rules
 
-cast-t15 : tie.Need-overflow-cast-t15
+cast-t15 : tie.Need-overflow_cast-result-then-a-gt126
 cast-t15 c = search rules
 
-returns-2 : tie.Need-returns-2
+returns-2 : tie.Need-returns-then-a-gt126
 returns-2 c = search rules
 
-returns-3 : tie.Need-returns-3
+returns-3 : tie.Need-returns
 returns-3 c =
     let x = c.before.before.before.before.args in
-    let p = plain x.s.now x.at c.before.if1.false c.if2.false in
+    let p = plain x.s.now x.at c.before.if-a-lt32.false c.if-a-gt126.false in
     ((sym p.0, sym p.1), search rules)
 
-pub seen-at-spec : {M : Type 1} → statement M
-seen-at-spec =
+pub seen_at_spec : {M : Type 1} → statement M
+seen_at_spec =
     tie.close
     (tie.spec
     shared-slice-read-a

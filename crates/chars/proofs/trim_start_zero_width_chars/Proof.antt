@@ -11,26 +11,26 @@ use Rattle.chars.proofs.trim_start_zero_width_chars.Reads as reads
 use Rattle.chars.proofs.trim_start_zero_width_chars.Lts as lts
 use Rattle.chars.proofs.zero_width_len.Reads as zero-width-len-reads
 
-zero-width-len-requires : tie.Need-zero-width-len-requires
+zero-width-len-requires : tie.Need-zero_width_len-n-requires
 unfolding lead_table
 zero-width-len-requires c κs = refl
 
-sub-result : tie.Need-overflow-sub-result
+sub-result : tie.Need-slice_bounds-result-count
 sub-result c = search rules
 
-part-result-start : tie.Need-slice-bounds-result-start
+part-result-start : tie.Need-slice_bounds-result-start
 part-result-start c = search rules
 
-part-result-end : tie.Need-slice-bounds-result-end
+part-result-end : tie.Need-slice_bounds-result-end
 part-result-end c = search rules
 
 returns : tie.Need-returns
 returns c =
-    let n = c.before.zero-width-len in
+    let n = c.before.zero_width_len-n in
     let s = c.before.before.before.before.args.s.now in
     part_to_end s n.result ∙ ap (λ (k : ℕ). drop k s) n.ensures.0
 
-pub trim-start-zero-width-chars-spec : {M : Type 1} → statement M
-trim-start-zero-width-chars-spec =
+pub trim_start_zero_width_chars_spec : {M : Type 1} → statement M
+trim_start_zero_width_chars_spec =
     tie.close
     (tie.spec zero-width-len-requires sub-result part-result-start part-result-end returns)

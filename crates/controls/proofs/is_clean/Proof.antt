@@ -20,50 +20,50 @@ record So-far (s : List ℕ) (at : ℕ) : Type 0 where
   -- the characters from here on decide
   rest : all_clean (chars (drop at s)) ≡ is_clean_text s
 
-abbrev invariant-loop : tie.invariant-loop
+abbrev invariant-loop : tie.invariant-loop-at
 invariant-loop s at₀ at = So-far s at
 
-abbrev decreases-loop : tie.decreases-loop
+abbrev decreases-loop : tie.decreases-loop-at
 decreases-loop s at₀ at = length s - at
 
-loop-holds : tie.Need-loop-init invariant-loop decreases-loop
+loop-holds : tie.Need-loop-at-init invariant-loop decreases-loop
 unfolding is_clean_text well_formed_of
 loop-holds c = record { within = omega arith; rest = refl }
 
-shared-slice-read-b : tie.Need-shared-slice-read-b invariant-loop decreases-loop
+shared-slice-read-b : tie.Need-bounds-s-at invariant-loop decreases-loop
 shared-slice-read-b c = search rules
 
-clean-from-requires : tie.Need-clean-from-requires invariant-loop decreases-loop
+clean-from-requires : tie.Need-clean_from-requires invariant-loop decreases-loop
 clean-from-requires c κs = search rules
 
-returns : tie.Need-returns invariant-loop decreases-loop
-returns c = c.clean-from.ensures ∙ c.before.before.before.before.loop.invariant.rest
+returns : tie.Need-returns-then-b-lt32 invariant-loop decreases-loop
+returns c = c.clean_from.ensures ∙ c.before.before.before.before.loop-at.invariant.rest
 
-clean-from-requires-2 : tie.Need-clean-from-requires-2 invariant-loop decreases-loop
+clean-from-requires-2 : tie.Need-clean_from-requires-then-b-gt126 invariant-loop decreases-loop
 clean-from-requires-2 c κs = search rules
 
-returns-2 : tie.Need-returns-2 invariant-loop decreases-loop
-returns-2 c = c.clean-from2.ensures ∙ c.before.before.before.before.before.loop.invariant.rest
+returns-2 : tie.Need-returns-then-b-gt126 invariant-loop decreases-loop
+returns-2 c = c.clean_from-then-b-gt126.ensures ∙ c.before.before.before.before.before.loop-at.invariant.rest
 
-add_at : tie.Need-overflow-add-at invariant-loop decreases-loop
+add_at : tie.Need-overflow_add-at invariant-loop decreases-loop
 add_at c = search rules
 
-loop-less : tie.Need-loop-smaller invariant-loop decreases-loop
+loop-less : tie.Need-loop-at-smaller invariant-loop decreases-loop
 loop-less c = search rules
 
-loop-again : tie.Need-loop-preserved invariant-loop decreases-loop
+loop-again : tie.Need-loop-at-preserved invariant-loop decreases-loop
 loop-again c =
     let l = c.before.before.before.before in
-    let n = clean_printable l.before.before.args.s.now l.loop.at c.before.before.before.loop-test.true c.before.if1.false (omega (arith, c.if2.false)) in
-    record { within = omega arith; rest = sym n ∙ l.loop.invariant.rest }
+    let n = clean_printable l.before.before.args.s.now l.loop-at.at c.before.before.before.loop-at-test.true c.before.if-b-lt32.false (omega (arith, c.if-b-gt126.false)) in
+    record { within = omega arith; rest = sym n ∙ l.loop-at.invariant.rest }
 
-returns-3 : tie.Need-returns-3 invariant-loop decreases-loop
+returns-3 : tie.Need-returns invariant-loop decreases-loop
 returns-3 c =
     let l = c.before in
-    sym (ap all_clean (chars_end l.before.before.args.s.now l.loop.at c.loop-test.false)) ∙ l.loop.invariant.rest
+    sym (ap all_clean (chars_end l.before.before.args.s.now l.loop-at.at c.loop-at-test.false)) ∙ l.loop-at.invariant.rest
 
-pub is-clean-spec : {M : Type 1} → statement M
-is-clean-spec =
+pub is_clean_spec : {M : Type 1} → statement M
+is_clean_spec =
     tie.close
     (tie.spec
     invariant-loop

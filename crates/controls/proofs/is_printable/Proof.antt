@@ -7,11 +7,11 @@ use Rattle.controls.proofs.is_printable.Tie as tie
 use Rattle.controls.proofs.is_printable.Reads as reads
 use Rattle.controls.proofs.is_printable.Lts as lts
 
-returns : tie.Need-returns
-returns c = sym (below _ _ _ c.if1.true)
+returns : tie.Need-returns-then-b-lt32
+returns c = sym (below _ _ _ c.if-b-lt32.true)
 
-returns-2 : tie.Need-returns-2
-returns-2 c = simp (le-leb _ _ c.if1.false)
+returns-2 : tie.Need-returns
+returns-2 c = simp (le-leb _ _ c.if-b-lt32.false)
 
-pub is-printable-spec : {M : Type 1} → statement M
-is-printable-spec = tie.close (tie.spec returns returns-2)
+pub is_printable_spec : {M : Type 1} → statement M
+is_printable_spec = tie.close (tie.spec returns returns-2)

@@ -20,46 +20,46 @@ use Rattle.elide.proofs.write_parts.Reads as write-parts-reads
 slice-aggregate-fault : tie.Need-slice-aggregate-fault
 slice-aggregate-fault c = search rules
 
-fault-requires : tie.Need-fault-requires
+fault-requires : tie.Need-fault-f-requires
 unfolding lead_table
 fault-requires c κs = search rules
 
-returns : tie.Need-returns
+returns : tie.Need-returns-then-f-eq1
 unfolding answer_of returned lent_after
 returns c =
     let x = c.before.before.before.before.before.before.args in
-    let f = c.before.fault in
-    let e : complete_newline_outcome (length x.out.now) x.text.now ≡ refused 1 = newline_faulty (length x.out.now) x.text.now 1 (sym c.if1.true ∙ f.ensures.0)
+    let f = c.before.fault-f in
+    let e : complete_newline_outcome (length x.out-1.now) x.text.now ≡ refused 1 = newline_faulty (length x.out-1.now) x.text.now 1 (sym c.if-f-eq1.true ∙ f.ensures.0)
     (λ z. omega (arith, z)) in
     (simp e, simp e)
 
-returns-2 : tie.Need-returns-2
+returns-2 : tie.Need-returns-then-f-eq7
 unfolding answer_of returned lent_after
 returns-2 c =
     let x = c.before.before.before.before.before.before.before.args in
-    let f = c.before.before.fault in
-    let e : complete_newline_outcome (length x.out.now) x.text.now ≡ refused 7 = newline_faulty (length x.out.now) x.text.now 7 (sym c.if2.true ∙ f.ensures.0)
+    let f = c.before.before.fault-f in
+    let e : complete_newline_outcome (length x.out-1.now) x.text.now ≡ refused 7 = newline_faulty (length x.out-1.now) x.text.now 7 (sym c.if-f-eq7.true ∙ f.ensures.0)
     (λ z. omega (arith, z)) in
     (simp e, simp e)
 
-missing-requires : tie.Need-missing-requires
+missing-requires : tie.Need-missing-k-requires
 missing-requires c κs = search rules
 
 slice-aggregate-write-parts : tie.Need-slice-aggregate-write-parts
 slice-aggregate-write-parts c = search rules
 
-write-parts-requires : tie.Need-write-parts-requires
+write-parts-requires : tie.Need-write_parts-requires
 write-parts-requires c κs =
     let x = c.before.before.before.before.before.before.before.before.before.before.args in
-    let f = c.before.before.before.before.before.fault in
-    let m = c.before.before.missing in
-    let small = f.ensures.1 (no_fault x.text.now [] f.result f.ensures.0 c.before.before.before.before.if1.false c.before.before.before.if2.false) in
+    let f = c.before.before.before.before.before.fault-f in
+    let m = c.before.before.missing-k in
+    let small = f.ensures.1 (no_fault x.text.now [] f.result f.ensures.0 c.before.before.before.before.if-f-eq1.false c.before.before.before.if-f-eq7.false) in
     (omega arith, omega arith, small.0, omega arith, m.ensures.1, omega (arith, m.ensures.1))
 
-same_length : tie.Need-same-length
+same_length : tie.Need-shape_of-out
 same_length c = search rules
 
-returns-3 : tie.Need-returns-3
+returns-3 : tie.Need-returns
 returns-3 c =
     let at-missing = c.before.before.before.before.before in
     let at-if2 = at-missing.before in
@@ -67,16 +67,16 @@ returns-3 c =
     let at-fault = at-if1.before in
     let start = at-fault.before.before.before.before.before in
     let x = start.args in
-    let f = at-fault.fault in
-    let m = at-missing.missing in
-    let w = c.before.before.write-parts in
-    let none = no_fault x.text.now [] f.result f.ensures.0 at-if1.if1.false
-    at-if2.if2.false in
-    let g = newline_goes (length x.out.now) x.text.now f.result f.ensures.0 m.result none m.ensures.0 in
-    (w.ensures.0 ∙ ap returned g, w.ensures.1 ∙ ap (λ (o : Outcome). lent_after o (lent x.out.now)) g)
+    let f = at-fault.fault-f in
+    let m = at-missing.missing-k in
+    let w = c.before.before.write_parts in
+    let none = no_fault x.text.now [] f.result f.ensures.0 at-if1.if-f-eq1.false
+    at-if2.if-f-eq7.false in
+    let g = newline_goes (length x.out-1.now) x.text.now f.result f.ensures.0 m.result none m.ensures.0 in
+    (w.ensures.0 ∙ ap returned g, w.ensures.1 ∙ ap (λ (o : Outcome). lent_after o (lent x.out-1.now)) g)
 
-pub complete-newline-spec : {M : Type 1} → statement M
-complete-newline-spec =
+pub complete_newline_spec : {M : Type 1} → statement M
+complete_newline_spec =
     tie.close
     (tie.spec
     slice-aggregate-fault

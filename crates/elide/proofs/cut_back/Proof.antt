@@ -25,78 +25,78 @@ record So-far (s : List ℕ) (max at left : ℕ) : Type 0 where
   bytes : at - length (bytes_of (kept_within left back)) ≡ truncate_start_pos_of max s
   columns : max - left + width_of (kept_within left back) ≡ truncate_start_width max s
 
-abbrev invariant-loop : tie.invariant-loop
+abbrev invariant-loop : tie.invariant-loop-at
 invariant-loop t s max at₀ left₀ at left = So-far s max at left
 
-abbrev decreases-loop : tie.decreases-loop
+abbrev decreases-loop : tie.decreases-loop-at
 decreases-loop t s max at₀ left₀ at left = at
 
-loop-holds : tie.Need-loop-init invariant-loop decreases-loop
+loop-holds : tie.Need-loop-at-init invariant-loop decreases-loop
 unfolding truncate_start_pos_of truncate_start_width
 loop-holds c =
     let s = c.before.args.s.now in
     record { back = reverse (chars s); up_to = up_to_end s; within = omega arith; room = omega arith; small = omega arith; bytes = omega arith; columns = omega arith }
 
-start-before-requires : tie.Need-start-before-requires invariant-loop decreases-loop
+start-before-requires : tie.Need-start_before-p-requires invariant-loop decreases-loop
 start-before-requires c κs = search rules
 
-seen-at-requires : tie.Need-seen-at-requires invariant-loop decreases-loop
+seen-at-requires : tie.Need-seen_at-c-requires invariant-loop decreases-loop
 seen-at-requires c κs = search rules
 
-cast-w : tie.Need-overflow-cast-w invariant-loop decreases-loop
+cast-w : tie.Need-overflow_cast-w invariant-loop decreases-loop
 cast-w c = search rules
 
-sub-t10 : tie.Need-overflow-sub-t10 invariant-loop decreases-loop
+sub-t10 : tie.Need-overflow_sub-result invariant-loop decreases-loop
 sub-t10 c = search rules
 
-returns : tie.Need-returns invariant-loop decreases-loop
+returns : tie.Need-returns-then-left-w invariant-loop decreases-loop
 returns c =
     let l = c.before.before.before.before.before in
     let x = l.before.before.args in
-    let b = c.before.before.before.start-before in
-    let r = c.before.before.seen_at in
-    let e = last_before x.s.now l.loop.at b.result l.loop.invariant.back l.before.before.requires.1 l.loop.invariant.up_to
-    c.before.before.before.before.loop-test.true b.ensures in
-    let none = last_passes x.s.now l.loop.at b.result r.result.width l.loop.left l.loop.invariant.back e r.ensures.0.1 (omega (arith, c.if1.true)) in
+    let b = c.before.before.before.start_before-p in
+    let r = c.before.before.seen_at-c in
+    let e = last_before x.s.now l.loop-at.at b.result l.loop-at.invariant.back l.before.before.requires.1 l.loop-at.invariant.up_to
+    c.before.before.before.before.loop-at-test.true b.ensures in
+    let none = last_passes x.s.now l.loop-at.at b.result r.result.width l.loop-at.left l.loop-at.invariant.back e r.ensures.0.1 (omega (arith, c.if-left-w.true)) in
     let bytes = ap (λ (cs : List Character). length (bytes_of cs)) none in
     let columns = ap width_of none in
-    ((omega (arith, bytes, l.loop.invariant.bytes), omega (arith, columns, l.loop.invariant.columns)), (l.loop.invariant.within, omega arith, omega (arith, l.loop.invariant.small)))
+    ((omega (arith, bytes, l.loop-at.invariant.bytes), omega (arith, columns, l.loop-at.invariant.columns)), (l.loop-at.invariant.within, omega arith, omega (arith, l.loop-at.invariant.small)))
 
-loop-less : tie.Need-loop-smaller invariant-loop decreases-loop
-loop-less c = c.before.before.before.start-before.ensures.before
+loop-less : tie.Need-loop-at-smaller invariant-loop decreases-loop
+loop-less c = c.before.before.before.start_before-p.ensures.before
 
-loop-again : tie.Need-loop-preserved invariant-loop decreases-loop
+loop-again : tie.Need-loop-at-preserved invariant-loop decreases-loop
 loop-again c =
     let l = c.before.before.before.before.before in
     let x = l.before.before.args in
-    let inv = l.loop.invariant in
-    let b = c.before.before.before.start-before in
-    let r = c.before.before.seen_at in
-    let e = last_before x.s.now l.loop.at b.result inv.back l.before.before.requires.1 inv.up_to c.before.before.before.before.loop-test.true b.ensures in
-    let n = last_kept x.s.now l.loop.at b.result r.result.width l.loop.left inv.back e r.ensures.0.1 (omega (arith, c.if1.false)) in
+    let inv = l.loop-at.invariant in
+    let b = c.before.before.before.start_before-p in
+    let r = c.before.before.seen_at-c in
+    let e = last_before x.s.now l.loop-at.at b.result inv.back l.before.before.requires.1 inv.up_to c.before.before.before.before.loop-at-test.true b.ensures in
+    let n = last_kept x.s.now l.loop-at.at b.result r.result.width l.loop-at.left inv.back e r.ensures.0.1 (omega (arith, c.if-left-w.false)) in
     record {
       back = e.rest;
       up_to = e.up_to;
       within = omega (arith, b.ensures.before, inv.within);
       room = omega (arith, inv.room);
-      small = omega (arith, b.ensures.before, inv.within, inv.small, inv.room, r.ensures.1.2, c.if1.false);
+      small = omega (arith, b.ensures.before, inv.within, inv.small, inv.room, r.ensures.1.2, c.if-left-w.false);
       bytes = omega (arith, n.0, inv.bytes, b.ensures.before);
-      columns = omega (arith, n.1, inv.columns, inv.room, c.if1.false);
+      columns = omega (arith, n.1, inv.columns, inv.room, c.if-left-w.false);
     }
 
-sub-t11 : tie.Need-overflow-sub-t11 invariant-loop decreases-loop
+sub-t11 : tie.Need-overflow_sub-result-2 invariant-loop decreases-loop
 sub-t11 c = search rules
 
-returns-2 : tie.Need-returns-2 invariant-loop decreases-loop
+returns-2 : tie.Need-returns invariant-loop decreases-loop
 returns-2 c =
     let l = c.before in
     let s = l.before.before.args.s.now in
-    let z : l.loop.at ≡ 0 = omega (arith, c.loop-test.false) in
-    let none = none_before s l.loop.left l.loop.invariant.back (subst (λ (n : ℕ). UpTo s n l.loop.invariant.back) z l.loop.invariant.up_to) in
-    ((omega (arith, z, l.loop.invariant.bytes), omega (arith, none, l.loop.invariant.columns)), (omega arith, omega arith, omega (arith, l.loop.invariant.small)))
+    let z : l.loop-at.at ≡ 0 = omega (arith, c.loop-at-test.false) in
+    let none = none_before s l.loop-at.left l.loop-at.invariant.back (subst (λ (n : ℕ). UpTo s n l.loop-at.invariant.back) z l.loop-at.invariant.up_to) in
+    ((omega (arith, z, l.loop-at.invariant.bytes), omega (arith, none, l.loop-at.invariant.columns)), (omega arith, omega arith, omega (arith, l.loop-at.invariant.small)))
 
-pub cut-back-spec : {M : Type 1} → statement M
-cut-back-spec =
+pub cut_back_spec : {M : Type 1} → statement M
+cut_back_spec =
     tie.close
     (tie.spec
     invariant-loop

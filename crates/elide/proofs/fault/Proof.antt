@@ -10,68 +10,68 @@ use Rattle.elide.proofs.fault.Reads as reads
 use Rattle.elide.proofs.fault.Lts as lts
 use Rattle.well_formed.proofs.long_well_formed.Reads as long-well-formed-reads
 
-returns : tie.Need-returns
+returns : tie.Need-returns-then-text-gt-LIMIT
 unfolding plain_fault
-returns c = (simp (lt-ltb _ _ c.if1.true), λ z. absurd (omega (arith, z)))
+returns c = (simp (lt-ltb _ _ c.if-text-gt-LIMIT.true), λ z. absurd (omega (arith, z)))
 
-returns-2 : tie.Need-returns-2
+returns-2 : tie.Need-returns-then-ellipsis-gt-LIMIT
 unfolding plain_fault
-returns-2 c = (simp (le-ltb _ _ c.before.if1.false, lt-ltb _ _ c.if2.true), λ z. absurd (omega (arith, z)))
+returns-2 c = (simp (le-ltb _ _ c.before.if-text-gt-LIMIT.false, lt-ltb _ _ c.if-ellipsis-gt-LIMIT.true), λ z. absurd (omega (arith, z)))
 
-long-well-formed-requires : tie.Need-long-well-formed-requires
+long-well-formed-requires : tie.Need-long_well_formed-requires
 long-well-formed-requires c κs = search rules
 
-returns-3 : tie.Need-returns-3
+returns-3 : tie.Need-returns-then-not-long_well_formed
 unfolding plain_fault
 returns-3 c = (
   simp (
-    le-ltb _ _ c.before.before.before.if1.false,
-    le-ltb _ _ c.before.before.if2.false,
-    ← c.before.long-well-formed.ensures,
+    le-ltb _ _ c.before.before.before.if-text-gt-LIMIT.false,
+    le-ltb _ _ c.before.before.if-ellipsis-gt-LIMIT.false,
+    ← c.before.long_well_formed.ensures,
     not-true
-        c.before.long-well-formed.result c.if3.true,
+        c.before.long_well_formed.result c.if-not-long_well_formed.true,
   ),
   λ z. absurd (omega (arith, z)),
 )
 
-long-well-formed-requires-2 : tie.Need-long-well-formed-requires-2
+long-well-formed-requires-2 : tie.Need-long_well_formed-requires-2
 long-well-formed-requires-2 c κs = search rules
 
-returns-4 : tie.Need-returns-4
+returns-4 : tie.Need-returns-then-not-long_well_formed-2
 unfolding plain_fault
 returns-4 c = (
   simp (
-    le-ltb _ _ c.before.before.before.before.before.if1.false,
-    le-ltb _ _ c.before.before.before.before.if2.false,
+    le-ltb _ _ c.before.before.before.before.before.if-text-gt-LIMIT.false,
+    le-ltb _ _ c.before.before.before.before.if-ellipsis-gt-LIMIT.false,
     ←
-        c.before.before.before.long-well-formed.ensures,
-    not_false c.before.before.before.long-well-formed.result c.before.before.if3.false,
+        c.before.before.before.long_well_formed.ensures,
+    c.before.before.if-not-long_well_formed.false,
     ←
-        c.before.long-well-formed2.ensures,
-    not-true c.before.long-well-formed2.result c.if4.true,
+        c.before.long_well_formed-2.ensures,
+    c.if-not-long_well_formed-2.true,
   ),
   λ z. absurd (omega (arith, z)),
 )
 
-returns-5 : tie.Need-returns-5
+returns-5 : tie.Need-returns
 unfolding plain_fault
 returns-5 c = (
   simp (
-    le-ltb _ _ c.before.before.before.before.before.if1.false,
-    le-ltb _ _ c.before.before.before.before.if2.false,
+    le-ltb _ _ c.before.before.before.before.before.if-text-gt-LIMIT.false,
+    le-ltb _ _ c.before.before.before.before.if-ellipsis-gt-LIMIT.false,
     ←
-        c.before.before.before.long-well-formed.ensures,
-    not_false c.before.before.before.long-well-formed.result c.before.before.if3.false,
+        c.before.before.before.long_well_formed.ensures,
+    c.before.before.if-not-long_well_formed.false,
     ←
-        c.before.long-well-formed2.ensures,
-    not_false c.before.long-well-formed2.result c.if4.false,
+        c.before.long_well_formed-2.ensures,
+    c.if-not-long_well_formed-2.false,
   ),
   λ z.
-      (c.before.before.before.before.before.if1.false, c.before.before.before.before.if2.false),
+      (c.before.before.before.before.before.if-text-gt-LIMIT.false, c.before.before.before.before.if-ellipsis-gt-LIMIT.false),
 )
 
-pub fault-spec : {M : Type 1} → statement M
-fault-spec =
+pub fault_spec : {M : Type 1} → statement M
+fault_spec =
     tie.close
     (tie.spec
     returns

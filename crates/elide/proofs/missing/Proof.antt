@@ -7,20 +7,20 @@ use Rattle.elide.proofs.missing.Tie as tie
 use Rattle.elide.proofs.missing.Reads as reads
 use Rattle.elide.proofs.missing.Lts as lts
 
-returns : tie.Need-returns
-returns c = (newline_none c.before.args.s.now c.if1.true, omega arith)
+returns : tie.Need-returns-then-n-eq0
+returns c = (newline_none c.before.args.s.now c.if-n-eq0.true, omega arith)
 
-sub-if2 : tie.Need-overflow-sub-if2
+sub-if2 : tie.Need-overflow_sub-n
 sub-if2 c = search rules
 
-shared-slice-read-if2 : tie.Need-shared-slice-read-if2
+shared-slice-read-if2 : tie.Need-bounds-s-n
 shared-slice-read-if2 c = search rules
 
-returns-2 : tie.Need-returns-2
-returns-2 c = (newline_there c.before.before.before.args.s.now c.before.before.if1.false c.if2.true, omega arith)
+returns-2 : tie.Need-returns-then-s-n-eq10
+returns-2 c = (newline_there c.before.before.before.args.s.now c.before.before.if-n-eq0.false c.if-s-n-eq10.true, omega arith)
 
-returns-3 : tie.Need-returns-3
-returns-3 c = (newline_missing c.before.before.before.args.s.now c.before.before.if1.false c.if2.false, omega arith)
+returns-3 : tie.Need-returns
+returns-3 c = (newline_missing c.before.before.before.args.s.now c.before.before.if-n-eq0.false c.if-s-n-eq10.false, omega arith)
 
-pub missing-spec : {M : Type 1} → statement M
-missing-spec = tie.close (tie.spec returns sub-if2 shared-slice-read-if2 returns-2 returns-3)
+pub missing_spec : {M : Type 1} → statement M
+missing_spec = tie.close (tie.spec returns sub-if2 shared-slice-read-if2 returns-2 returns-3)

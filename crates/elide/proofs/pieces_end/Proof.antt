@@ -12,87 +12,87 @@ use Rattle.elide.proofs.pieces_end.Lts as lts
 use Rattle.chars.proofs.text_width.Reads as text-width-reads
 use Rattle.chars.proofs.truncate_end_pos.Reads as truncate-end-pos-reads
 
-text-width-requires : tie.Need-text-width-requires
+text-width-requires : tie.Need-text_width-mark-requires
 text-width-requires c κs = search rules
 
-truncate-end-pos-requires : tie.Need-truncate-end-pos-requires
+truncate-end-pos-requires : tie.Need-truncate_end_pos-all-requires
 truncate-end-pos-requires c κs = search rules
 
-returns : tie.Need-returns
+returns : tie.Need-returns-then-all-n
 returns c =
     let x = c.before.before.before.before.before.before.before.args in
-    let k = c.before.before.truncate-end-pos in
-    let fits = reaches_end x.max x.text.now (sym k.ensures.0.0 ∙ c.if2.true) in
+    let k = c.before.before.truncate_end_pos-all in
+    let fits = reaches_end x.max x.text.now (sym k.ensures.0.0 ∙ c.if-all-n.true) in
     let l = end_uncut x.max x.text.now x.ellipsis.now fits in
     ((l.0, k.ensures.0.1 ∙ (fits_whole x.max x.text.now fits).1 ∙ l.1), (omega arith, omega arith, omega arith, omega arith))
 
-truncate-end-pos-requires-2 : tie.Need-truncate-end-pos-requires-2
+truncate-end-pos-requires-2 : tie.Need-truncate_end_pos-k-requires
 truncate-end-pos-requires-2 c κs = search rules
 
-returns-2 : tie.Need-returns-2
+returns-2 : tie.Need-returns-then-max-mark
 returns-2 c =
     let x = c.before.before.before.before.before.before.before.before.args in
-    let all = c.before.before.before.truncate-end-pos in
-    let k = c.truncate-end-pos2 in
-    let over = passes-max x.max x.text.now (λ e. c.before.if2.false (all.ensures.0.0 ∙ e)) in
+    let all = c.before.before.before.truncate_end_pos-all in
+    let k = c.truncate_end_pos-k in
+    let over = passes-max x.max x.text.now (λ e. c.before.if-all-n.false (all.ensures.0.0 ∙ e)) in
     let l = end_alone x.max x.text.now x.ellipsis.now over
-    (omega (arith, c.before.before.before.before.before.text-width.ensures.0, c.before.before.before.before.if1.true)) in
+    (omega (arith, c.before.before.before.before.before.text_width-mark.ensures.0, c.before.before.before.before.if-max-mark.true)) in
     ((rw (← k.ensures.0.0) at l.0, k.ensures.0.1 ∙ l.1), (omega arith, omega arith, omega arith, k.ensures.1.0))
 
-truncate-end-pos-requires-3 : tie.Need-truncate-end-pos-requires-3
+truncate-end-pos-requires-3 : tie.Need-truncate_end_pos-k-requires-2
 truncate-end-pos-requires-3 c κs = search rules
 
-sub-truncate-end-pos : tie.Need-overflow-sub-truncate-end-pos
+sub-truncate-end-pos : tie.Need-slice_bounds-truncate_end_pos-count
 sub-truncate-end-pos c = search rules
 
-part-truncate-end-pos-start : tie.Need-slice-bounds-truncate-end-pos-start
+part-truncate-end-pos-start : tie.Need-slice_bounds-truncate_end_pos-start
 part-truncate-end-pos-start c = search rules
 
-part-truncate-end-pos-end : tie.Need-slice-bounds-truncate-end-pos-end
+part-truncate-end-pos-end : tie.Need-slice_bounds-truncate_end_pos-end
 part-truncate-end-pos-end c = search rules
 
-sub-truncate-end-pos-2 : tie.Need-overflow-sub-truncate-end-pos-2
+sub-truncate-end-pos-2 : tie.Need-overflow_sub-max-2
 sub-truncate-end-pos-2 c = search rules
 
-truncate-end-pos-requires-4 : tie.Need-truncate-end-pos-requires-4
+truncate-end-pos-requires-4 : tie.Need-truncate_end_pos-more-requires
 truncate-end-pos-requires-4 c κs = search rules
 
-add-if3 : tie.Need-overflow-add-if3
+add-if3 : tie.Need-overflow_add-at
 add-if3 c = search rules
 
-add-t19 : tie.Need-overflow-add-t19
+add-t19 : tie.Need-overflow_add-result
 add-t19 c = search rules
 
-returns-3 : tie.Need-returns-3
+returns-3 : tie.Need-returns-then-at-more
 returns-3 c =
     let m = c.before.before.before.before in
-    let k = m.before.before.before.truncate-end-pos3 in
+    let k = m.before.before.before.truncate_end_pos-k-2 in
     let x = m.before.before.before.before.before.before.before.before.args in
-    let r = m.truncate-end-pos4 in
+    let r = m.truncate_end_pos-more in
     let both = two_cuts _ x.max x.text.now _ k.result.pos k.result.width r.result.pos r.result.width (omega arith) k.ensures.0.0 k.ensures.0.1
     (part_to_end x.text.now k.result.pos) r.ensures.0.0 r.ensures.0.1 in
-    let fits = reaches_end x.max x.text.now (sym both.0 ∙ c.before.before.if3.true) in
+    let fits = reaches_end x.max x.text.now (sym both.0 ∙ c.before.before.if-at-more.true) in
     let l = end_uncut x.max x.text.now x.ellipsis.now fits in
     ((l.0, both.1 ∙ (fits_whole x.max x.text.now fits).1 ∙ l.1), (omega arith, omega arith, omega arith, omega arith))
 
-add-t14 : tie.Need-overflow-add-t14
+add-t14 : tie.Need-overflow_add-result-2
 add-t14 c = search rules
 
-returns-4 : tie.Need-returns-4
+returns-4 : tie.Need-returns
 returns-4 c =
     let m = c.before.before.before in
-    let k = m.before.before.before.truncate-end-pos3 in
+    let k = m.before.before.before.truncate_end_pos-k-2 in
     let x = m.before.before.before.before.before.before.before.before.args in
-    let r = m.truncate-end-pos4 in
-    let w = m.before.before.before.before.before.text-width.ensures.0 in
+    let r = m.truncate_end_pos-more in
+    let w = m.before.before.before.before.before.text_width-mark.ensures.0 in
     let both = two_cuts _ x.max x.text.now _ k.result.pos k.result.width r.result.pos r.result.width (omega arith) k.ensures.0.0 k.ensures.0.1
     (part_to_end x.text.now k.result.pos) r.ensures.0.0 r.ensures.0.1 in
-    let over = passes-max x.max x.text.now (λ e. c.before.if3.false (both.0 ∙ e)) in
-    let l = rw (← w) at (end_both x.max x.text.now x.ellipsis.now over (omega (arith, w, m.before.before.before.before.if1.false))) in
+    let over = passes-max x.max x.text.now (λ e. c.before.if-at-more.false (both.0 ∙ e)) in
+    let l = rw (← w) at (end_both x.max x.text.now x.ellipsis.now over (omega (arith, w, m.before.before.before.before.if-max-mark.false))) in
     ((rw (← k.ensures.0.0) at l.0, rw (← k.ensures.0.1) at l.1), (omega arith, k.ensures.1.0, omega arith, omega arith))
 
-pub pieces-end-spec : {M : Type 1} → statement M
-pieces-end-spec =
+pub pieces_end_spec : {M : Type 1} → statement M
+pieces_end_spec =
     tie.close
     (tie.spec
     text-width-requires

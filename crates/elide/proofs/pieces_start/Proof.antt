@@ -13,98 +13,98 @@ use Rattle.chars.proofs.text_width.Reads as text-width-reads
 use Rattle.elide.proofs.cut_back.Reads as cut-back-reads
 use Rattle.elide.proofs.trimmed_pos.Reads as trimmed-pos-reads
 
-text-width-requires : tie.Need-text-width-requires
+text-width-requires : tie.Need-text_width-mark-requires
 text-width-requires c κs = search rules
 
-cut-back-requires : tie.Need-cut-back-requires
+cut-back-requires : tie.Need-cut_back-all-requires
 cut-back-requires c κs = search rules
 
-returns : tie.Need-returns
+returns : tie.Need-returns-then-all-eq0
 returns c =
     let x = c.before.before.before.before.before.before.before.args in
-    let k = c.before.before.cut-back in
-    let fits = reaches_start x.max x.text.now (sym k.ensures.0.0 ∙ c.if2.true) in
+    let k = c.before.before.cut_back-all in
+    let fits = reaches_start x.max x.text.now (sym k.ensures.0.0 ∙ c.if-all-eq0.true) in
     let l = start_uncut x.max x.text.now x.ellipsis.now fits in
     ((l.0, k.ensures.0.1 ∙ (fits_back x.max x.text.now fits).1 ∙ l.1), (omega arith, omega arith, omega arith, omega arith))
 
-cut-back-requires-2 : tie.Need-cut-back-requires-2
+cut-back-requires-2 : tie.Need-cut_back-k-requires
 cut-back-requires-2 c κs = search rules
 
-trimmed-pos-requires : tie.Need-trimmed-pos-requires
+trimmed-pos-requires : tie.Need-trimmed_pos-begin-requires
 trimmed-pos-requires c κs = search rules
 
-returns-2 : tie.Need-returns-2
+returns-2 : tie.Need-returns-then-max-mark
 returns-2 c =
     let x = c.before.before.before.before.before.before.before.before.before.args in
-    let all = c.before.before.before.before.cut-back in
-    let k = c.before.cut-back2 in
-    let over = passes-back x.max x.text.now (λ e. c.before.before.if2.false (all.ensures.0.0 ∙ e)) in
-    let l = start_alone x.max x.text.now x.ellipsis.now c.trimmed-pos.result over
-    (omega (arith, c.before.before.before.before.before.before.text-width.ensures.0, c.before.before.before.before.before.if1.true))
-    (rw k.ensures.0.0 at c.trimmed-pos.ensures.0) in
-    ((l.0, k.ensures.0.1 ∙ l.1), (omega arith, omega arith, c.trimmed-pos.ensures.1, omega arith))
+    let all = c.before.before.before.before.cut_back-all in
+    let k = c.before.cut_back-k in
+    let over = passes-back x.max x.text.now (λ e. c.before.before.if-all-eq0.false (all.ensures.0.0 ∙ e)) in
+    let l = start_alone x.max x.text.now x.ellipsis.now c.trimmed_pos-begin.result over
+    (omega (arith, c.before.before.before.before.before.before.text_width-mark.ensures.0, c.before.before.before.before.before.if-max-mark.true))
+    (rw k.ensures.0.0 at c.trimmed_pos-begin.ensures.0) in
+    ((l.0, k.ensures.0.1 ∙ l.1), (omega arith, omega arith, c.trimmed_pos-begin.ensures.1, omega arith))
 
-cut-back-requires-3 : tie.Need-cut-back-requires-3
+cut-back-requires-3 : tie.Need-cut_back-k-requires-2
 cut-back-requires-3 c κs = search rules
 
-sub-cut-back : tie.Need-overflow-sub-cut-back
+sub-cut-back : tie.Need-slice_bounds-cut_back-count
 sub-cut-back c = search rules
 
-part-cut-back-start : tie.Need-slice-bounds-cut-back-start
+part-cut-back-start : tie.Need-slice_bounds-cut_back-start
 part-cut-back-start c = search rules
 
-part-cut-back-end : tie.Need-slice-bounds-cut-back-end
+part-cut-back-end : tie.Need-slice_bounds-cut_back-end
 part-cut-back-end c = search rules
 
-sub-cut-back-2 : tie.Need-overflow-sub-cut-back-2
+sub-cut-back-2 : tie.Need-overflow_sub-max-2
 sub-cut-back-2 c = search rules
 
-cut-back-requires-4 : tie.Need-cut-back-requires-4
+cut-back-requires-4 : tie.Need-cut_back-more-requires
 cut-back-requires-4 c κs =
-    let k = c.before.before.cut-back3 in
+    let k = c.before.before.cut_back-k-2 in
     let x = c.before.before.before.before.before.before.before.args in (
       c.before.before.before.before.before.before.before.requires.0,
       part_well_formed _ x.text.now k.result.pos
           c.before.before.before.before.before.before.before.requires.1.0 k.ensures.0.0,
     )
 
-add-t22 : tie.Need-overflow-add-t22
+add-t22 : tie.Need-overflow_add-result
 add-t22 c = search rules
 
-returns-3 : tie.Need-returns-3
+returns-3 : tie.Need-returns-then-more-eq0
 returns-3 c =
     let m = c.before.before.before.before in
-    let k = m.before.before.before.cut-back3 in
+    let k = m.before.before.before.cut_back-k-2 in
     let x = m.before.before.before.before.before.before.before.before.args in
-    let r = m.cut-back4 in
+    let r = m.cut_back-more in
     let both = two_cuts_back _ x.max x.text.now k.result.pos k.result.width r.result.pos r.result.width (omega arith) k.ensures.0.0 k.ensures.0.1
     r.ensures.0.0 r.ensures.0.1 in
-    let fits = reaches_start x.max x.text.now (sym both.0 ∙ c.before.before.if3.true) in
+    let fits = reaches_start x.max x.text.now (sym both.0 ∙ c.before.before.if-more-eq0.true) in
     let l = start_uncut x.max x.text.now x.ellipsis.now fits in
     ((l.0, both.1 ∙ (fits_back x.max x.text.now fits).1 ∙ l.1), (omega arith, omega arith, omega arith, omega arith))
 
-trimmed-pos-requires-2 : tie.Need-trimmed-pos-requires-2
+trimmed-pos-requires-2 : tie.Need-trimmed_pos-from-requires
 trimmed-pos-requires-2 c κs = search rules
 
-add-t17 : tie.Need-overflow-add-t17
+add-t17 : tie.Need-overflow_add-result-2
 add-t17 c = search rules
 
-returns-4 : tie.Need-returns-4
+returns-4 : tie.Need-returns
 returns-4 c =
     let m = c.before.before.before.before in
-    let k = m.before.before.before.cut-back3 in
+    let k = m.before.before.before.cut_back-k-2 in
     let x = m.before.before.before.before.before.before.before.before.args in
-    let r = m.cut-back4 in
-    let z = c.before.trimmed-pos2 in
-    let w = m.before.before.before.before.before.text-width.ensures.0 in
+    let r = m.cut_back-more in
+    let z = c.before.trimmed_pos-from in
+    let w = m.before.before.before.before.before.text_width-mark.ensures.0 in
     let both = two_cuts_back _ x.max x.text.now k.result.pos k.result.width r.result.pos r.result.width (omega arith) k.ensures.0.0 k.ensures.0.1
     r.ensures.0.0 r.ensures.0.1 in
-    let over = passes-back x.max x.text.now (λ e. c.before.before.if3.false (both.0 ∙ e)) in
-    let l = start_both x.max x.text.now x.ellipsis.now z.result over (omega (arith, w, m.before.before.before.before.if1.false)) (rw (k.ensures.0.0, w) at z.ensures.0) in
+    let over = passes-back x.max x.text.now (λ e. c.before.before.if-more-eq0.false (both.0 ∙ e)) in
+    let l = start_both x.max x.text.now x.ellipsis.now z.result over (omega (arith, w, m.before.before.before.before.if-max-mark.false)) (rw (k.ensures.0.0, w) at z.ensures.0) in
     ((l.0, omega (arith, w, rw w at k.ensures.0.1, l.1)), (z.ensures.1, omega arith, omega arith, omega arith))
 
-pub pieces-start-spec : {M : Type 1} → statement M
-pieces-start-spec =
+pub pieces_start_spec : {M : Type 1} → statement M
+pieces_start_spec =
     tie.close
     (tie.spec
     text-width-requires

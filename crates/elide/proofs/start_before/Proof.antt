@@ -29,52 +29,52 @@ one-back s at i f h = record { within = f.within; before = omega (arith, f.befor
         subst (λ (n : ℕ). Trails (get_or s n 0)) k h
     go j p q false e = f.between j (leb-false j i e) q
 
-abbrev invariant-loop : tie.invariant-loop
+abbrev invariant-loop : tie.invariant-loop-i
 invariant-loop s at i₀ i = So-far s at i
 
-abbrev decreases-loop : tie.decreases-loop
+abbrev decreases-loop : tie.decreases-loop-i
 decreases-loop s at i₀ i = i
 
-sub-i : tie.Need-overflow-sub-i invariant-loop decreases-loop
+sub-i : tie.Need-overflow_sub-i invariant-loop decreases-loop
 sub-i c = search rules
 
-loop-holds : tie.Need-loop-init invariant-loop decreases-loop
+loop-holds : tie.Need-loop-i-init invariant-loop decreases-loop
 loop-holds c = record { within = omega arith; before = omega arith; between = λ j p q. absurd (omega (arith, p, q)) }
 
-shared-slice-read-if1 : tie.Need-shared-slice-read-if1 invariant-loop decreases-loop
+shared-slice-read-if1 : tie.Need-bounds-s-i invariant-loop decreases-loop
 shared-slice-read-if1 c = search rules
 
-returns : tie.Need-returns invariant-loop decreases-loop
+returns : tie.Need-returns-then-s-i-lt128 invariant-loop decreases-loop
 returns c =
-    let inv = c.before.before.before.loop.invariant in
-    record { before = inv.before; between = inv.between; stops = λ p h. omega (arith, h.0, c.if1.true) }
+    let inv = c.before.before.before.loop-i.invariant in
+    record { before = inv.before; between = inv.between; stops = λ p h. omega (arith, h.0, c.if-s-i-lt128.true) }
 
-shared-slice-read-if2 : tie.Need-shared-slice-read-if2 invariant-loop decreases-loop
+shared-slice-read-if2 : tie.Need-bounds-s-i-in-loop-i invariant-loop decreases-loop
 shared-slice-read-if2 c = search rules
 
-returns-2 : tie.Need-returns-2 invariant-loop decreases-loop
+returns-2 : tie.Need-returns-then-s-i-gt191 invariant-loop decreases-loop
 returns-2 c =
-    let inv = c.before.before.before.before.before.loop.invariant in
-    record { before = inv.before; between = inv.between; stops = λ p h. omega (arith, h.1, c.if2.true) }
+    let inv = c.before.before.before.before.before.loop-i.invariant in
+    record { before = inv.before; between = inv.between; stops = λ p h. omega (arith, h.1, c.if-s-i-gt191.true) }
 
-sub-i-2 : tie.Need-overflow-sub-i-2 invariant-loop decreases-loop
+sub-i-2 : tie.Need-overflow_sub-i-in-loop-i invariant-loop decreases-loop
 sub-i-2 c = search rules
 
-loop-less : tie.Need-loop-smaller invariant-loop decreases-loop
+loop-less : tie.Need-loop-i-smaller invariant-loop decreases-loop
 loop-less c = search rules
 
-loop-again : tie.Need-loop-preserved invariant-loop decreases-loop
+loop-again : tie.Need-loop-i-preserved invariant-loop decreases-loop
 loop-again c =
     let l = c.before.before.before.before.before in
-    one-back l.before.args.s.now l.before.args.at l.loop.i l.loop.invariant (omega (arith, c.before.before.if1.false), omega (arith, c.if2.false))
+    one-back l.before.args.s.now l.before.args.at l.loop-i.i l.loop-i.invariant (omega (arith, c.before.before.if-s-i-lt128.false), omega (arith, c.if-s-i-gt191.false))
 
-returns-3 : tie.Need-returns-3 invariant-loop decreases-loop
+returns-3 : tie.Need-returns invariant-loop decreases-loop
 returns-3 c =
-    let inv = c.before.loop.invariant in
-    record { before = omega (arith, inv.before); between = λ j p q. inv.between j (omega (arith, p, c.loop-test.false)) q; stops = λ p h. omega (arith, p) }
+    let inv = c.before.loop-i.invariant in
+    record { before = omega (arith, inv.before); between = λ j p q. inv.between j (omega (arith, p, c.loop-i-test.false)) q; stops = λ p h. omega (arith, p) }
 
-pub start-before-spec : {M : Type 1} → statement M
-start-before-spec =
+pub start_before_spec : {M : Type 1} → statement M
+start_before_spec =
     tie.close
     (tie.spec
     invariant-loop

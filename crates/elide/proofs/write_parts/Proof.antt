@@ -16,58 +16,58 @@ use Rattle.elide.proofs.write_parts.Reads as reads
 use Rattle.elide.proofs.write_parts.Lts as lts
 use Rattle.buffer.proofs.put.Reads as put_reads
 
-sub-n : tie.Need-overflow-sub-n
+sub-n : tie.Need-overflow_sub-n
 sub-n c = search rules
 
-sub-n-2 : tie.Need-overflow-sub-n-2
+sub-n-2 : tie.Need-overflow_sub-n-2
 sub-n-2 c = search rules
 
-add-n : tie.Need-overflow-add-n
+add-n : tie.Need-overflow_add-n
 add-n c = search rules
 
-returns : tie.Need-returns
+returns : tie.Need-returns-then-n-gt-LIMIT
 unfolding answer_of returned lent_after
 returns c =
     let x = c.before.before.before.before.args in
     let n = length-parts x.a x.b x.x.now x.c x.d x.y.now (omega arith) (omega arith) in
-    let e = over_limit_lem (length x.out.now) x.width (part x.a x.b x.x.now ++ part x.c x.d x.y.now) (omega (arith, n, c.if1.true)) in
+    let e = over_limit_lem (length x.out-1.now) x.width (part x.a x.b x.x.now ++ part x.c x.d x.y.now) (omega (arith, n, c.if-n-gt-LIMIT.true)) in
     (simp e, simp e)
 
-returns-2 : tie.Need-returns-2
+returns-2 : tie.Need-returns-then-out-n
 unfolding answer_of returned lent_after
 returns-2 c =
     let x = c.before.before.before.before.before.args in
     let n = length-parts x.a x.b x.x.now x.c x.d x.y.now (omega arith) (omega arith) in
-    let e = too_short (length x.out.now) x.width (part x.a x.b x.x.now ++ part x.c x.d x.y.now) (omega (arith, n, c.before.if1.false)) (omega (arith, n, c.if2.true)) in
+    let e = too_short (length x.out-1.now) x.width (part x.a x.b x.x.now ++ part x.c x.d x.y.now) (omega (arith, n, c.before.if-n-gt-LIMIT.false)) (omega (arith, n, c.if-out-n.true)) in
     (simp e, simp e)
 
-put-requires : tie.Need-put-requires
+put-requires : tie.Need-put-at-requires
 put-requires c κs = search rules
 
-put-requires-2 : tie.Need-put-requires-2
+put-requires-2 : tie.Need-put-end-requires
 put-requires-2 c κs = search rules
 
-same_length : tie.Need-same-length
+same_length : tie.Need-shape_of-out
 same_length c = search rules
 
-returns-3 : tie.Need-returns-3
+returns-3 : tie.Need-returns
 unfolding answer_of returned lent_after over
 returns-3 c =
     let x = c.before.before.before.before.before.before.before.before.before.before.before.before.before.args in
     let n = length-parts x.a x.b x.x.now x.c x.d x.y.now (omega arith) (omega arith) in
-    let e = has_room (length x.out.now) x.width (part x.a x.b x.x.now ++ part x.c x.d x.y.now)
-    (omega (arith, n, c.before.before.before.before.before.before.before.before.before.if1.false))
-    (omega (arith, n, c.before.before.before.before.before.before.before.before.if2.false)) in
-    let one = c.before.before.before.before.before.before.put in
-    let two = c.before.before.put2 in
+    let e = has_room (length x.out-1.now) x.width (part x.a x.b x.x.now ++ part x.c x.d x.y.now)
+    (omega (arith, n, c.before.before.before.before.before.before.before.before.before.if-n-gt-LIMIT.false))
+    (omega (arith, n, c.before.before.before.before.before.before.before.before.if-out-n.false)) in
+    let one = c.before.before.before.before.before.before.put-at in
+    let two = c.before.before.put-end in
     let p = part x.a x.b x.x.now in
     let q = part x.c x.d x.y.now in
     let r : two.result ≡ length (p ++ q) = omega (arith, n, one.ensures.0, two.ensures.0) in
     let first : one.result ≡ length p = omega (arith, one.ensures.0, length_part x.a x.b x.x.now (omega arith)) in
-    (simp (e, r), simp e (ap lent (two_puts p q x.out.now _ _ one.result one.ensures.1 first two.ensures.1)))
+    (simp (e, r), simp e (ap lent (two_puts p q x.out-1.now _ _ one.result one.ensures.1 first two.ensures.1)))
 
-pub write-parts-spec : {M : Type 1} → statement M
-write-parts-spec =
+pub write_parts_spec : {M : Type 1} → statement M
+write_parts_spec =
     tie.close
     (tie.spec
     sub-n

@@ -12,51 +12,51 @@ use Rattle.chars.proofs.seen_at.Reads as seen-at-reads
 use Rattle.open_label.proofs.any_under.Reads as any-under-reads
 
 -- once the character is seen: where the function started
-abbrev start : tie.After-struct-known2 → tie.Start
+abbrev start : tie.After-struct_known-2-1 → tie.Start
 start c = c.before.before.before.before.before.before.before.before.before
 
-abbrev seen : tie.After-struct-known2 → tie.After-seen-at
+abbrev seen : tie.After-struct_known-2-1 → tie.After-seen_at-ch
 seen c = c.before.before
 
-seen-at-requires : tie.Need-seen-at-requires
+seen-at-requires : tie.Need-seen_at-ch-requires
 seen-at-requires c κs =
     let s = c.before.before.before.before.before.before in
     (s.requires.0.0, omega (arith, s.requires.1.0, s.requires.1.1))
 
-add-until : tie.Need-overflow-add-until
+add-until : tie.Need-overflow_add-until
 add-until c = search rules
 
-any-under-requires : tie.Need-any-under-requires
+any-under-requires : tie.Need-any_under-requires
 any-under-requires c κs =
     let s = start c in
-    let w = s.pre.0.1 in
-    let n = (seen c).seen_at.ensures in
+    let w = s.requires.0.1 in
+    let n = (seen c).seen_at-ch.ensures in
     (w.arrived.ready, (omega (arith, n.1.0), n.1.1, w.arrived.depth))
 
-cast-t13 : tie.Need-overflow-cast-t13
+cast-t13 : tie.Need-overflow_cast-result
 cast-t13 c = search rules
 
-returns : tie.Need-returns
+returns : tie.Need-returns-then-any_under
 returns c =
     let u = c.before.before in
     let k = u.before in
     let s = start k in
     let a = s.args in
-    let p = s.pre.1 in
-    let n = (seen k).seen_at.ensures in
-    divided_gone a.label.now a.content.now a.entries.now a.text.now a.w a.end p.0 p.1 p.2 p.3 _ n.0.0 n.1.1 _ u.any-under.ensures
-    c.before.if1.true _ n.0.1
+    let p = s.requires.1 in
+    let n = (seen k).seen_at-ch.ensures in
+    divided_gone a.label.now a.content.now a.entries.now a.text.now a.w a.end p.0 p.1 p.2 p.3 _ n.0.0 n.1.1 _ u.any_under.ensures
+    c.before.if-any_under.true _ n.0.1
 
-returns-2 : tie.Need-returns-2
+returns-2 : tie.Need-returns
 returns-2 c =
     let u = c.before in
     let k = u.before in
     let s = start k in
     let a = s.args in
-    let p = s.pre.1 in
-    let n = (seen k).seen_at.ensures in
-    divided_kept a.label.now a.content.now a.entries.now a.text.now a.w a.end p.0 p.1 p.2 p.3 _ n.0.0 n.1.1 _ u.any-under.ensures c.if1.false
+    let p = s.requires.1 in
+    let n = (seen k).seen_at-ch.ensures in
+    divided_kept a.label.now a.content.now a.entries.now a.text.now a.w a.end p.0 p.1 p.2 p.3 _ n.0.0 n.1.1 _ u.any_under.ensures c.if-any_under.false
 
-pub divided-run-spec : {M : Type 1} → statement M
-divided-run-spec =
+pub divided_run_spec : {M : Type 1} → statement M
+divided_run_spec =
     tie.close (tie.spec seen-at-requires add-until any-under-requires cast-t13 returns returns-2)

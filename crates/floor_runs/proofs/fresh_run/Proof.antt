@@ -17,89 +17,89 @@ use Rattle.floor_runs.proofs.copied_to.Reads as copied-to-reads
 use Rattle.floor_runs.proofs.divided_run.Reads as divided-run-reads
 
 -- where the function started
-abbrev start : tie.After-struct-known → tie.Start
+abbrev start : tie.After-struct_known-1 → tie.Start
 start c = c.before.before.before.before.before
 
-whole-end-requires : tie.Need-whole-end-requires
+whole-end-requires : tie.Need-whole_end-m-requires
 whole-end-requires c κs =
     let s = start c.before in
-    (s.pre.0.0, (s.pre.1.0, s.pre.1.1))
+    (s.requires.0.0, (s.requires.1.0, s.requires.1.1))
 
-copied-to-requires : tie.Need-copied-to-requires
+copied-to-requires : tie.Need-copied_to-requires
 copied-to-requires c κs = search rules
 
-returns : tie.Need-returns
+returns : tie.Need-returns-then-at-m
 returns c =
     let m = c.before.before in
     let k = m.before.before in
     let s = start k in
     let a = s.args in
-    let p = s.pre.1 in
+    let p = s.requires.1 in
     subst (λ (r : Run). RunOf a.label.now a.content.now (left a.content.now a.entries.now a.text.now a.w.c) a.w.o a.w.c.at a.w.c.at _ a.end r)
-    (sym c.copied-to.ensures)
-    (copied a.label.now a.content.now a.entries.now a.text.now a.w a.end p.0 p.1 p.2 _ m.before.if1.true m.whole-end.ensures c.before.if2.true)
+    (sym c.copied_to.ensures)
+    (copied a.label.now a.content.now a.entries.now a.text.now a.w a.end p.0 p.1 p.2 _ m.before.if-w-eq0.true m.whole_end-m.ensures c.before.if-at-m.true)
 
-divided-run-requires : tie.Need-divided-run-requires
+divided-run-requires : tie.Need-divided_run-requires
 divided-run-requires c κs =
     let m = c.before in
     let s = start m.before.before in
-    let p = s.pre.1 in
-    let v = m.whole-end.ensures in
-    (s.pre.0, (p.0, p.1, p.2, v.none (omega (arith, v.from, c.if2.false))))
+    let p = s.requires.1 in
+    let v = m.whole_end-m.ensures in
+    (s.requires.0, (p.0, p.1, p.2, v.none (omega (arith, v.from, c.if-at-m.false))))
 
-returns-2 : tie.Need-returns-2
+returns-2 : tie.Need-returns-then-w-eq0
 returns-2 c = search rules
 
-shared-slice-read-if3 : tie.Need-shared-slice-read-if3
+shared-slice-read-if3 : tie.Need-bounds-content-at
 shared-slice-read-if3 c =
     let s = start c.before.before in
-    omega (arith, s.pre.1.0, s.pre.1.1)
+    omega (arith, s.requires.1.0, s.requires.1.1)
 
-add-copied-to : tie.Need-overflow-add-copied-to
+add-copied-to : tie.Need-overflow_add-at
 add-copied-to c =
     let s = start c.before.before.before in
-    omega (arith, s.pre.1.0, s.fits.end)
+    omega (arith, s.requires.1.0, s.fits.end)
 
-copied-to-requires-2 : tie.Need-copied-to-requires-2
+copied-to-requires-2 : tie.Need-copied_to-requires-then-content-at-eq10
 copied-to-requires-2 c κs = search rules
 
-returns-3 : tie.Need-returns-3
+returns-3 : tie.Need-returns-then-content-at-eq10
 returns-3 c =
     let k = c.before.before.before.before in
     let s = start k in
     let a = s.args in
-    let p = s.pre.1 in
+    let p = s.requires.1 in
     subst (λ (r : Run). RunOf a.label.now a.content.now (left a.content.now a.entries.now a.text.now a.w.c) a.w.o a.w.c.at a.w.c.at _ a.end r)
-    (sym c.copied-to2.ensures)
-    (newline a.label.now a.content.now a.entries.now a.text.now a.w a.end p.0 p.1 p.2 c.before.if3.true)
+    (sym c.copied_to-then-content-at-eq10.ensures)
+    (newline a.label.now a.content.now a.entries.now a.text.now a.w a.end p.0 p.1 p.2 c.before.if-content-at-eq10.true)
 
-covered-requires : tie.Need-covered-requires
+covered-requires : tie.Need-covered-s-requires
 covered-requires c κs =
     let s = start c.before.before.before in
-    (s.pre.0.0, (s.pre.1.0, s.pre.1.1, s.pre.0.1.arrived.ready.short))
+    (s.requires.0.0, (s.requires.1.0, s.requires.1.1, s.requires.0.1.arrived.ready.short))
 
-returns-4 : tie.Need-returns-4
+returns-4 : tie.Need-returns-then-at-s
 returns-4 c =
     let v = c.before.before in
     let k = v.before.before.before.before in
     let s = start k in
     let a = s.args in
-    let p = s.pre.1 in
-    starred a.label.now a.content.now a.entries.now a.text.now a.w a.end p.0 p.1 p.2 _ v.before.before.before.if1.false v.covered.ensures.0 c.if4.true
+    let p = s.requires.1 in
+    starred a.label.now a.content.now a.entries.now a.text.now a.w a.end p.0 p.1 p.2 _ v.before.before.before.if-w-eq0.false v.covered-s.ensures.0 c.if-at-s.true
 
-divided-run-requires-2 : tie.Need-divided-run-requires-2
+divided-run-requires-2 : tie.Need-divided_run-requires-2
 divided-run-requires-2 c κs =
     let v = c.before.before in
     let s = start v.before.before.before.before in
-    let p = s.pre.1 in
-    let x = v.covered.ensures.0 in
-    (s.pre.0, (p.0, p.1, p.2, x.none (omega (arith, x.from, c.if4.false)) (no_newline _ _ v.before.if3.false)))
+    let p = s.requires.1 in
+    let x = v.covered-s.ensures.0 in
+    (s.requires.0, (p.0, p.1, p.2, x.none (omega (arith, x.from, c.if-at-s.false)) (no_newline _ _ v.before.if-content-at-eq10.false)))
 
-returns-5 : tie.Need-returns-5
+returns-5 : tie.Need-returns
 returns-5 c = search rules
 
-pub fresh-run-spec : {M : Type 1} → statement M
-fresh-run-spec =
+pub fresh_run_spec : {M : Type 1} → statement M
+fresh_run_spec =
     tie.close
     (tie.spec
     whole-end-requires

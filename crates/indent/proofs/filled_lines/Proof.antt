@@ -40,42 +40,42 @@ module _ (d : List ℕ) (n p : ℕ) (s : Counted d n p) where
   all : length d ≤ p → n ≡ filled_lines_of true d
   all past = omega (arith, s.rest, filled_none s.start left (omega (arith, s.next, length-drop s.from d)))
 
-abbrev invariant-loop : tie.invariant-loop
+abbrev invariant-loop : tie.invariant-loop-at
 invariant-loop content n₀ at₀ n at =
     Counted content n at
 
-abbrev decreases-loop : tie.decreases-loop
+abbrev decreases-loop : tie.decreases-loop-at
 decreases-loop content n₀ at₀ n at =
     length content - at
 
-next-line-requires : tie.Need-next-line-requires invariant-loop decreases-loop
+next-line-requires : tie.Need-next_line-at-requires invariant-loop decreases-loop
 next-line-requires c κs = search rules
 
-loop-holds : tie.Need-loop-init invariant-loop decreases-loop
+loop-holds : tie.Need-loop-at-init invariant-loop decreases-loop
 loop-holds c =
-    record { from = 0; start = true; next = c.next-line.ensures.0; rest = omega arith; within = c.next-line.ensures.1.1; few = omega arith }
+    record { from = 0; start = true; next = c.next_line-at.ensures.0; rest = omega arith; within = c.next_line-at.ensures.1.1; few = omega arith }
 
-add-n : tie.Need-overflow-add-n invariant-loop decreases-loop
+add-n : tie.Need-overflow_add-n invariant-loop decreases-loop
 add-n c = search rules
 
-next-line-requires-2 : tie.Need-next-line-requires-2 invariant-loop decreases-loop
-next-line-requires-2 c κs = c.before.loop.invariant.within
+next-line-requires-2 : tie.Need-next_line-at-requires-in-loop-at invariant-loop decreases-loop
+next-line-requires-2 c κs = c.before.loop-at.invariant.within
 
-loop-less : tie.Need-loop-smaller invariant-loop decreases-loop
+loop-less : tie.Need-loop-at-smaller invariant-loop decreases-loop
 loop-less c =
     let l = c.before.before in
-    omega (arith, c.next-line2.ensures.0, c.before.loop-test.true, next_past l.loop.at l.before.before.before.args.content.now c.before.loop-test.true)
+    omega (arith, c.next_line-at-in-loop-at.ensures.0, c.before.loop-at-test.true, next_past l.loop-at.at l.before.before.before.args.content.now c.before.loop-at-test.true)
 
-loop-again : tie.Need-loop-preserved invariant-loop decreases-loop
+loop-again : tie.Need-loop-at-preserved invariant-loop decreases-loop
 loop-again c =
-    one_more _ _ _ c.before.before.loop.invariant c.before.loop-test.true _ c.next-line2.ensures.0 c.next-line2.ensures.1.1
+    one_more _ _ _ c.before.before.loop-at.invariant c.before.loop-at-test.true _ c.next_line-at-in-loop-at.ensures.0 c.next_line-at-in-loop-at.ensures.1.1
 
 returns : tie.Need-returns invariant-loop decreases-loop
 returns c =
-    (all _ _ _ c.before.loop.invariant c.loop-test.false, omega (arith, c.before.loop.invariant.few, c.before.loop.invariant.within))
+    (all _ _ _ c.before.loop-at.invariant c.loop-at-test.false, omega (arith, c.before.loop-at.invariant.few, c.before.loop-at.invariant.within))
 
-pub filled-lines-spec : {M : Type 1} → statement M
-filled-lines-spec =
+pub filled_lines_spec : {M : Type 1} → statement M
+filled_lines_spec =
     tie.close
     (tie.spec
     invariant-loop

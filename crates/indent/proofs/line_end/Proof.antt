@@ -12,46 +12,46 @@ use Rattle.indent.proofs.line_end.Reads as reads
 use Rattle.indent.proofs.line_end.Lts as lts
 use Rattle.indent.proofs.skip_blocks.Reads as skip-blocks-reads
 
-abbrev invariant-loop : tie.invariant-loop
+abbrev invariant-loop : tie.invariant-loop-at
 invariant-loop s from at₀ at =
     (from ≤ at) × (at ≤ length s) × (at + to_break (drop at s) ≡ from + to_break (drop from s))
 
-abbrev decreases-loop : tie.decreases-loop
+abbrev decreases-loop : tie.decreases-loop-at
 decreases-loop s from at₀ at =
     length s - at
 
-skip-blocks-requires : tie.Need-skip-blocks-requires invariant-loop decreases-loop
+skip-blocks-requires : tie.Need-skip_blocks-at-requires invariant-loop decreases-loop
 skip-blocks-requires c κs = search rules
 
-loop-holds : tie.Need-loop-init invariant-loop decreases-loop
+loop-holds : tie.Need-loop-at-init invariant-loop decreases-loop
 loop-holds c = search rules
 
-shared-slice-read-if1 : tie.Need-shared-slice-read-if1 invariant-loop decreases-loop
+shared-slice-read-if1 : tie.Need-bounds-s-at invariant-loop decreases-loop
 shared-slice-read-if1 c = search rules
 
-returns : tie.Need-returns invariant-loop decreases-loop
+returns : tie.Need-returns-then-s-at-eq10 invariant-loop decreases-loop
 returns c =
     let l = c.before.before.before in
-    (omega (arith, l.loop.invariant.2, break_here l.loop.at l.before.before.before.args.s.now (omega arith) c.if1.true), (search rules, search rules))
+    (omega (arith, l.loop-at.invariant.2, break_here l.loop-at.at l.before.before.before.args.s.now (omega arith) c.if-s-at-eq10.true), (search rules, search rules))
 
-add_at : tie.Need-overflow-add-at invariant-loop decreases-loop
+add_at : tie.Need-overflow_add-at invariant-loop decreases-loop
 add_at c = search rules
 
-loop-less : tie.Need-loop-smaller invariant-loop decreases-loop
+loop-less : tie.Need-loop-at-smaller invariant-loop decreases-loop
 loop-less c = search rules
 
-loop-again : tie.Need-loop-preserved invariant-loop decreases-loop
+loop-again : tie.Need-loop-at-preserved invariant-loop decreases-loop
 loop-again c =
     let l = c.before.before.before in
-    (search rules, search rules, omega (arith, l.loop.invariant.2, break_later l.loop.at l.before.before.before.args.s.now (omega arith) c.if1.false))
+    (search rules, search rules, omega (arith, l.loop-at.invariant.2, break_later l.loop-at.at l.before.before.before.args.s.now (omega arith) c.if-s-at-eq10.false))
 
-returns-2 : tie.Need-returns-2 invariant-loop decreases-loop
+returns-2 : tie.Need-returns invariant-loop decreases-loop
 returns-2 c =
     let l = c.before in
-    (omega (arith, l.loop.invariant.2, break_end l.loop.at l.before.before.before.args.s.now (omega arith)), (search rules, search rules))
+    (omega (arith, l.loop-at.invariant.2, break_end l.loop-at.at l.before.before.before.args.s.now (omega arith)), (search rules, search rules))
 
-pub line-end-spec : {M : Type 1} → statement M
-line-end-spec =
+pub line_end_spec : {M : Type 1} → statement M
+line_end_spec =
     tie.close
     (tie.spec
     invariant-loop

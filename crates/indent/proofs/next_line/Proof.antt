@@ -14,29 +14,29 @@ use Rattle.indent.proofs.next_line.Lts as lts
 use Rattle.indent.proofs.line_end.Reads as line-end-reads
 use Rattle.indent.proofs.skip_empty.Reads as skip-empty-reads
 
-skip-empty-requires : tie.Need-skip-empty-requires
+skip-empty-requires : tie.Need-skip_empty-requires
 skip-empty-requires c κs = search rules
 
-returns : tie.Need-returns
+returns : tie.Need-returns-then-at_start
 returns c =
     let a = c.before.before.before.args in
-    (c.skip-empty.ensures.0 ∙ ap (λ (t : Bool). a.from + to_next t (drop a.from a.content.now)) (sym c.before.if1.true), (search rules, search rules))
+    (c.skip_empty.ensures.0 ∙ ap (λ (t : Bool). a.from + to_next t (drop a.from a.content.now)) (sym c.before.if-at_start.true), (search rules, search rules))
 
-line-end-requires : tie.Need-line-end-requires
+line-end-requires : tie.Need-line_end-requires
 line-end-requires c κs = search rules
 
-skip-empty-requires-2 : tie.Need-skip-empty-requires-2
+skip-empty-requires-2 : tie.Need-skip_empty-requires-2
 skip-empty-requires-2 c κs = search rules
 
-returns-2 : tie.Need-returns-2
+returns-2 : tie.Need-returns
 returns-2 c =
     let a = c.before.before.before.before.args in
-    let e = c.before.line-end.ensures.0 in
-    let far : c.skip-empty2.result ≡ a.from + to_next false (drop a.from a.content.now) =
-    omega (arith, c.skip-empty2.ensures.0, e, ap (λ (n : ℕ). to_next true (drop n a.content.now)) e, next_after a.from a.content.now) in
-    (far ∙ ap (λ (t : Bool). a.from + to_next t (drop a.from a.content.now)) (sym c.before.before.if1.false), (search rules, search rules))
+    let e = c.before.line_end.ensures.0 in
+    let far : c.skip_empty-2.result ≡ a.from + to_next false (drop a.from a.content.now) =
+    omega (arith, c.skip_empty-2.ensures.0, e, ap (λ (n : ℕ). to_next true (drop n a.content.now)) e, next_after a.from a.content.now) in
+    (far ∙ ap (λ (t : Bool). a.from + to_next t (drop a.from a.content.now)) (sym c.before.before.if-at_start.false), (search rules, search rules))
 
-pub next-line-spec : {M : Type 1} → statement M
-next-line-spec =
+pub next_line_spec : {M : Type 1} → statement M
+next_line_spec =
     tie.close
     (tie.spec skip-empty-requires returns line-end-requires skip-empty-requires-2 returns-2)

@@ -15,107 +15,107 @@ use Rattle.indent.proofs.next_line.Reads as next-line-reads
 use Rattle.writer.proofs.keep.Reads as keep-reads
 use Rattle.writer.proofs.put_recording.Reads as put-recording-reads
 
-abbrev invariant-loop : tie.invariant-loop
+abbrev invariant-loop : tie.invariant-loop-p
 invariant-loop bytes₀ numbers₀ texts₀ content entries text prefix prefix-entries prefix-text c₀ p₀ bytes numbers texts c p =
     State (items (recording prefix prefix-entries prefix-text)) content entries text (blank bytes₀ numbers₀ texts₀) (out bytes numbers texts c) c p
 
-abbrev decreases-loop : tie.decreases-loop
+abbrev decreases-loop : tie.decreases-loop-p
 decreases-loop bytes₀ numbers₀ texts₀ content entries text prefix prefix-entries prefix-text c₀ p₀ bytes numbers texts c p =
     length content - p
 
 -- ── the places on the way, and what is known there
 -- at the loop: what the function asks
-abbrev start : tie.At-loop invariant-loop decreases-loop → tie.Start invariant-loop decreases-loop
+abbrev start : tie.At-loop-p invariant-loop decreases-loop → tie.Start invariant-loop decreases-loop
 start c = c.before.before.before.before.before.before.before.before.before.before.before
 
 -- in a turn, after the content up to the line and after the prefix
-abbrev turn : tie.After-keep invariant-loop decreases-loop → tie.In-loop invariant-loop decreases-loop
+abbrev turn : tie.After-keep-c invariant-loop decreases-loop → tie.In-loop-p invariant-loop decreases-loop
 turn c = c.before.before.before.before
 
-abbrev kept : tie.After-put-recording invariant-loop decreases-loop → tie.After-keep invariant-loop decreases-loop
+abbrev kept : tie.After-put_recording-c invariant-loop decreases-loop → tie.After-keep-c invariant-loop decreases-loop
 kept c = c.before.before.before.before.before.before.before.before.before.before
 
 -- after the loop and the rest of the content
-abbrev ended : tie.After-keep2 invariant-loop decreases-loop → tie.After-loop invariant-loop decreases-loop
+abbrev ended : tie.After-keep invariant-loop decreases-loop → tie.After-loop-p invariant-loop decreases-loop
 ended c = c.before.before.before.before
 
 -- ── what is asked on the way
-next-line-requires : tie.Need-next-line-requires invariant-loop decreases-loop
+next-line-requires : tie.Need-next_line-p-requires invariant-loop decreases-loop
 next-line-requires c κs =
     omega arith
 
-loop-holds : tie.Need-loop-init invariant-loop decreases-loop
+loop-holds : tie.Need-loop-p-init invariant-loop decreases-loop
 unfolding out
 loop-holds c =
-    state_first _ _ _ _ _ _ _ refl refl c.before.before.before.before.before.before.before.before.before.before.requires.0.0 c.next-line.ensures.0 c.next-line.ensures.1.1
+    state_first _ _ _ _ _ _ _ refl refl c.before.before.before.before.before.before.before.before.before.before.requires.0.0 c.next_line-p.ensures.0 c.next_line-p.ensures.1.1
 
-keep-requires : tie.Need-keep-requires invariant-loop decreases-loop
+keep-requires : tie.Need-keep-c-requires invariant-loop decreases-loop
 keep-requires c κs =
     let t = c.before.before.before in
-    let s = t.before.loop.invariant in
-    let z = (start t.before).pre.1 in
-    (s.ready, ((before _ _ _ _ _ _ _ _ s z, s.within), room_keep _ _ _ _ _ _ _ _ s z t.loop-test.true))
+    let s = t.before.loop-p.invariant in
+    let z = (start t.before).requires.1 in
+    (s.ready, ((before _ _ _ _ _ _ _ _ s z, s.within), room_keep _ _ _ _ _ _ _ _ s z t.loop-p-test.true))
 
-put-recording-requires : tie.Need-put-recording-requires invariant-loop decreases-loop
+put-recording-requires : tie.Need-put_recording-c-requires invariant-loop decreases-loop
 put-recording-requires c κs =
     let k = c.before.before.before.before.before.before.before.before.before in
     let t = turn k in
-    let z = (start t.before).pre in
-    (z.0.1, room_prefix _ _ _ _ _ _ _ _ t.before.loop.inv z.1 t.loop-test.taken _ k.keep.ensures.0)
+    let z = (start t.before).requires in
+    (z.0.1, room_prefix _ _ _ _ _ _ _ _ t.before.loop-p.invariant z.1 t.loop-p-test.true _ k.keep-c.ensures.0)
 
-next-line-requires-2 : tie.Need-next-line-requires-2 invariant-loop decreases-loop
-next-line-requires-2 c κs = (turn (kept c.before.before.before.before.before.before)).before.loop.inv.within
+next-line-requires-2 : tie.Need-next_line-p-requires-in-loop-p invariant-loop decreases-loop
+next-line-requires-2 c κs = (turn (kept c.before.before.before.before.before.before)).before.loop-p.invariant.within
 
-loop-less : tie.Need-loop-smaller invariant-loop decreases-loop
+loop-less : tie.Need-loop-p-smaller invariant-loop decreases-loop
 loop-less c =
     let t = turn (kept c.before.before.before.before.before.before.before) in
-    omega (arith, c.next-line2.ensures.0, t.loop-test.taken, next_past t.before.loop.p (start t.before).args.content.now t.loop-test.taken)
+    omega (arith, c.next_line-p-in-loop-p.ensures.0, t.loop-p-test.true, next_past t.before.loop-p.p (start t.before).args.content.now t.loop-p-test.true)
 
-loop-again : tie.Need-loop-preserved invariant-loop decreases-loop
+loop-again : tie.Need-loop-p-preserved invariant-loop decreases-loop
 loop-again c =
     let w = c.before.before.before.before.before.before.before in
     let t = turn (kept w) in
-    let k = (kept w).keep.ensures in
-    let r = w.put-recording.ensures in
-    let n = c.next-line2.ensures in
-    step _ _ _ _ _ _ _ _ t.before.loop.inv (start t.before).pre.1 t.loop-test.taken _ k.0 _ _ _ _ r.0 k.1.0 k.1.1.0 k.1.1.1 r.1.0 r.1.1 n.0 n.1.1
+    let k = (kept w).keep-c.ensures in
+    let r = w.put_recording-c.ensures in
+    let n = c.next_line-p-in-loop-p.ensures in
+    step _ _ _ _ _ _ _ _ t.before.loop-p.invariant (start t.before).requires.1 t.loop-p-test.true _ k.0 _ _ _ _ r.0 k.1.0 k.1.1.0 k.1.1.1 r.1.0 r.1.1 n.0 n.1.1
 
-keep-requires-2 : tie.Need-keep-requires-2 invariant-loop decreases-loop
+keep-requires-2 : tie.Need-keep-requires invariant-loop decreases-loop
 keep-requires-2 c κs =
     let l = c.before.before.before in
-    let s = l.before.loop.invariant in
-    let z = (start l.before).pre.1 in
-    (s.ready, ((here _ _ _ _ _ _ _ _ s z, omega arith), room_last _ _ _ _ _ _ _ _ s z l.loop-test.false))
+    let s = l.before.loop-p.invariant in
+    let z = (start l.before).requires.1 in
+    (s.ready, ((here _ _ _ _ _ _ _ _ s z, omega arith), room_last _ _ _ _ _ _ _ _ s z l.loop-p-test.false))
 
-same_length : tie.Need-same-length invariant-loop decreases-loop
+same_length : tie.Need-shape_of-bytes invariant-loop decreases-loop
 unfolding out
 same_length c =
     let k = c.before.before.before.before.before.before in
     let l = (ended k).before in
-    k.keep2.auto.0 ∙ (long_now _ _ _ _ _ _ _ _ l.loop.inv (start l).pre.1).data_bytes
+    k.keep.auto.0 ∙ (long_now _ _ _ _ _ _ _ _ l.loop-p.invariant (start l).requires.1).data_bytes
 
-same-length-2 : tie.Need-same-length-2 invariant-loop decreases-loop
+same-length-2 : tie.Need-shape_of-numbers invariant-loop decreases-loop
 unfolding out
 same-length-2 c =
     let k = c.before.before.before.before.before.before in
     let l = (ended k).before in
-    k.keep2.auto.1.0 ∙ (long_now _ _ _ _ _ _ _ _ l.loop.inv (start l).pre.1).entry_numbers
+    k.keep.auto.1.0 ∙ (long_now _ _ _ _ _ _ _ _ l.loop-p.invariant (start l).requires.1).entry_numbers
 
-same-length-3 : tie.Need-same-length-3 invariant-loop decreases-loop
+same-length-3 : tie.Need-shape_of-texts invariant-loop decreases-loop
 unfolding out
 same-length-3 c =
     let k = c.before.before.before.before.before.before in
     let l = (ended k).before in
-    k.keep2.auto.1.1.0 ∙ (long_now _ _ _ _ _ _ _ _ l.loop.inv (start l).pre.1).text
+    k.keep.auto.1.1.0 ∙ (long_now _ _ _ _ _ _ _ _ l.loop-p.invariant (start l).requires.1).text
 
 returns : tie.Need-returns invariant-loop decreases-loop
 returns c =
     let k = c.before.before.before.before.before.before in
     let l = ended k in
-    finish _ _ _ _ _ _ _ _ l.before.loop.inv (start l.before).pre.1 l.loop-test.left _ k.keep2.ensures.0
+    finish _ _ _ _ _ _ _ _ l.before.loop-p.invariant (start l.before).requires.1 l.loop-p-test.false _ k.keep.ensures.0
 
-pub put-indented-spec : {M : Type 1} → statement M
-put-indented-spec =
+pub put_indented_spec : {M : Type 1} → statement M
+put_indented_spec =
     tie.close
     (tie.spec
     invariant-loop

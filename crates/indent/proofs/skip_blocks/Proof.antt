@@ -13,43 +13,43 @@ use Rattle.indent.proofs.skip_blocks.Reads as reads
 use Rattle.indent.proofs.skip_blocks.Lts as lts
 use Rattle.newlines.proofs.has_break.Reads as has-break-reads
 
-abbrev invariant-loop : tie.invariant-loop
+abbrev invariant-loop : tie.invariant-loop-at
 invariant-loop s from at₀ at =
     (from ≤ at) × (at ≤ length s) × (at + to_break (drop at s) ≡ from + to_break (drop from s))
 
-abbrev decreases-loop : tie.decreases-loop
+abbrev decreases-loop : tie.decreases-loop-at
 decreases-loop s from at₀ at =
     length s - at
 
-loop-holds : tie.Need-loop-init invariant-loop decreases-loop
+loop-holds : tie.Need-loop-at-init invariant-loop decreases-loop
 loop-holds c = search rules
 
-sub-loop : tie.Need-overflow-sub-loop invariant-loop decreases-loop
+sub-loop : tie.Need-overflow_sub-s invariant-loop decreases-loop
 sub-loop c = search rules
 
-has-break-requires : tie.Need-has-break-requires invariant-loop decreases-loop
+has-break-requires : tie.Need-has_break-requires invariant-loop decreases-loop
 has-break-requires c κs = search rules
 
-returns : tie.Need-returns invariant-loop decreases-loop
+returns : tie.Need-returns-then-has_break invariant-loop decreases-loop
 returns c = search rules
 
-add_at : tie.Need-overflow-add-at invariant-loop decreases-loop
+add_at : tie.Need-overflow_add-at invariant-loop decreases-loop
 add_at c = search rules
 
-loop-less : tie.Need-loop-smaller invariant-loop decreases-loop
+loop-less : tie.Need-loop-at-smaller invariant-loop decreases-loop
 loop-less c = search rules
 
-loop-again : tie.Need-loop-preserved invariant-loop decreases-loop
+loop-again : tie.Need-loop-at-preserved invariant-loop decreases-loop
 loop-again c =
     let l = c.before.before.before in
     let s = l.before.before.args.s.now in
-    (search rules, search rules, omega (arith, l.loop.invariant.2, break_past 16 l.loop.at s (ltb-false (to_break (drop l.loop.at s)) 16 (sym c.before.has-break.ensures ∙ c.if1.false))))
+    (search rules, search rules, omega (arith, l.loop-at.invariant.2, break_past 16 l.loop-at.at s (ltb-false (to_break (drop l.loop-at.at s)) 16 (sym c.before.has_break.ensures ∙ c.if-has_break.false))))
 
-returns-2 : tie.Need-returns-2 invariant-loop decreases-loop
+returns-2 : tie.Need-returns invariant-loop decreases-loop
 returns-2 c = search rules
 
-pub skip-blocks-spec : {M : Type 1} → statement M
-skip-blocks-spec =
+pub skip_blocks_spec : {M : Type 1} → statement M
+skip_blocks_spec =
     tie.close
     (tie.spec
     invariant-loop

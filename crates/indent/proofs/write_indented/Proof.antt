@@ -42,86 +42,86 @@ given s =
       fs = a.prefix.now;
       gs = a.prefix-entries.now;
       us = a.prefix-text.now;
-      od = a.bytes.now;
-      oe = a.numbers.now;
-      ot = a.texts.now;
+      od = a.bytes-1.now;
+      oe = a.numbers-1.now;
+      ot = a.texts-1.now;
     }
 
 -- once both recordings are checked
-abbrev start : tie.After-checked2 → tie.Start
+abbrev start : tie.In-Fine-2 → tie.Start
 start c = c.before.before.before.before.before.before.before.before.before.before.before.before
 
-abbrev sizes : tie.After-checked2 → TextSizes
-sizes c = c.checked2.given.0.0
+abbrev sizes : tie.In-Fine-2 → TextSizes
+sizes c = c.checked-in-Fine-1.given.0.0
 
-fine : (c : tie.After-checked2) → BothFine (given (start c)) (sizes c)
-fine c = both_fine (given (start c)) c.before.before.check_both.result c.before.before.check_both.ensures (sizes c) c.checked2.given.1
+fine : (c : tie.In-Fine-2) → BothFine (given (start c)) (sizes c)
+fine c = both_fine (given (start c)) c.before.before.check_both-checked.result c.before.before.check_both-checked.ensures (sizes c) c.checked-in-Fine-1.given.1
 
 -- once the lines that are not empty are counted
-abbrev checked : tie.After-filled-lines → tie.After-checked2
+abbrev checked : tie.After-filled_lines-count → tie.In-Fine-2
 checked c = c.before.before
 
-abbrev call : tie.After-filled-lines → Given
+abbrev call : tie.After-filled_lines-count → Given
 call c = given (start (checked c))
 
-abbrev count : tie.After-filled-lines → ℕ
-count c = c.filled-lines.result
+abbrev count : tie.After-filled_lines-count → ℕ
+count c = c.filled_lines-count.result
 
-abbrev result : tie.After-filled-lines → List Item
+abbrev result : tie.After-filled_lines-count → List Item
 result c = edit (indent_ops (items (second (call c))) true (call c).ds) (items (content (call c)))
 
 -- the products are exact: no more lines than bytes, and a prefix within its limits
-few : (c : tie.After-filled-lines) → count c ≤ 1048576
-few c = omega (arith, c.filled-lines.ensures.1, (fine (checked c)).0.data_short)
+few : (c : tie.After-filled_lines-count) → count c ≤ 1048576
+few c = omega (arith, c.filled_lines-count.ensures.1, (fine (checked c)).0.data_short)
 
-data-product : (c : tie.After-filled-lines) → count c * length (call c).fs ≤ 1099511627776
+data-product : (c : tie.After-filled_lines-count) → count c * length (call c).fs ≤ 1099511627776
 data-product c = mul-le-mul (few c) (fine (checked c)).1.data_short
 
-entry-product : (c : tie.After-filled-lines) → count c * length (call c).gs ≤ 17179869184
+entry-product : (c : tie.After-filled_lines-count) → count c * length (call c).gs ≤ 17179869184
 entry-product c = mul-le-mul (few c) (fine (checked c)).1.entries_short
 
-text-product : (c : tie.After-filled-lines) → count c * (sizes (checked c)).second ≤ 281474976710656
+text-product : (c : tie.After-filled_lines-count) → count c * (sizes (checked c)).second ≤ 281474976710656
 text-product c = mul-le-mul (few c) (fine (checked c)).1.text_short
 
 -- once the text is measured
-abbrev counted : tie.After-text-size → tie.After-filled-lines
+abbrev counted : tie.After-text_size-shared → tie.After-filled_lines-count
 counted c = c.before.before.before
 
-measured : (c : tie.After-text-size)
+measured : (c : tie.After-text_size-shared)
     → let n = counted c in
-    Measured (call n) (count n) (result n) (length (call n).ds + count n * length (call n).fs) (length (call n).ns + count n * length (call n).gs) c.text-size.result
+    Measured (call n) (count n) (result n) (length (call n).ds + count n * length (call n).fs) (length (call n).ns + count n * length (call n).gs) c.text_size-shared.result
 measured c =
     let n = counted c in
-    indented_measured (call n) (sizes (checked n)) (fine (checked n)) (count n) n.filled-lines.ensures.0 refl c.text-size.result c.text-size.ensures
+    indented_measured (call n) (sizes (checked n)) (fine (checked n)) (count n) n.filled_lines-count.ensures.0 refl c.text_size-shared.result c.text_size-shared.ensures
 
 -- ── what is asked on the way
-check-both-requires : tie.Need-check-both-requires
+check-both-requires : tie.Need-check_both-checked-requires
 check-both-requires c κs = search rules
 
-enum-known-checked : tie.Need-enum-known-checked
+enum-known-checked : tie.Need-enum_known-checked
 enum-known-checked c = search rules
 
-returns : tie.Need-returns
+returns : tie.Need-returns-in-Refused
 returns c =
     let k = c.before.before.before in
     let s = k.before.before.before.before.before.before.before.before.before.before in
-    both_refused (given s) k.check_both.result k.check_both.ensures c.before.checked.given.0.0 c.before.checked.given.1
+    both_refused (given s) k.check_both-checked.result k.check_both-checked.ensures c.before.checked-1.given.0.0 c.before.checked-1.given.1
 
-enum-known-checked-2 : tie.Need-enum-known-checked-2
+enum-known-checked-2 : tie.Need-enum_known-checked-in-Fine-1
 enum-known-checked-2 c = search rules
 
-filled-lines-requires : tie.Need-filled-lines-requires
+filled-lines-requires : tie.Need-filled_lines-count-requires
 filled-lines-requires c κs = search rules
 
-mul-text-size : tie.Need-overflow-mul-text-size
+mul-text-size : tie.Need-overflow_mul-count
 mul-text-size c = omega (arith, text-product c.before)
 
-add-text-size : tie.Need-overflow-add-text-size
+add-text-size : tie.Need-overflow_add-sizes
 add-text-size c =
     let n = c.before.before in
     omega (arith, (fine (checked n)).0.text_short, text-product n)
 
-text-size-requires : tie.Need-text-size-requires
+text-size-requires : tie.Need-text_size-shared-requires
 text-size-requires c κs =
     let n = c.before.before in
     let f = fine (checked n) in (
@@ -129,62 +129,62 @@ text-size-requires c κs =
       ((f.1.entries_short, f.1.own_short, f.1.parts, few n), texts_less (call n) (sizes (checked n)) (count n) f),
     )
 
-mul-settle : tie.Need-overflow-mul-settle
+mul-settle : tie.Need-overflow_mul-count-2
 mul-settle c = omega (arith, data-product (counted c))
 
-add-settle : tie.Need-overflow-add-settle
+add-settle : tie.Need-overflow_add-content
 add-settle c = omega (arith, (fine (checked (counted c))).0.data_short, data-product (counted c))
 
-mul-settle-2 : tie.Need-overflow-mul-settle-2
+mul-settle-2 : tie.Need-overflow_mul-count-3
 mul-settle-2 c = omega (arith, entry-product (counted c))
 
-add-settle-2 : tie.Need-overflow-add-settle-2
+add-settle-2 : tie.Need-overflow_add-entries
 add-settle-2 c = omega (arith, (fine (checked (counted c))).0.entries_short, entry-product (counted c))
 
-settle-requires : tie.Need-settle-requires
+settle-requires : tie.Need-settle-verdict-requires
 settle-requires c κs = search rules
 
-enum-known-verdict : tie.Need-enum-known-verdict
+enum-known-verdict : tie.Need-enum_known-verdict
 enum-known-verdict c = search rules
 
-returns-2 : tie.Need-returns-2
+returns-2 : tie.Need-returns-in-Refused-verdict
 returns-2 c =
     let p = c.before.before.before in
     let n = counted p.before in
-    sizes_refused (call n) (sizes (checked n)) (fine (checked n)) (count n) (result n) _ _ _ (measured p.before) p.settle.result p.settle.ensures
-    c.before.verdict.given.0.0 c.before.verdict.given.1
+    sizes_refused (call n) (sizes (checked n)) (fine (checked n)) (count n) (result n) _ _ _ (measured p.before) p.settle-verdict.result p.settle-verdict.ensures
+    c.before.verdict-1.given.0.0 c.before.verdict-1.given.1
 
-enum_told : tie.Need-enum-told
+enum_told : tie.Need-enum_told-1
 enum_told c = search rules
 
-put-indented-requires : tie.Need-put-indented-requires
+put-indented-requires : tie.Need-put_indented-c-requires
 put-indented-requires c κs =
     let told = c.before.before.before in
     let p = told.before.before in
     let n = counted p.before in
     let f = fine (checked n) in
-    ((f.0.whole, f.1.whole), has_room (call n) (sizes (checked n)) f (count n) (result n) _ _ _ (measured p.before) p.settle.result p.settle.ensures told.enum_told.given.1)
+    ((f.0.whole, f.1.whole), has_room (call n) (sizes (checked n)) f (count n) (result n) _ _ _ (measured p.before) p.settle-verdict.result p.settle-verdict.ensures told.enum_told-1.given.1)
 
-same_length : tie.Need-same-length
+same_length : tie.Need-shape_of-bytes
 same_length c = search rules
 
-same-length-2 : tie.Need-same-length-2
+same-length-2 : tie.Need-shape_of-numbers
 same-length-2 c = search rules
 
-same-length-3 : tie.Need-same-length-3
+same-length-3 : tie.Need-shape_of-texts
 same-length-3 c = search rules
 
-returns-3 : tie.Need-returns-3
+returns-3 : tie.Need-returns
 returns-3 c =
     let w = c.before.before.before.before.before.before in
     let told = w.before.before.before.before in
     let p = told.before.before in
     let n = counted p.before in
-    written (call n) (sizes (checked n)) (fine (checked n)) (count n) (result n) _ _ _ (measured p.before) p.settle.result p.settle.ensures told.enum_told.given.1
-    0 _ _ _ w.put-indented.result (number_of_refusal (second (call n)) (content (call n))) w.put-indented.ensures
+    written (call n) (sizes (checked n)) (fine (checked n)) (count n) (result n) _ _ _ (measured p.before) p.settle-verdict.result p.settle-verdict.ensures told.enum_told-1.given.1
+    0 _ _ _ w.put_indented-c.result (number_of_refusal (second (call n)) (content (call n))) w.put_indented-c.ensures
 
-pub write-indented-spec : {M : Type 1} → statement M
-write-indented-spec =
+pub write_indented_spec : {M : Type 1} → statement M
+write_indented_spec =
     tie.close
     (tie.spec
     check-both-requires

@@ -8,20 +8,20 @@ use Rattle.line.proofs.after_line.Tie as tie
 use Rattle.line.proofs.after_line.Reads as reads
 use Rattle.line.proofs.after_line.Lts as lts
 
-returns : tie.Need-returns
-returns c = laws.after_none _ _ _ _ c.if1.true
+returns : tie.Need-returns-then-s-eq0
+returns c = laws.after_none _ _ _ _ c.if-s-eq0.true
 
-shared-slice-read-if2 : tie.Need-shared-slice-read-if2
+shared-slice-read-if2 : tie.Need-bounds-s-0
 shared-slice-read-if2 c = search rules
 
-add-t9 : tie.Need-overflow-add-t9
+add-t9 : tie.Need-overflow_add-result
 add-t9 c = search rules
 
-returns-2 : tie.Need-returns-2
-returns-2 c = laws.after_newline _ _ _ _ (omega arith) c.if2.true
+returns-2 : tie.Need-returns-then-s-eq10
+returns-2 c = laws.after_newline _ _ _ _ (omega arith) c.if-s-eq10.true
 
-returns-3 : tie.Need-returns-3
-returns-3 c = laws.after_word _ _ _ _ (omega arith) c.if2.false
+returns-3 : tie.Need-returns
+returns-3 c = laws.after_word _ _ _ _ (omega arith) c.if-s-eq10.false
 
-pub after-line-spec : {M : Type 1} → statement M
-after-line-spec = tie.close (tie.spec returns shared-slice-read-if2 add-t9 returns-2 returns-3)
+pub after_line_spec : {M : Type 1} → statement M
+after_line_spec = tie.close (tie.spec returns shared-slice-read-if2 add-t9 returns-2 returns-3)

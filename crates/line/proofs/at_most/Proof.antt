@@ -6,11 +6,11 @@ use Rattle.line.proofs.at_most.Tie as tie
 use Rattle.line.proofs.at_most.Reads as reads
 use Rattle.line.proofs.at_most.Lts as lts
 
-returns : tie.Need-returns
-returns c = laws.most_all _ _ c.if1.true
+returns : tie.Need-returns-then-n-most
+returns c = laws.most_all _ _ c.if-n-most.true
 
-returns-2 : tie.Need-returns-2
+returns-2 : tie.Need-returns
 returns-2 c = laws.most_cut _ _ (omega arith)
 
-pub at-most-spec : {M : Type 1} → statement M
-at-most-spec = tie.close (tie.spec returns returns-2)
+pub at_most_spec : {M : Type 1} → statement M
+at_most_spec = tie.close (tie.spec returns returns-2)

@@ -7,14 +7,14 @@ use Rattle.line.proofs.fits.Tie as tie
 use Rattle.line.proofs.fits.Reads as reads
 use Rattle.line.proofs.fits.Lts as lts
 
-returns : tie.Need-returns
+returns : tie.Need-returns-then-first
 returns c = search rules
 
-add-result : tie.Need-overflow-add-result
+add-result : tie.Need-overflow_add-result
 add-result c = search rules
 
-returns-2 : tie.Need-returns-2
-returns-2 c = rw c.if1.false
+returns-2 : tie.Need-returns
+returns-2 c = rw c.if-first.false
 
-pub fits-spec : {M : Type 1} → statement M
-fits-spec = tie.close (tie.spec returns add-result returns-2)
+pub fits_spec : {M : Type 1} → statement M
+fits_spec = tie.close (tie.spec returns add-result returns-2)

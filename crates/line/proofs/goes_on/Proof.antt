@@ -8,14 +8,14 @@ use Rattle.line.proofs.goes_on.Reads as reads
 use Rattle.line.proofs.goes_on.Lts as lts
 use Rattle.line.proofs.in_line.Reads as in-line-reads
 
-in-line-requires : tie.Need-in-line-requires
+in-line-requires : tie.Need-in_line-requires
 in-line-requires c κs = search rules
 
-returns : tie.Need-returns
-returns c = laws.goes_line _ _ _ (λ z. omega (arith, z, c.before.if1.true)) c.in-line.ensures
+returns : tie.Need-returns-then-gap-ne0
+returns c = laws.goes_line _ _ _ (λ z. omega (arith, z, c.before.if-gap-ne0.true)) c.in_line.ensures
 
-returns-2 : tie.Need-returns-2
-returns-2 c = laws.goes_not _ _ (omega (arith, c.if1.false))
+returns-2 : tie.Need-returns
+returns-2 c = laws.goes_not _ _ (omega (arith, c.if-gap-ne0.false))
 
-pub goes-on-spec : {M : Type 1} → statement M
-goes-on-spec = tie.close (tie.spec in-line-requires returns returns-2)
+pub goes_on_spec : {M : Type 1} → statement M
+goes_on_spec = tie.close (tie.spec in-line-requires returns returns-2)

@@ -11,16 +11,16 @@ use Rattle.line.proofs.head_at.Reads as reads
 use Rattle.line.proofs.head_at.Lts as lts
 use Rattle.line.proofs.one_char.Reads as one-char-reads
 
-one-char-requires : tie.Need-one-char-requires
+one-char-requires : tie.Need-one_char-requires
 one-char-requires c κs = search rules
 
-returns : tie.Need-returns
+returns : tie.Need-returns-then-cut-eq0
 unfolding head_from
-returns c = c.one_char.ensures ∙ rw (eq-eqb _ _ c.before.if1.true)
+returns c = c.one_char.ensures ∙ rw (eq-eqb _ _ c.before.if-cut-eq0.true)
 
-returns-2 : tie.Need-returns-2
+returns-2 : tie.Need-returns
 unfolding head_from
-returns-2 c = rw (ne_eqb _ _ c.if1.false)
+returns-2 c = rw (ne_eqb _ _ c.if-cut-eq0.false)
 
-pub head-at-spec : {M : Type 1} → statement M
-head-at-spec = tie.close (tie.spec one-char-requires returns returns-2)
+pub head_at_spec : {M : Type 1} → statement M
+head_at_spec = tie.close (tie.spec one-char-requires returns returns-2)

@@ -9,14 +9,14 @@ use Rattle.line.proofs.in_line.Tie as tie
 use Rattle.line.proofs.in_line.Reads as reads
 use Rattle.line.proofs.in_line.Lts as lts
 
-returns : tie.Need-returns
-returns c = laws.line_none _ c.if1.true
+returns : tie.Need-returns-then-s-eq0
+returns c = laws.line_none _ c.if-s-eq0.true
 
-shared-slice-read-result : tie.Need-shared-slice-read-result
+shared-slice-read-result : tie.Need-bounds-s-0
 shared-slice-read-result c = search rules
 
-returns-2 : tie.Need-returns-2
+returns-2 : tie.Need-returns
 returns-2 c = sym (laws.line_some _ (omega arith))
 
-pub in-line-spec : {M : Type 1} → statement M
-in-line-spec = tie.close (tie.spec returns shared-slice-read-result returns-2)
+pub in_line_spec : {M : Type 1} → statement M
+in_line_spec = tie.close (tie.spec returns shared-slice-read-result returns-2)

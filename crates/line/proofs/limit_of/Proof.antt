@@ -9,17 +9,17 @@ use Rattle.line.proofs.limit_of.Tie as tie
 use Rattle.line.proofs.limit_of.Reads as reads
 use Rattle.line.proofs.limit_of.Lts as lts
 
-returns : tie.Need-returns
+returns : tie.Need-returns-then-not-break_words
 unfolding limit_of_line
-returns c = rw (not-true c.before.args.break-words c.if1.true)
+returns c = rw c.if-not-break_words.true
 
-returns-2 : tie.Need-returns-2
+returns-2 : tie.Need-returns-then-width-eq0
 unfolding limit_of_line
-returns-2 c = rw (not_false c.before.before.args.break-words c.before.if1.false, c.if2.true)
+returns-2 c = rw (c.before.if-not-break_words.false, c.if-width-eq0.true)
 
-returns-3 : tie.Need-returns-3
+returns-3 : tie.Need-returns
 unfolding limit_of_line
-returns-3 c = rw (not_false c.before.before.args.break-words c.before.if1.false, lt-ltb 0 c.before.before.args.width (omega arith))
+returns-3 c = rw (c.before.if-not-break_words.false, lt-ltb 0 c.before.before.args.width (omega arith))
 
-pub limit-of-spec : {M : Type 1} → statement M
-limit-of-spec = tie.close (tie.spec returns returns-2 returns-3)
+pub limit_of_spec : {M : Type 1} → statement M
+limit_of_spec = tie.close (tie.spec returns returns-2 returns-3)

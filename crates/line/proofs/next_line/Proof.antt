@@ -35,10 +35,10 @@ use Rattle.line.proofs.spaces_at.Reads as spaces-at-reads
 use Rattle.line.proofs.visible_len.Reads as visible-len-reads
 
 -- the search for a cut: `left` is left of the room, and so much of the width to break at
-abbrev invariant-loop : tie.invariant-loop
+abbrev invariant-loop : tie.invariant-loop-c
 invariant-loop t «data» at width break-words word limit gap run first going room i₀ left₀ i left = laws.Search word limit i (limit - (room - left)) × (left ≤ room) × (room ≤ limit)
 
-abbrev decreases-loop : tie.decreases-loop
+abbrev decreases-loop : tie.decreases-loop-c
 decreases-loop t «data» at width break-words word limit gap run first going room i₀ left₀ i left = length (word_text word) - i
 
 -- the line under way
@@ -56,10 +56,10 @@ abbrev Underway : Type 0
 Underway = tie.At-words invariant-loop decreases-loop invariant-words decreases-words
 
 abbrev Searching : Type 0
-Searching = tie.At-loop invariant-loop decreases-loop invariant-words decreases-words
+Searching = tie.At-loop-c invariant-loop decreases-loop invariant-words decreases-words
 
 abbrev Headed : Type 0
-Headed = tie.After-head-at invariant-loop decreases-loop invariant-words decreases-words
+Headed = tie.After-head_at-head invariant-loop decreases-loop invariant-words decreases-words
 
 abbrev start : Underway → Started
 start c = c.before.before.before.before.before.before
@@ -75,16 +75,16 @@ line_of c = underway (searched c)
 
 -- the numbers there: the width to break at, as the code has it and as the definition has it; the room; what is left of the data
 abbrev limit : Underway → ℕ
-limit c = c.before.limit-of.result
+limit c = c.before.limit_of-limit.result
 
 abbrev breaks : Underway → ℕ
 breaks c = limit_of_line (start c).args.width (start c).args.break-words
 
 abbrev room : Searching → ℕ
-room c = c.before.before.room_of.result
+room c = c.before.before.room_of-room.result
 
 abbrev left : Underway → List ℕ
-left c = c.words.word.now
+left c = c.words.word-1.now
 
 -- the promise of the call that starts there
 abbrev Promised : Started → Next → Type 0
@@ -98,70 +98,70 @@ narrow : (c : Underway) → (start c).args.width ≤ unreached
 narrow c = omega arith
 
 -- the room is no wider than the width to break at
-room_within : (c : tie.After-room-of invariant-loop decreases-loop invariant-words decreases-words) → c.room_of.result ≤ limit c.before.before
+room_within : (c : tie.After-room_of-room invariant-loop decreases-loop invariant-words decreases-words) → c.room_of-room.result ≤ limit c.before.before
 room_within c =
     let a = (start c.before.before).args in
-    rw c.room_of.ensures (room_le _ _ _ _ (rw c.before.before.before.limit-of.ensures (limit_ge a.width a.break-words (narrow c.before.before))))
+    rw c.room_of-room.ensures (room_le _ _ _ _ (rw c.before.before.before.limit_of-limit.ensures (limit_ge a.width a.break-words (narrow c.before.before))))
 
 -- the visible bytes at the front are part of the head, or as many of them as have room
-visible : (c : tie.After-visible-len invariant-loop decreases-loop invariant-words decreases-words)
-    → (c.visible-len.result ≤ c.before.room_of.result) × (c.visible-len.result ≤ visible_len_of (left c.before.before.before))
+visible : (c : tie.After-visible_len-i invariant-loop decreases-loop invariant-words decreases-words)
+    → (c.visible_len-i.result ≤ c.before.room_of-room.result) × (c.visible_len-i.result ≤ visible_len_of (left c.before.before.before))
 visible c =
-    let m = most_le c.before.room_of.result (visible_len_of (left c.before.before.before)) in
-    (omega (arith, c.visible-len.ensures, m.0), omega (arith, c.visible-len.ensures, m.1))
+    let m = most_le c.before.room_of-room.result (visible_len_of (left c.before.before.before)) in
+    (omega (arith, c.visible_len-i.ensures, m.0), omega (arith, c.visible_len-i.ensures, m.1))
 
 -- one more character in the head, which is the one that was seen
 abbrev Seen : Type 0
-Seen = tie.After-struct-known3 invariant-loop decreases-loop invariant-words decreases-words
+Seen = tie.After-struct_known-in-loop-c-2-1 invariant-loop decreases-loop invariant-words decreases-words
 
 abbrev from : Seen → Searching
 from c = c.before.before.before.before.before.before
 
 further : (c : Seen)
-    → laws.Search (left (underway (from c))) (limit (underway (from c))) ((from c).loop.i + c.before.before.before.before.before.seen-in-word.result.len)
-    ((limit (underway (from c)) - (room (from c) - (from c).loop.left)) - c.before.before.before.before.before.seen-in-word.result.width)
+    → laws.Search (left (underway (from c))) (limit (underway (from c))) ((from c).loop-c.i + c.before.before.before.before.before.seen_in_word-c.result.len)
+    ((limit (underway (from c)) - (room (from c) - (from c).loop-c.left)) - c.before.before.before.before.before.seen_in_word-c.result.width)
 further c =
-    let r = c.before.before.before.before.before.seen-in-word in
-    let I = (from c).loop.invariant in
-    laws.search_more _ _ _ _ I.0 r.result r.ensures.0 c.before.before.before.if2.false (omega (arith, I.1, I.2, c.before.if3.false)) r.ensures.1.1 r.ensures.1.0
+    let r = c.before.before.before.before.before.seen_in_word-c in
+    let I = (from c).loop-c.invariant in
+    laws.search_more _ _ _ _ I.0 r.result r.ensures.0 c.before.before.before.if-c-eq0.false (omega (arith, I.1, I.2, c.before.if-left-w.false)) r.ensures.1.1 r.ensures.1.0
 
 -- where the search ends: at the end of the word, or at the first character that would pass the width to break at
 abbrev Cut : Type 0
-Cut = tie.Joined2 invariant-loop decreases-loop invariant-words decreases-words
+Cut = tie.Joined-c-eq0 invariant-loop decreases-loop invariant-words decreases-words
 
 abbrev until : Cut → Searching
 until c = c.before.before.before
 
 ended : (c : Cut)
-    → (c.if2.cut ≡ truncate_end_pos_of (limit (underway (until c))) (word_text (left (underway (until c)))))
-    × (room (until c) - (until c).loop.left ≡ truncate_end_width (limit (underway (until c))) (word_text (left (underway (until c)))))
+    → (c.if-c-eq0.cut ≡ truncate_end_pos_of (limit (underway (until c))) (word_text (left (underway (until c)))))
+    × (room (until c) - (until c).loop-c.left ≡ truncate_end_width (limit (underway (until c))) (word_text (left (underway (until c)))))
 ended c =
-    let I = (until c).loop.invariant in
-    let r = c.before.before.seen-in-word in
-    let used : limit (underway (until c)) - (limit (underway (until c)) - (room (until c) - (until c).loop.left)) ≡ room (until c) - (until c).loop.left = omega (arith, I.2) in
+    let I = (until c).loop-c.invariant in
+    let r = c.before.before.seen_in_word-c in
+    let used : limit (underway (until c)) - (limit (underway (until c)) - (room (until c) - (until c).loop-c.left)) ≡ room (until c) - (until c).loop-c.left = omega (arith, I.2) in
     ⊎_elim
-    (λ w. let z = laws.search_end _ _ _ _ I.0 r.result r.ensures.0 w.0.taken in (w.1 ∙ z.0, sym used ∙ z.1))
+    (λ w. let z = laws.search_end _ _ _ _ I.0 r.result r.ensures.0 w.0.true in (w.1 ∙ z.0, sym used ∙ z.1))
     (λ w. let z = laws.search_pass _ _ _ _ I.0 r.result r.ensures.0 w.0.left (omega (arith, w.3.left)) in (w.4 ∙ z.0, sym used ∙ z.1))
-    c.if2.branch
+    c.if-c-eq0.branch-raw
 
 -- the head that is taken
-headed : (c : Headed) → (c.head_at.result.len ≡ head_len (breaks (line_of c)) (left (line_of c))) × (c.head_at.result.width ≡ head_width (breaks (line_of c)) (left (line_of c)))
+headed : (c : Headed) → (c.head_at-head.result.len ≡ head_len (breaks (line_of c)) (left (line_of c))) × (c.head_at-head.result.width ≡ head_width (breaks (line_of c)) (left (line_of c)))
 headed c =
     let e = ended c.before in
-    let h = laws.head_law (limit (line_of c)) (left (line_of c)) c.before.if2.cut _ e.0 e.1 in
-    let m = (line_of c).before.limit-of.ensures in (
-      ap (λ (x : Head). x.len) c.head_at.ensures ∙ h.0 ∙ ap (λ (n : ℕ). head_len n (left (line_of c))) m,
-      ap (λ (x : Head). x.width) c.head_at.ensures ∙ h.1 ∙ ap (λ (n : ℕ). head_width n (left (line_of c))) m,
+    let h = laws.head_law (limit (line_of c)) (left (line_of c)) c.before.if-c-eq0.cut _ e.0 e.1 in
+    let m = (line_of c).before.limit_of-limit.ensures in (
+      ap (λ (x : Head). x.len) c.head_at-head.ensures ∙ h.0 ∙ ap (λ (n : ℕ). head_len n (left (line_of c))) m,
+      ap (λ (x : Head). x.width) c.head_at-head.ensures ∙ h.1 ∙ ap (λ (n : ℕ). head_width n (left (line_of c))) m,
     )
 
 sized : (c : Headed)
-    → (c.head_at.result.len ≤ length (left (line_of c))) × (c.head_at.result.width ≤ 2 * c.head_at.result.len)
-    × ((line_of c).words.run + c.head_at.result.width ≤ 2 * length (start (line_of c)).args.«data».now)
+    → (c.head_at-head.result.len ≤ length (left (line_of c))) × (c.head_at-head.result.width ≤ 2 * c.head_at-head.result.len)
+    × ((line_of c).words.run + c.head_at-head.result.width ≤ 2 * length (start (line_of c)).args.«data».now)
 sized c = laws.sizes _ _ _ _ _ _ _ _ _ _ (line_of c).words.invariant.state (breaks (line_of c)) _ _ (headed c).0 (headed c).1
 
 -- the end of a round: its head, and that the line went on at its start
 abbrev Rounded : Type 0
-Rounded = tie.After-goes-on invariant-loop decreases-loop invariant-words decreases-words
+Rounded = tie.After-goes_on-going invariant-loop decreases-loop invariant-words decreases-words
 
 abbrev found : Rounded → Headed
 found c = c.before.before.before.before.before
@@ -170,167 +170,167 @@ tested : (c : Rounded) → (line_of (found c)).words.going ≡ true
 tested c = c.before.before.before.before.before.before.before.before.before.before.before.before.words-test.true
 
 -- ── what is asked on the way
-sub_word : tie.Need-overflow-sub-word invariant-loop decreases-loop invariant-words decreases-words
+sub_word : tie.Need-slice_bounds-word-count invariant-loop decreases-loop invariant-words decreases-words
 sub_word c = search rules
 
-part-word-start : tie.Need-slice-bounds-word-start invariant-loop decreases-loop invariant-words decreases-words
+part-word-start : tie.Need-slice_bounds-word-start invariant-loop decreases-loop invariant-words decreases-words
 part-word-start c = search rules
 
-part-word-end : tie.Need-slice-bounds-word-end invariant-loop decreases-loop invariant-words decreases-words
+part-word-end : tie.Need-slice_bounds-word-end invariant-loop decreases-loop invariant-words decreases-words
 part-word-end c = search rules
 
-in-line-requires : tie.Need-in-line-requires invariant-loop decreases-loop invariant-words decreases-words
+in-line-requires : tie.Need-in_line-requires invariant-loop decreases-loop invariant-words decreases-words
 in-line-requires c κs = search rules
 
-after-line-requires : tie.Need-after-line-requires invariant-loop decreases-loop invariant-words decreases-words
+after-line-requires : tie.Need-after_line-requires invariant-loop decreases-loop invariant-words decreases-words
 after-line-requires c κs =
     let a = c.before.before.before.before.args in
     omega (arith, ap length (part_to_end a.«data».now a.at), length-drop a.at a.«data».now, c.before.before.before.before.requires.1)
 
 -- a line without bytes
-returns : tie.Need-returns invariant-loop decreases-loop invariant-words decreases-words
+returns : tie.Need-returns-then-not-in_line invariant-loop decreases-loop invariant-words decreases-words
 returns c =
-    let none = sym c.before.before.in-line.ensures ∙ not-true c.before.before.in-line.result c.before.if1.true in
+    let none = sym c.before.before.in_line.ensures ∙ c.before.if-not-in_line.true in
     let first = laws.state_start _ _ _ _ c.before.before.before.before.before.requires.1 in
     let R : Promised c.before.before.before.before.before c.after_Line.result = rw c.after_Line.ensures (laws.state_end _ _ _ _ _ _ _ _ _ _ first none) in
     R
 
-limit-of-requires : tie.Need-limit-of-requires invariant-loop decreases-loop invariant-words decreases-words
+limit-of-requires : tie.Need-limit_of-limit-requires invariant-loop decreases-loop invariant-words decreases-words
 limit-of-requires c κs = search rules
 
 words-holds : tie.Need-words-init invariant-loop decreases-loop invariant-words decreases-words
 words-holds c =
-    loops.words_start _ _ _ _ c.before.before.before.before.before.requires.1 (sym c.before.before.in-line.ensures ∙ not_false c.before.before.in-line.result c.before.if1.false)
+    loops.words_start _ _ _ _ c.before.before.before.before.before.requires.1 (sym c.before.before.in_line.ensures ∙ c.before.if-not-in_line.false)
 
-room-of-requires : tie.Need-room-of-requires invariant-loop decreases-loop invariant-words decreases-words
+room-of-requires : tie.Need-room_of-room-requires invariant-loop decreases-loop invariant-words decreases-words
 room-of-requires c κs = search rules
 
-visible-len-requires : tie.Need-visible-len-requires invariant-loop decreases-loop invariant-words decreases-words
+visible-len-requires : tie.Need-visible_len-i-requires invariant-loop decreases-loop invariant-words decreases-words
 visible-len-requires c κs = search rules
 
-sub-left : tie.Need-overflow-sub-left invariant-loop decreases-loop invariant-words decreases-words
+sub-left : tie.Need-overflow_sub-left invariant-loop decreases-loop invariant-words decreases-words
 sub-left c = (visible c).0
 
-loop-holds : tie.Need-loop-init invariant-loop decreases-loop invariant-words decreases-words
+loop-holds : tie.Need-loop-c-init invariant-loop decreases-loop invariant-words decreases-words
 loop-holds c =
-    let n = c.visible-len.result in
+    let n = c.visible_len-i.result in
     let r = visible c in
-    let e : limit c.before.before.before - n ≡ limit c.before.before.before - (c.before.room_of.result - (c.before.room_of.result - n)) = omega (arith, r.0) in
+    let e : limit c.before.before.before - n ≡ limit c.before.before.before - (c.before.room_of-room.result - (c.before.room_of-room.result - n)) = omega (arith, r.0) in
     (loops.search_as _ _ _ _ _ e (search_visible _ _ _ r.1 (omega (arith, r.0, room_within c.before))), omega arith, room_within c.before)
 
-seen-in-word-requires : tie.Need-seen-in-word-requires invariant-loop decreases-loop invariant-words decreases-words
+seen-in-word-requires : tie.Need-seen_in_word-c-requires invariant-loop decreases-loop invariant-words decreases-words
 seen-in-word-requires c κs = search rules
 
-cast-w : tie.Need-overflow-cast-w invariant-loop decreases-loop invariant-words decreases-words
+cast-w : tie.Need-overflow_cast-w invariant-loop decreases-loop invariant-words decreases-words
 cast-w c = search rules
 
-sub-if4 : tie.Need-overflow-sub-if4 invariant-loop decreases-loop invariant-words decreases-words
+sub-if4 : tie.Need-overflow_sub-room invariant-loop decreases-loop invariant-words decreases-words
 sub-if4 c = search rules
 
-sub-if4-2 : tie.Need-overflow-sub-if4-2 invariant-loop decreases-loop invariant-words decreases-words
+sub-if4-2 : tie.Need-overflow_sub-limit invariant-loop decreases-loop invariant-words decreases-words
 sub-if4-2 c = omega arith
 
-add-i : tie.Need-overflow-add-i invariant-loop decreases-loop invariant-words decreases-words
-add-i c = omega (arith, word_le (left (underway (from c))), (underway (from c)).words.inv.left, (further c).within)
+add-i : tie.Need-overflow_add-i invariant-loop decreases-loop invariant-words decreases-words
+add-i c = omega (arith, word_le (left (underway (from c))), (underway (from c)).words.invariant.left, (further c).within)
 
-loop-less : tie.Need-loop-smaller invariant-loop decreases-loop invariant-words decreases-words
+loop-less : tie.Need-loop-c-smaller invariant-loop decreases-loop invariant-words decreases-words
 loop-less c = search rules
 
-loop-again : tie.Need-loop-preserved invariant-loop decreases-loop invariant-words decreases-words
+loop-again : tie.Need-loop-c-preserved invariant-loop decreases-loop invariant-words decreases-words
 loop-again c =
-    let I = (from c).loop.invariant in
-    (loops.search_as _ _ _ _ _ (omega (arith, I.1, I.2, c.before.if3.false)) (further c), omega (arith, I.1), I.2)
+    let I = (from c).loop-c.invariant in
+    (loops.search_as _ _ _ _ _ (omega (arith, I.1, I.2, c.before.if-left-w.false)) (further c), omega (arith, I.1), I.2)
 
-sub-head-at : tie.Need-overflow-sub-head-at invariant-loop decreases-loop invariant-words decreases-words
+sub-head-at : tie.Need-overflow_sub-room-in-words invariant-loop decreases-loop invariant-words decreases-words
 sub-head-at c = search rules
 
-head-at-requires : tie.Need-head-at-requires invariant-loop decreases-loop invariant-words decreases-words
+head-at-requires : tie.Need-head_at-head-requires invariant-loop decreases-loop invariant-words decreases-words
 head-at-requires c κs = search rules
 
 fits-requires : tie.Need-fits-requires invariant-loop decreases-loop invariant-words decreases-words
 fits-requires c κs = omega (arith, (sized c).2)
 
-spaces-at-requires : tie.Need-spaces-at-requires invariant-loop decreases-loop invariant-words decreases-words
+spaces-at-requires : tie.Need-spaces_at-gap-requires invariant-loop decreases-loop invariant-words decreases-words
 spaces-at-requires c κs = (sized c.before.before).0
 
-add-end : tie.Need-overflow-add-end invariant-loop decreases-loop invariant-words decreases-words
-add-end c = omega (arith, (line_of c.before.before.before).words.inv.left, short (line_of c.before.before.before))
+add-end : tie.Need-overflow_add-end invariant-loop decreases-loop invariant-words decreases-words
+add-end c = omega (arith, (line_of c.before.before.before).words.invariant.left, short (line_of c.before.before.before))
 
-add-run : tie.Need-overflow-add-run invariant-loop decreases-loop invariant-words decreases-words
-add-run c = omega (arith, (line_of c.before.before.before).words.inv.left, short (line_of c.before.before.before), sized c.before.before.before)
+add-run : tie.Need-overflow_add-run invariant-loop decreases-loop invariant-words decreases-words
+add-run c = omega (arith, (line_of c.before.before.before).words.invariant.left, short (line_of c.before.before.before), sized c.before.before.before)
 
-add-run-2 : tie.Need-overflow-add-run-2 invariant-loop decreases-loop invariant-words decreases-words
+add-run-2 : tie.Need-overflow_add-run-in-words invariant-loop decreases-loop invariant-words decreases-words
 add-run-2 c =
-    let W = (line_of c.before.before.before).words.inv in
+    let W = (line_of c.before.before.before).words.invariant in
     omega (arith, W.left, short (line_of c.before.before.before), sized c.before.before.before, W.state.small)
 
-sub-word-2 : tie.Need-overflow-sub-word-2 invariant-loop decreases-loop invariant-words decreases-words
+sub-word-2 : tie.Need-slice_bounds-word-count-in-words invariant-loop decreases-loop invariant-words decreases-words
 sub-word-2 c = search rules
 
-part-word-start-2 : tie.Need-slice-bounds-word-start-2 invariant-loop decreases-loop invariant-words decreases-words
+part-word-start-2 : tie.Need-slice_bounds-word-start-in-words invariant-loop decreases-loop invariant-words decreases-words
 part-word-start-2 c = search rules
 
-part-word-end-2 : tie.Need-slice-bounds-word-end-2 invariant-loop decreases-loop invariant-words decreases-words
+part-word-end-2 : tie.Need-slice_bounds-word-end-in-words invariant-loop decreases-loop invariant-words decreases-words
 part-word-end-2 c = search rules
 
-goes-on-requires : tie.Need-goes-on-requires invariant-loop decreases-loop invariant-words decreases-words
+goes-on-requires : tie.Need-goes_on-going-requires invariant-loop decreases-loop invariant-words decreases-words
 goes-on-requires c κs = search rules
 
 words-less : tie.Need-words-smaller invariant-loop decreases-loop invariant-words decreases-words
 words-less c =
     let l = line_of (found c) in
-    let s = c.before.before.spaces-at in
-    let n = (found c).head_at.result.len + s.result in
-    let some = laws.moves _ _ _ _ _ _ _ _ _ _ l.words.inv.state (breaks l) _ _ (l.words.inv.goes (tested c)) (headed (found c)).0 s.ensures.0 in
+    let s = c.before.before.spaces_at-gap in
+    let n = (found c).head_at-head.result.len + s.result in
+    let some = laws.moves _ _ _ _ _ _ _ _ _ _ l.words.invariant.state (breaks l) _ _ (l.words.invariant.goes (tested c)) (headed (found c)).0 s.ensures.0 in
     omega (arith, ap length (part_to_end (left l) n), length-drop n (left l), s.ensures.1, some)
 
 words-again : tie.Need-words-preserved invariant-loop decreases-loop invariant-words decreases-words
 words-again c =
     let l = line_of (found c) in
     let h = headed (found c) in
-    let s = c.before.before.spaces-at in
-    let fits = sym c.before.before.before.before.fits2.ensures ∙ not_false c.before.before.before.before.fits2.result c.before.before.before.if5.false in
-    loops.words_next _ _ _ _ _ _ _ _ _ l.words.inv (short l) (tested c) _ _ h.0 h.1 _ _ (narrow l) s.ensures.0 s.ensures.1 fits c.goes_on.ensures
+    let s = c.before.before.spaces_at-gap in
+    let fits = sym c.before.before.before.before.fits2.ensures ∙ c.before.before.before.if-not-fits.false in
+    loops.words_next _ _ _ _ _ _ _ _ _ l.words.invariant (short l) (tested c) _ _ h.0 h.1 _ _ (narrow l) s.ensures.0 s.ensures.1 fits c.goes_on-going.ensures
 
-sub-here : tie.Need-overflow-sub-here invariant-loop decreases-loop invariant-words decreases-words
+sub-here : tie.Need-overflow_sub-here invariant-loop decreases-loop invariant-words decreases-words
 sub-here c = c.before.words.invariant.left
 
-sub-after-line : tie.Need-overflow-sub-after-line invariant-loop decreases-loop invariant-words decreases-words
+sub-after-line : tie.Need-overflow_sub-here-2 invariant-loop decreases-loop invariant-words decreases-words
 sub-after-line c = c.before.words.invariant.gap_here
 
-sub-after-line-2 : tie.Need-overflow-sub-after-line-2 invariant-loop decreases-loop invariant-words decreases-words
+sub-after-line-2 : tie.Need-overflow_sub-run invariant-loop decreases-loop invariant-words decreases-words
 sub-after-line-2 c = omega (arith, c.before.words.invariant.gap_run)
 
-after-line-requires-2 : tie.Need-after-line-requires-2 invariant-loop decreases-loop invariant-words decreases-words
+after-line-requires-2 : tie.Need-after_line-requires-2 invariant-loop decreases-loop invariant-words decreases-words
 after-line-requires-2 c κs = omega (arith, c.before.words.invariant.left)
 
 -- the line is over: no head may come, a character shows that the next head does not fit, or the head does not
-returns-2 : tie.Need-returns-2 invariant-loop decreases-loop invariant-words decreases-words
+returns-2 : tie.Need-returns invariant-loop decreases-loop invariant-words decreases-words
 returns-2 c =
     let l = c.before.before in
     let W = l.words.invariant in
-    let R : Promised (start c.before.before) c.after-line2.result =
-    rw c.after-line2.ensures
+    let R : Promised (start c.before.before) c.after_line-2.result =
+    rw c.after_line-2.ensures
     (⊎_elim
     (λ w. W.over w.left)
     (λ v. ⊎_elim
     (λ w.
     let g = w.4 in
-    let S = laws.search_more _ _ _ _ w.3.inv.0 g.result g.ensures.0 w.6.left (omega (arith, w.9.taken)) g.ensures.1.1 g.ensures.1.0 in
+    let S = laws.search_more _ _ _ _ w.3.invariant.0 g.result g.ensures.0 w.6.left (omega (arith, w.9.true)) g.ensures.1.1 g.ensures.1.0 in
     let within = room_within (record { before = record { before = l; words-test = w.0 }; room_of = w.1 }) in
-    loops.words_early _ _ _ _ _ _ _ _ _ W (short l) w.0.taken (limit l) ((w.1.result - w.3.left) + g.result.width) l.before.limit-of.ensures
-    (omega (arith, S.place, w.6.left)) (omega (arith, S.width, w.3.inv.1, within, w.9.taken))
-    (loops.past_room _ _ _ _ _ _ w.1.ensures (omega (arith, w.8.taken, w.3.inv.1)) (omega (arith, w.9.taken, w.3.inv.1, within))))
+    loops.words_early _ _ _ _ _ _ _ _ _ W (short l) w.0.true (limit l) ((w.1.result - w.3.left) + g.result.width) l.before.limit_of-limit.ensures
+    (omega (arith, S.place, w.6.left)) (omega (arith, S.width, w.3.invariant.1, within, w.9.true))
+    (loops.past_room _ _ _ _ _ _ w.1.ensures (omega (arith, w.8.true, w.3.invariant.1)) (omega (arith, w.9.true, w.3.invariant.1, within))))
     (λ w.
     let s : Searching = record { before = record { before = record { before = record { before = l; words-test = w.0 }; room_of = w.1 }; visible-len = w.2 }; loop = w.3 } in
     let h : Headed = record { before = record { before = record { before = record { before = s; seen-in-word = w.4 }; struct_known = w.5 }; if2 = w.6 }; head_at = w.7 } in
-    loops.words_new _ _ _ _ _ _ _ _ _ W (short l) w.0.taken _ _ (headed h).0 (headed h).1 (sym w.8.ensures ∙ not-true w.8.result w.9.taken))
+    loops.words_new _ _ _ _ _ _ _ _ _ W (short l) w.0.true _ _ (headed h).0 (headed h).1 (sym w.8.ensures ∙ not-true w.8.result w.9.true))
     v)
-    c.before.words-test.branch) in
+    c.before.words-test.branch-raw) in
     R
 
-pub next-line-spec : {M : Type 1} → statement M
-next-line-spec =
+pub next_line_spec : {M : Type 1} → statement M
+next_line_spec =
     tie.close
     (tie.spec
     invariant-loop

@@ -16,53 +16,53 @@ use Rattle.line.proofs.one_char.Lts as lts
 use Rattle.line.proofs.seen_in_word.Reads as seen-in-word-reads
 use Rattle.line.proofs.RestLaws.{word_le}
 
-abbrev invariant-loop : tie.invariant-loop
+abbrev invariant-loop : tie.invariant-loop-c
 invariant-loop t word first at₀ at = (at ≤ length (word_text word)) × (at + zero_width_len_of (drop at (word_text word)) ≡ (one_head word).len)
 
-abbrev decreases-loop : tie.decreases-loop
+abbrev decreases-loop : tie.decreases-loop-c
 decreases-loop t word first at₀ at = length (word_text word) - at
 
-seen-in-word-requires : tie.Need-seen-in-word-requires invariant-loop decreases-loop
+seen-in-word-requires : tie.Need-seen_in_word-first-requires invariant-loop decreases-loop
 seen-in-word-requires c κs = search rules
 
-loop-holds : tie.Need-loop-init invariant-loop decreases-loop
-loop-holds c = (search rules, (laws.one_start c.before.before.args.word.now c.seen-in-word.result c.seen-in-word.ensures.0).0)
+loop-holds : tie.Need-loop-c-init invariant-loop decreases-loop
+loop-holds c = (search rules, (laws.one_start c.before.before.args.word.now c.seen_in_word-first.result c.seen_in_word-first.ensures.0).0)
 
-seen-in-word-requires-2 : tie.Need-seen-in-word-requires-2 invariant-loop decreases-loop
+seen-in-word-requires-2 : tie.Need-seen_in_word-c-requires invariant-loop decreases-loop
 seen-in-word-requires-2 c κs = search rules
 
-add_at : tie.Need-overflow-add-at invariant-loop decreases-loop
+add_at : tie.Need-overflow_add-at invariant-loop decreases-loop
 add_at c = omega (arith, word_le c.before.before.before.before.before.before.before.before.before.args.word.now)
 
-loop-less : tie.Need-loop-smaller invariant-loop decreases-loop
+loop-less : tie.Need-loop-c-smaller invariant-loop decreases-loop
 loop-less c = search rules
 
-loop-again : tie.Need-loop-preserved invariant-loop decreases-loop
+loop-again : tie.Need-loop-c-preserved invariant-loop decreases-loop
 loop-again c =
-    let r = c.before.before.before.before.before.seen-in-word2 in
+    let r = c.before.before.before.before.before.seen_in_word-c in
     let l = c.before.before.before.before.before.before in
-    let n = laws.zero_more (word_text l.before.before.before.args.word.now) l.loop.at r.result r.ensures.0 c.before.before.before.if1.false c.before.if2.false in
-    (search rules, omega (arith, n, l.loop.invariant.1))
+    let n = laws.zero_more (word_text l.before.before.before.args.word.now) l.loop-c.at r.result r.ensures.0 c.before.before.before.if-c-eq0.false c.before.if-c-ne0.false in
+    (search rules, omega (arith, n, l.loop-c.invariant.1))
 
-cast-t7 : tie.Need-overflow-cast-t7 invariant-loop decreases-loop
+cast-t7 : tie.Need-overflow_cast-result invariant-loop decreases-loop
 cast-t7 c = search rules
 
 returns : tie.Need-returns invariant-loop decreases-loop
 returns c =
     let l = c.before.before.before.before in
     let d = l.before.before.before.args.word.now in
-    let r = c.before.before.before.seen-in-word2 in
-    let g = l.before.seen-in-word in
+    let r = c.before.before.before.seen_in_word-c in
+    let g = l.before.seen_in_word-first in
     let t = word_text d in
-    let none : zero_width_len_of (drop l.loop.at t) ≡ 0 =
-    ⊎_elim (λ w. laws.zero_end t l.loop.at r.result r.ensures.0 w.taken) (λ w. laws.zero_pass t l.loop.at r.result r.ensures.0 w.0.left w.2.taken)
-    c.before.if1.branch in
-    let p : l.loop.at ≡ (one_head d).len = omega (arith, none, l.loop.invariant.1) in
+    let none : zero_width_len_of (drop l.loop-c.at t) ≡ 0 =
+    ⊎_elim (λ w. laws.zero_end t l.loop-c.at r.result r.ensures.0 w.true) (λ w. laws.zero_pass t l.loop-c.at r.result r.ensures.0 w.0.left w.2.true)
+    c.before.if-c-eq0.branch-raw in
+    let p : l.loop-c.at ≡ (one_head d).len = omega (arith, none, l.loop-c.invariant.1) in
     let q : g.result.width ≡ (one_head d).width = (laws.one_start d g.result g.ensures.0).1 in
     λ i. record { len = p i; width = q i }
 
-pub one-char-spec : {M : Type 1} → statement M
-one-char-spec =
+pub one_char_spec : {M : Type 1} → statement M
+one_char_spec =
     tie.close
     (tie.spec
     invariant-loop

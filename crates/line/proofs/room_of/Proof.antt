@@ -7,17 +7,17 @@ use Rattle.line.proofs.room_of.Tie as tie
 use Rattle.line.proofs.room_of.Reads as reads
 use Rattle.line.proofs.room_of.Lts as lts
 
-returns : tie.Need-returns
-returns c = laws.room_first _ _ _ _ c.if1.true
+returns : tie.Need-returns-then-first
+returns c = laws.room_first _ _ _ _ c.if-first.true
 
-returns-2 : tie.Need-returns-2
-returns-2 c = laws.room_left _ _ _ _ _ c.before.if1.false (omega arith)
+returns-2 : tie.Need-returns-then-width-run
+returns-2 c = laws.room_left _ _ _ _ _ c.before.if-first.false (omega arith)
 
-sub-result : tie.Need-overflow-sub-result
+sub-result : tie.Need-overflow_sub-result
 sub-result c = search rules
 
-returns-3 : tie.Need-returns-3
-returns-3 c = laws.room_left _ _ _ _ _ c.before.if1.false (omega arith)
+returns-3 : tie.Need-returns
+returns-3 c = laws.room_left _ _ _ _ _ c.before.if-first.false (omega arith)
 
-pub room-of-spec : {M : Type 1} → statement M
-room-of-spec = tie.close (tie.spec returns returns-2 sub-result returns-3)
+pub room_of_spec : {M : Type 1} → statement M
+room_of_spec = tie.close (tie.spec returns returns-2 sub-result returns-3)

@@ -12,41 +12,41 @@ use Rattle.line.proofs.spaces_at.Tie as tie
 use Rattle.line.proofs.spaces_at.Reads as reads
 use Rattle.line.proofs.spaces_at.Lts as lts
 
-abbrev invariant-loop : tie.invariant-loop
+abbrev invariant-loop : tie.invariant-loop-i
 invariant-loop s n i₀ i = (n ≤ i) × (i ≤ length s) × ((i - n) + space_len (drop i s) ≡ space_len (drop n s))
 
-abbrev decreases-loop : tie.decreases-loop
+abbrev decreases-loop : tie.decreases-loop-i
 decreases-loop s n i₀ i = length s - i
 
-loop-holds : tie.Need-loop-init invariant-loop decreases-loop
+loop-holds : tie.Need-loop-i-init invariant-loop decreases-loop
 loop-holds c = (search rules, search rules, omega arith)
 
-shared-slice-read-if1 : tie.Need-shared-slice-read-if1 invariant-loop decreases-loop
+shared-slice-read-if1 : tie.Need-bounds-s-i invariant-loop decreases-loop
 shared-slice-read-if1 c = search rules
 
-add-i : tie.Need-overflow-add-i invariant-loop decreases-loop
+add-i : tie.Need-overflow_add-i invariant-loop decreases-loop
 add-i c = search rules
 
-loop-less : tie.Need-loop-smaller invariant-loop decreases-loop
+loop-less : tie.Need-loop-i-smaller invariant-loop decreases-loop
 loop-less c = search rules
 
-loop-again : tie.Need-loop-preserved invariant-loop decreases-loop
+loop-again : tie.Need-loop-i-preserved invariant-loop decreases-loop
 loop-again c =
     let l = c.before.before.before in
-    (search rules, search rules, omega (arith, laws.space_yes l.before.args.s.now l.loop.i c.before.before.loop-test.true c.if1.false, l.loop.invariant.2))
+    (search rules, search rules, omega (arith, laws.space_yes l.before.args.s.now l.loop-i.i c.before.before.loop-i-test.true c.if-s-i-ne32.false, l.loop-i.invariant.2))
 
-sub-result : tie.Need-overflow-sub-result invariant-loop decreases-loop
+sub-result : tie.Need-overflow_sub-result invariant-loop decreases-loop
 sub-result c = search rules
 
 returns : tie.Need-returns invariant-loop decreases-loop
 returns c =
     let l = c.before in
-    let none : space_len (drop l.loop.i l.before.args.s.now) ≡ 0 =
-    ⊎_elim (λ w. laws.space_end l.before.args.s.now l.loop.i w.left) (λ w. laws.space_no l.before.args.s.now l.loop.i w.0.taken w.2.taken) c.loop-test.branch in
-    (omega (arith, none, l.loop.invariant.2), search rules)
+    let none : space_len (drop l.loop-i.i l.before.args.s.now) ≡ 0 =
+    ⊎_elim (λ w. laws.space_end l.before.args.s.now l.loop-i.i w.left) (λ w. laws.space_no l.before.args.s.now l.loop-i.i w.0.true w.2.true) c.loop-i-test.branch-raw in
+    (omega (arith, none, l.loop-i.invariant.2), search rules)
 
-pub spaces-at-spec : {M : Type 1} → statement M
-spaces-at-spec =
+pub spaces_at_spec : {M : Type 1} → statement M
+spaces_at_spec =
     tie.close
     (tie.spec
     invariant-loop

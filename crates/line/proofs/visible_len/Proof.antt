@@ -12,54 +12,54 @@ use Rattle.line.proofs.visible_len.Reads as reads
 use Rattle.line.proofs.visible_len.Lts as lts
 use Rattle.line.proofs.at_most.Reads as at-most-reads
 
-abbrev invariant-loop : tie.invariant-loop
+abbrev invariant-loop : tie.invariant-loop-i
 invariant-loop s most end i₀ i = (i ≤ end) × (end ≤ length s) × (end ≤ most) × (i + visible_len_of (drop i s) ≡ visible_len_of s)
 
-abbrev decreases-loop : tie.decreases-loop
+abbrev decreases-loop : tie.decreases-loop-i
 decreases-loop s most end i₀ i = length s - i
 
-at-most-requires : tie.Need-at-most-requires invariant-loop decreases-loop
+at-most-requires : tie.Need-at_most-end-requires invariant-loop decreases-loop
 at-most-requires c κs = search rules
 
-loop-holds : tie.Need-loop-init invariant-loop decreases-loop
+loop-holds : tie.Need-loop-i-init invariant-loop decreases-loop
 loop-holds c =
     let m = laws.most_le c.before.before.args.most (length c.before.before.args.s.now) in
-    (search rules, omega (arith, c.at_most.ensures, m.1), omega (arith, c.at_most.ensures, m.0), search rules)
+    (search rules, omega (arith, c.at_most-end.ensures, m.1), omega (arith, c.at_most-end.ensures, m.0), search rules)
 
-shared-slice-read-if1 : tie.Need-shared-slice-read-if1 invariant-loop decreases-loop
+shared-slice-read-if1 : tie.Need-bounds-s-i invariant-loop decreases-loop
 shared-slice-read-if1 c = omega arith
 
-shared-slice-read-if2 : tie.Need-shared-slice-read-if2 invariant-loop decreases-loop
+shared-slice-read-if2 : tie.Need-bounds-s-i-in-loop-i invariant-loop decreases-loop
 shared-slice-read-if2 c = omega arith
 
-add-i : tie.Need-overflow-add-i invariant-loop decreases-loop
+add-i : tie.Need-overflow_add-i invariant-loop decreases-loop
 add-i c = omega arith
 
-loop-less : tie.Need-loop-smaller invariant-loop decreases-loop
+loop-less : tie.Need-loop-i-smaller invariant-loop decreases-loop
 loop-less c = omega arith
 
-loop-again : tie.Need-loop-preserved invariant-loop decreases-loop
+loop-again : tie.Need-loop-i-preserved invariant-loop decreases-loop
 loop-again c =
     let l = c.before.before.before.before.before in
-    (omega arith, search rules, search rules, omega (arith, laws.visible_yes l.before.before.before.args.s.now l.loop.i (omega arith) (omega arith) (omega arith), l.loop.invariant.3))
+    (omega arith, search rules, search rules, omega (arith, laws.visible_yes l.before.before.before.args.s.now l.loop-i.i (omega arith) (omega arith) (omega arith), l.loop-i.invariant.3))
 
-returns : tie.Need-returns invariant-loop decreases-loop
+returns : tie.Need-returns-after-loop-i invariant-loop decreases-loop
 returns c =
     let l = c.before in
-    laws.count_end _ _ _ (omega (arith, l.before.at_most.ensures) ∙ l.before.at_most.ensures) l.loop.invariant.3
+    laws.count_end _ _ _ (omega (arith, l.before.at_most-end.ensures) ∙ l.before.at_most-end.ensures) l.loop-i.invariant.3
 
-returns-2 : tie.Need-returns-2 invariant-loop decreases-loop
+returns-2 : tie.Need-returns-then-s-i-le32 invariant-loop decreases-loop
 returns-2 c =
     let l = c.before.before.before in
-    laws.count-byte _ _ _ (omega arith) (laws.visible_low l.before.before.before.args.s.now l.loop.i (omega arith) (omega arith)) l.loop.invariant.3
+    laws.count-byte _ _ _ (omega arith) (laws.visible_low l.before.before.before.args.s.now l.loop-i.i (omega arith) (omega arith)) l.loop-i.invariant.3
 
-returns-3 : tie.Need-returns-3 invariant-loop decreases-loop
+returns-3 : tie.Need-returns-then-s-i-ge127 invariant-loop decreases-loop
 returns-3 c =
     let l = c.before.before.before.before.before in
-    laws.count-byte _ _ _ (omega arith) (laws.visible_high l.before.before.before.args.s.now l.loop.i (omega arith) (omega arith)) l.loop.invariant.3
+    laws.count-byte _ _ _ (omega arith) (laws.visible_high l.before.before.before.args.s.now l.loop-i.i (omega arith) (omega arith)) l.loop-i.invariant.3
 
-pub visible-len-spec : {M : Type 1} → statement M
-visible-len-spec =
+pub visible_len_spec : {M : Type 1} → statement M
+visible_len_spec =
     tie.close
     (tie.spec
     invariant-loop

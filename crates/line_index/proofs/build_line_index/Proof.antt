@@ -20,80 +20,80 @@ use Rattle.line_index.proofs.write_index.Reads as write-index-reads
 use Rattle.recording_check.proofs.check.Reads as check-reads
 
 -- where the call started, seen from the check
-abbrev start : tie.After-check → tie.Start
+abbrev start : tie.After-check-checked → tie.Start
 start c = c.before.before.before.before.before
 
 -- the recording that is read
-abbrev content : tie.After-check → Recording
+abbrev content : tie.After-check-checked → Recording
 content c = recording (start c).args.content.now (start c).args.entries.now (start c).args.text.now
 
 -- the check found no fault
-clean : (c : tie.After-enum-told) → recording_fault (content c.before.before) ≡ 0
-clean c = let k = c.before.before.check in let g = c.enum_told.given in sym k.ensures.0 ∙ fine_zero k.result g.0.0 g.1
+clean : (c : tie.In-Fine) → recording_fault (content c.before.before) ≡ 0
+clean c = let k = c.before.before.check-checked in let g = c.enum_told-1.given in sym k.ensures.0 ∙ fine_zero k.result g.0.0 g.1
 
 -- so the data is not over its limit
-short : (c : tie.After-enum-told) → length (start c.before.before).args.content.now ≤ data_limit
+short : (c : tie.In-Fine) → length (start c.before.before).args.content.now ≤ data_limit
 short c = ltb-false _ _ (no_fault (content c.before.before) (clean c)).data_bytes
 
 -- how many starts there are behind the first
-abbrev starts : tie.After-check → ℕ
+abbrev starts : tie.After-check-checked → ℕ
 starts k = length (starts_from 0 (drop 0 (start k).args.content.now))
 
 -- and its index has room
-fits : (c : tie.Else2) → length (line_starts (start c.before.before.before.before.before).args.content.now) ≤ length (start c.before.before.before.before.before).args.index.now
+fits : (c : tie.Else-not-starts_fit) → length (line_starts (start c.before.before.before.before.before).args.content.now) ≤ length (start c.before.before.before.before.before).args.index.now
 fits c =
     let k = c.before.before.before.before.before in
     let f = c.before.starts_fit in
-    let l = leb-true (starts k) (length (start k).args.index.now - 1) (sym f.ensures ∙ not_false f.result c.if2.false) in
-    omega (arith, calls.starts_one (start k).args.content.now, l, c.before.before.if1.false)
+    let l = leb-true (starts k) (length (start k).args.index.now - 1) (sym f.ensures ∙ c.if-not-starts_fit.false) in
+    omega (arith, calls.starts_one (start k).args.content.now, l, c.before.before.if-index-eq0.false)
 
-check-requires : tie.Need-check-requires
+check-requires : tie.Need-check-checked-requires
 check-requires c κs = search rules
 
-enum-known-checked : tie.Need-enum-known-checked
+enum-known-checked : tie.Need-enum_known-checked
 enum-known-checked c = search rules
 
-returns : tie.Need-returns
+returns : tie.Need-returns-in-Refused
 returns c =
     let k = c.before.before.before in
-    let g = c.before.checked.given in
-    calls.build_content (content k) (start k).args.index.now g.0.0 (sym k.check.ensures.0 ∙ refused-number k.check.result g.0.0 g.1)
+    let g = c.before.checked-1.given in
+    calls.build_content (content k) (start k).args.index.now g.0.0 (sym k.check-checked.ensures.0 ∙ refused-number k.check-checked.result g.0.0 g.1)
 
-enum_told : tie.Need-enum-told
+enum_told : tie.Need-enum_told-1
 enum_told c = search rules
 
-returns-2 : tie.Need-returns-2
+returns-2 : tie.Need-returns-then-index-eq0
 returns-2 c =
     let k = c.before.before.before in
-    calls.build_short (content k) (start k).args.index.now (clean c.before) (omega (arith, calls.starts_one (start k).args.content.now, c.if1.true))
+    calls.build_short (content k) (start k).args.index.now (clean c.before) (omega (arith, calls.starts_one (start k).args.content.now, c.if-index-eq0.true))
 
-sub-starts-fit : tie.Need-overflow-sub-starts-fit
+sub-starts-fit : tie.Need-overflow_sub-index
 sub-starts-fit c = search rules
 
-starts-fit-requires : tie.Need-starts-fit-requires
+starts-fit-requires : tie.Need-starts_fit-requires
 starts-fit-requires c κs = search rules
 
-returns-3 : tie.Need-returns-3
+returns-3 : tie.Need-returns-then-not-starts_fit
 returns-3 c =
     let k = c.before.before.before.before.before in
     let f = c.before.starts_fit in
     calls.build_short (content k) (start k).args.index.now (clean c.before.before.before)
-    (omega (arith, calls.starts_one (start k).args.content.now, leb-false (starts k) (length (start k).args.index.now - 1) (sym f.ensures ∙ not-true f.result c.if2.true)))
+    (omega (arith, calls.starts_one (start k).args.content.now, leb-false (starts k) (length (start k).args.index.now - 1) (sym f.ensures ∙ c.if-not-starts_fit.true)))
 
-write-index-requires : tie.Need-write-index-requires
+write-index-requires : tie.Need-write_index-count-requires
 write-index-requires c κs = (short c.before.before.before.before, fits c.before)
 
-same_length : tie.Need-same-length
-same_length c = c.before.before.write-index.auto.1.0
+same_length : tie.Need-shape_of-index
+same_length c = c.before.before.write_index-count.auto.1.0
 
-returns-4 : tie.Need-returns-4
+returns-4 : tie.Need-returns
 returns-4 c =
     let k = c.before.before.before.before.before.before.before.before.before in
-    let e = c.before.before.write-index.ensures in
+    let e = c.before.before.write_index-count.ensures in
     calls.build_done (content k) (start k).args.index.now (clean c.before.before.before.before.before.before.before) (fits c.before.before.before.before) _ _ e.1 e.0
 
-pub build-line-index-spec : {M : Type 1} → statement M
-build-line-index-spec =
+pub build_line_index_spec : {M : Type 1} → statement M
+build_line_index_spec =
     tie.close
     (tie.spec
     check-requires

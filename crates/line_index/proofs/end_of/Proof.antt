@@ -11,41 +11,41 @@ use Rattle.line_index.proofs.end_of.Tie as tie
 use Rattle.line_index.proofs.end_of.Reads as reads
 use Rattle.line_index.proofs.end_of.Lts as lts
 
-add-if1 : tie.Need-overflow-add-if1
+add-if1 : tie.Need-overflow_add-n
 add-if1 c = search rules
 
-add-result : tie.Need-overflow-add-result
+add-result : tie.Need-overflow_add-result
 add-result c = search rules
 
-mul-result : tie.Need-overflow-mul-result
+mul-result : tie.Need-offset_bounds-index-n
 mul-result c = search rules
 
-shared-slice-read-result : tie.Need-shared-slice-read-result
+shared-slice-read-result : tie.Need-bounds-index-n
 shared-slice-read-result c = search rules
 
-cast-result : tie.Need-overflow-cast-result
+cast-result : tie.Need-overflow_cast-result
 cast-result c =
-    omega (arith, c.shared-slice-known.given (c.before.before.args.n + 1))
+    omega (arith, c.shared_slice_known-1.given (c.before.before.args.n + 1))
 
-sub-result : tie.Need-overflow-sub-result
+sub-result : tie.Need-overflow_sub-result
 sub-result c =
     let a = c.before.before.args in
     let q = c.before.before.requires.0 in
-    omega (arith, ap (λ (l : List ℕ). get_or l (a.n + 1) 0) q, end_inner a.s.now a.n (omega (arith, ap length q, c.before.if1.true)))
+    omega (arith, ap (λ (l : List ℕ). get_or l (a.n + 1) 0) q, end_inner a.s.now a.n (omega (arith, ap length q, c.before.if-n-index.true)))
 
-returns : tie.Need-returns
+returns : tie.Need-returns-then-n-index
 returns c =
     let a = c.before.before.args in
     let q = c.before.before.requires.0 in
-    omega (arith, ap (λ (l : List ℕ). get_or l (a.n + 1) 0) q, end_inner a.s.now a.n (omega (arith, ap length q, c.before.if1.true)))
+    omega (arith, ap (λ (l : List ℕ). get_or l (a.n + 1) 0) q, end_inner a.s.now a.n (omega (arith, ap length q, c.before.if-n-index.true)))
 
-returns-2 : tie.Need-returns-2
+returns-2 : tie.Need-returns
 returns-2 c =
     let a = c.before.args in
-    sym (end_last a.s.now a.n (omega (arith, ap length c.before.requires.0, c.before.requires.1, c.if1.false)))
+    sym (end_last a.s.now a.n (omega (arith, ap length c.before.requires.0, c.before.requires.1, c.if-n-index.false)))
 
-pub end-of-spec : {M : Type 1} → statement M
-end-of-spec =
+pub end_of_spec : {M : Type 1} → statement M
+end_of_spec =
     tie.close
     (tie.spec
     add-if1

@@ -23,136 +23,136 @@ use Rattle.line_index.proofs.write_starts.Reads as write-starts-reads
 use Rattle.recording_check.proofs.check.Reads as check-reads
 
 -- where the call started, seen from the check
-abbrev start : tie.After-check → tie.Start
+abbrev start : tie.After-check-checked → tie.Start
 start c = c.before.before.before.before.before
 
 -- the recording that is read
-abbrev content : tie.After-check → Recording
+abbrev content : tie.After-check-checked → Recording
 content c = recording (start c).args.content.now (start c).args.entries.now (start c).args.text.now
 
 -- the check found no fault
-clean : (c : tie.After-enum-told) → recording_fault (content c.before.before) ≡ 0
-clean c = let k = c.before.before.check in let g = c.enum_told.given in sym k.ensures.0 ∙ fine_zero k.result g.0.0 g.1
+clean : (c : tie.In-Fine) → recording_fault (content c.before.before) ≡ 0
+clean c = let k = c.before.before.check-checked in let g = c.enum_told-1.given in sym k.ensures.0 ∙ fine_zero k.result g.0.0 g.1
 
 -- so the data is not over its limit
-short : (c : tie.After-enum-told) → length (start c.before.before).args.content.now ≤ data_limit
+short : (c : tie.In-Fine) → length (start c.before.before).args.content.now ≤ data_limit
 short c = ltb-false _ _ (no_fault (content c.before.before) (clean c)).data_bytes
 
 -- the earlier part, its index and what is new, seen from the check
-abbrev list : tie.After-check → List ℕ
+abbrev list : tie.After-check-checked → List ℕ
 list k = (start k).args.index.now
 
-abbrev bytes : tie.After-check → List ℕ
+abbrev bytes : tie.After-check-checked → List ℕ
 bytes k = (start k).args.content.now
 
-abbrev earlier : tie.After-check → ℕ
+abbrev earlier : tie.After-check-checked → ℕ
 earlier k = (start k).args.earlier
 
-abbrev used : tie.After-check → ℕ
+abbrev used : tie.After-check-checked → ℕ
 used k = (start k).args.used
 
-abbrev new : tie.After-check → ℕ
+abbrev new : tie.After-check-checked → ℕ
 new k = length (starts_from (earlier k) (drop (earlier k) (bytes k)))
 
 -- the check, seen from where the earlier part has been tested
-abbrev checked : tie.Else3 → tie.After-check
+abbrev checked : tie.Else-not-is_index → tie.After-check-checked
 checked c = c.before.before.before.before.before.before.before.before.before
 
-fine : (c : tie.Else3) → recording_fault (content (checked c)) ≡ 0
+fine : (c : tie.Else-not-is_index) → recording_fault (content (checked c)) ≡ 0
 fine c = clean c.before.before.before.before.before.before.before
 
 -- the earlier part is within list and data, and its index is there
-within : (c : tie.Else3) → (used (checked c) ≤ length (list (checked c))) × (earlier (checked c) ≤ length (bytes (checked c)))
-within c = (c.before.before.before.before.before.before.if1.false, c.before.before.before.before.before.if2.false)
+within : (c : tie.Else-not-is_index) → (used (checked c) ≤ length (list (checked c))) × (earlier (checked c) ≤ length (bytes (checked c)))
+within c = (c.before.before.before.before.before.before.if-index-used.false, c.before.before.before.before.before.if-content-earlier.false)
 
-front : (c : tie.Else3) → same (take (used (checked c)) (list (checked c))) (line_starts (take (earlier (checked c)) (bytes (checked c)))) ≡ true
+front : (c : tie.Else-not-is_index) → same (take (used (checked c)) (list (checked c))) (line_starts (take (earlier (checked c)) (bytes (checked c)))) ≡ true
 front c =
     let k = checked c in
-    let t = c.before.is-index in
-    calls.fronts_same (bytes k) (list k) (earlier k) (used k) t.result t.ensures ∙ not_false t.result c.if3.false
+    let t = c.before.is_index in
+    calls.fronts_same (bytes k) (list k) (earlier k) (used k) t.result t.ensures ∙ c.if-not-is_index.false
 
 -- what is new has room behind it
-fits : (c : tie.Else4) → new (checked c.before.before) ≤ length (list (checked c.before.before)) - used (checked c.before.before)
+fits : (c : tie.Else-not-starts_fit) → new (checked c.before.before) ≤ length (list (checked c.before.before)) - used (checked c.before.before)
 fits c =
     let k = checked c.before.before in
     let f = c.before.starts_fit in
-    leb-true (new k) (length (list k) - used k) (sym f.ensures ∙ not_false f.result c.if4.false)
+    leb-true (new k) (length (list k) - used k) (sym f.ensures ∙ c.if-not-starts_fit.false)
 
-check-requires : tie.Need-check-requires
+check-requires : tie.Need-check-checked-requires
 check-requires c κs = search rules
 
-enum-known-checked : tie.Need-enum-known-checked
+enum-known-checked : tie.Need-enum_known-checked
 enum-known-checked c = search rules
 
-returns : tie.Need-returns
+returns : tie.Need-returns-in-Refused
 returns c =
     let k = c.before.before.before in
-    let g = c.before.checked.given in
-    calls.extend_content (content k) (list k) (earlier k) (used k) g.0.0 (sym k.check.ensures.0 ∙ refused-number k.check.result g.0.0 g.1)
+    let g = c.before.checked-1.given in
+    calls.extend_content (content k) (list k) (earlier k) (used k) g.0.0 (sym k.check-checked.ensures.0 ∙ refused-number k.check-checked.result g.0.0 g.1)
 
-enum_told : tie.Need-enum-told
+enum_told : tie.Need-enum_told-1
 enum_told c = search rules
 
-returns-2 : tie.Need-returns-2
+returns-2 : tie.Need-returns-then-index-used
 returns-2 c =
     let k = c.before.before.before in
-    calls.extend_used (content k) (list k) (earlier k) (used k) (clean c.before) c.if1.true
+    calls.extend_used (content k) (list k) (earlier k) (used k) (clean c.before) c.if-index-used.true
 
-returns-3 : tie.Need-returns-3
+returns-3 : tie.Need-returns-then-content-earlier
 returns-3 c =
     let k = c.before.before.before.before in
-    calls.extend_earlier (content k) (list k) (earlier k) (used k) (clean c.before.before) c.before.if1.false c.if2.true
+    calls.extend_earlier (content k) (list k) (earlier k) (used k) (clean c.before.before) c.before.if-index-used.false c.if-content-earlier.true
 
-sub-is-index : tie.Need-overflow-sub-is-index
+sub-is-index : tie.Need-slice_bounds-is_index-count
 sub-is-index c = search rules
 
-part-is-index-start : tie.Need-slice-bounds-is-index-start
+part-is-index-start : tie.Need-slice_bounds-is_index-start
 part-is-index-start c = search rules
 
-part-is-index-end : tie.Need-slice-bounds-is-index-end
+part-is-index-end : tie.Need-slice_bounds-is_index-end
 part-is-index-end c = search rules
 
-sub-is-index-2 : tie.Need-overflow-sub-is-index-2
+sub-is-index-2 : tie.Need-slice_bounds-is_index-count-2
 sub-is-index-2 c = search rules
 
-part-is-index-start-2 : tie.Need-slice-bounds-is-index-start-2
+part-is-index-start-2 : tie.Need-slice_bounds-is_index-start-2
 part-is-index-start-2 c = search rules
 
-part-is-index-end-2 : tie.Need-slice-bounds-is-index-end-2
+part-is-index-end-2 : tie.Need-slice_bounds-is_index-end-2
 part-is-index-end-2 c = search rules
 
-is-index-requires : tie.Need-is-index-requires
+is-index-requires : tie.Need-is_index-requires
 is-index-requires c κs = search rules
 
-same_length : tie.Need-same-length
+same_length : tie.Need-shape_of-index-then-not-is_index
 same_length c = search rules
 
-returns-4 : tie.Need-returns-4
+returns-4 : tie.Need-returns-then-not-is_index
 returns-4 c =
     let k = c.before.before.before.before.before.before.before.before.before in
-    let t = c.before.is-index in
-    calls.extend_wrong (content k) (list k) (earlier k) (used k) (clean c.before.before.before.before.before.before.before) c.before.before.before.before.before.before.if1.false
-    c.before.before.before.before.before.if2.false
-    (calls.fronts_same (bytes k) (list k) (earlier k) (used k) t.result t.ensures ∙ not-true t.result c.if3.true)
+    let t = c.before.is_index in
+    calls.extend_wrong (content k) (list k) (earlier k) (used k) (clean c.before.before.before.before.before.before.before) c.before.before.before.before.before.before.if-index-used.false
+    c.before.before.before.before.before.if-content-earlier.false
+    (calls.fronts_same (bytes k) (list k) (earlier k) (used k) t.result t.ensures ∙ c.if-not-is_index.true)
 
-sub-starts-fit : tie.Need-overflow-sub-starts-fit
+sub-starts-fit : tie.Need-overflow_sub-index
 sub-starts-fit c = search rules
 
-starts-fit-requires : tie.Need-starts-fit-requires
+starts-fit-requires : tie.Need-starts_fit-requires
 starts-fit-requires c κs = search rules
 
-same-length-2 : tie.Need-same-length-2
+same-length-2 : tie.Need-shape_of-index-then-not-starts_fit
 same-length-2 c = search rules
 
-returns-5 : tie.Need-returns-5
+returns-5 : tie.Need-returns-then-not-starts_fit
 returns-5 c =
     let b = c.before.before in
     let k = checked b in
     let f = c.before.starts_fit in
     calls.extend_short (content k) (list k) (earlier k) (used k) (fine b) (within b).0 (within b).1 (front b)
-    (leb-false (new k) (length (list k) - used k) (sym f.ensures ∙ not-true f.result c.if4.true))
+    (leb-false (new k) (length (list k) - used k) (sym f.ensures ∙ c.if-not-starts_fit.true))
 
-write-starts-requires : tie.Need-write-starts-requires
+write-starts-requires : tie.Need-write_starts-count-requires
 write-starts-requires c κs =
     let b = c.before.before.before in
     let k = checked b in (
@@ -160,18 +160,18 @@ write-starts-requires c κs =
       calls.extend_fits (content k) (list k) (earlier k) (used k) (fine b) (within b).0 (within b).1 (front b) (fits c.before),
     )
 
-same-length-3 : tie.Need-same-length-3
-same-length-3 c = c.before.before.write-starts.auto.1.1.0
+same-length-3 : tie.Need-shape_of-index
+same-length-3 c = c.before.before.write_starts-count.auto.1.1.0
 
-returns-6 : tie.Need-returns-6
+returns-6 : tie.Need-returns
 returns-6 c =
     let b = c.before.before.before.before.before.before in
     let k = checked b in
-    let e = c.before.before.write-starts.ensures in
+    let e = c.before.before.write_starts-count.ensures in
     calls.extend_done (content k) (list k) (earlier k) (used k) (fine b) (within b).0 (within b).1 (front b) (fits c.before.before.before.before) _ _ e.1 e.0
 
-pub extend-line-index-spec : {M : Type 1} → statement M
-extend-line-index-spec =
+pub extend_line_index_spec : {M : Type 1} → statement M
+extend_line_index_spec =
     tie.close
     (tie.spec
     check-requires

@@ -20,74 +20,74 @@ use Rattle.line_index.proofs.is_index.Reads as is-index-reads
 use Rattle.recording_check.proofs.check.Reads as check-reads
 
 -- where the call started, seen from the check
-abbrev start : tie.After-check → tie.Start
+abbrev start : tie.After-check-checked → tie.Start
 start c = c.before.before.before.before.before
 
 -- the recording that is read
-abbrev content : tie.After-check → Recording
+abbrev content : tie.After-check-checked → Recording
 content c = recording (start c).args.content.now (start c).args.entries.now (start c).args.text.now
 
 -- the check found no fault
-clean : (c : tie.After-enum-told) → recording_fault (content c.before.before) ≡ 0
-clean c = let k = c.before.before.check in let g = c.enum_told.given in sym k.ensures.0 ∙ fine_zero k.result g.0.0 g.1
+clean : (c : tie.In-Fine) → recording_fault (content c.before.before) ≡ 0
+clean c = let k = c.before.before.check-checked in let g = c.enum_told-1.given in sym k.ensures.0 ∙ fine_zero k.result g.0.0 g.1
 
 -- the list is the index
-index : (c : tie.Else1) → same (start c.before.before.before.before).args.index.now (line_starts (start c.before.before.before.before).args.content.now) ≡ true
-index c = let t = c.before.is-index in sym t.ensures ∙ not_false t.result c.if1.false
+index : (c : tie.Else-not-is_index) → same (start c.before.before.before.before).args.index.now (line_starts (start c.before.before.before.before).args.content.now) ≡ true
+index c = let t = c.before.is_index in sym t.ensures ∙ c.if-not-is_index.false
 
-check-requires : tie.Need-check-requires
+check-requires : tie.Need-check-checked-requires
 check-requires c κs = search rules
 
-enum-known-checked : tie.Need-enum-known-checked
+enum-known-checked : tie.Need-enum_known-checked
 enum-known-checked c = search rules
 
-returns : tie.Need-returns
+returns : tie.Need-returns-in-Refused
 returns c =
     let k = c.before.before.before in
-    let g = c.before.checked.given in
-    calls.line_content (content k) (start k).args.index.now (start k).args.n g.0.0 (sym k.check.ensures.0 ∙ refused-number k.check.result g.0.0 g.1)
+    let g = c.before.checked-1.given in
+    calls.line_content (content k) (start k).args.index.now (start k).args.n g.0.0 (sym k.check-checked.ensures.0 ∙ refused-number k.check-checked.result g.0.0 g.1)
 
-enum_told : tie.Need-enum-told
+enum_told : tie.Need-enum_told-1
 enum_told c = search rules
 
-is-index-requires : tie.Need-is-index-requires
+is-index-requires : tie.Need-is_index-requires
 is-index-requires c κs = search rules
 
-returns-2 : tie.Need-returns-2
+returns-2 : tie.Need-returns-then-not-is_index
 returns-2 c =
     let k = c.before.before.before.before in
-    let t = c.before.is-index in
-    calls.line_wrong (content k) (start k).args.index.now (start k).args.n (clean c.before.before) (sym t.ensures ∙ not-true t.result c.if1.true)
+    let t = c.before.is_index in
+    calls.line_wrong (content k) (start k).args.index.now (start k).args.n (clean c.before.before) (sym t.ensures ∙ c.if-not-is_index.true)
 
-returns-3 : tie.Need-returns-3
+returns-3 : tie.Need-returns-then-index-n
 returns-3 c =
     let k = c.before.before.before.before.before in
-    calls.line_missing (content k) (start k).args.index.now (start k).args.n (clean c.before.before.before) (index c.before) c.if2.true
+    calls.line_missing (content k) (start k).args.index.now (start k).args.n (clean c.before.before.before) (index c.before) c.if-index-n.true
 
-mul-t11 : tie.Need-overflow-mul-t11
+mul-t11 : tie.Need-offset_bounds-index-n
 mul-t11 c = search rules
 
-shared-slice-read-t14 : tie.Need-shared-slice-read-t14
+shared-slice-read-t14 : tie.Need-bounds-index-n
 shared-slice-read-t14 c = search rules
 
-cast-t15 : tie.Need-overflow-cast-t15
+cast-t15 : tie.Need-overflow_cast-result
 cast-t15 c =
     let k = c.before.before.before.before.before.before in
-    omega (arith, c.shared-slice-known5.given (start k).args.n)
+    omega (arith, c.shared_slice_known-5-1.given (start k).args.n)
 
-end-of-requires : tie.Need-end-of-requires
+end-of-requires : tie.Need-end_of-requires
 end-of-requires c κs =
     let k = c.before.before.before.before.before.before in
-    (calls.index_is (start k).args.content.now (start k).args.index.now (index c.before.before), c.before.if2.false)
+    (calls.index_is (start k).args.content.now (start k).args.index.now (index c.before.before), c.before.if-index-n.false)
 
-returns-4 : tie.Need-returns-4
+returns-4 : tie.Need-returns
 returns-4 c =
     let k = c.before.before.before.before.before.before.before in
     calls.line_found (content k) (start k).args.index.now (start k).args.n (clean c.before.before.before.before.before) (index c.before.before.before)
-    c.before.before.if2.false _ c.end_of_lem.ensures
+    c.before.before.if-index-n.false _ c.end_of_lem.ensures
 
-pub line-at-spec : {M : Type 1} → statement M
-line-at-spec =
+pub line_at_spec : {M : Type 1} → statement M
+line_at_spec =
     tie.close
     (tie.spec
     check-requires

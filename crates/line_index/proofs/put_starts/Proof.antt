@@ -14,79 +14,79 @@ use Rattle.line_index.proofs.put_starts.Tie as tie
 use Rattle.line_index.proofs.put_starts.Reads as reads
 use Rattle.line_index.proofs.put_starts.Lts as lts
 
-abbrev invariant-loop : tie.invariant-loop
+abbrev invariant-loop : tie.invariant-loop-at
 invariant-loop s from to index₀ k n₀ at₀ index n at =
     (from ≤ at) × (at ≤ to) × Filled (starts_from from (part from to s)) (starts_from at (part at to s)) index₀ index k n
 
-abbrev decreases-loop : tie.decreases-loop
+abbrev decreases-loop : tie.decreases-loop-at
 decreases-loop s from to index₀ k n₀ at₀ index n at =
     to - at
 
 -- where a 0A is found there is a number more to come, so there is room for it
-room : (c : tie.Then1 invariant-loop decreases-loop) → c.before.before.before.loop.n < length c.before.before.before.loop.index
+room : (c : tie.Then-s-at-eq10 invariant-loop decreases-loop) → c.before.before.before.loop-at.n < length c.before.before.before.loop-at.index
 room c =
     let l = c.before.before.before in
     let a = l.before.args in
     omega (
       arith,
-      fill_room _ _ _ _ _ _ l.loop.invariant.2 l.before.requires.1,
-      ap length (starts_newline l.loop.at a.to a.s.now (omega arith) l.before.requires.0.1 c.if1.true),
+      fill_room _ _ _ _ _ _ l.loop-at.invariant.2 l.before.requires.1,
+      ap length (starts_newline l.loop-at.at a.to a.s.now (omega arith) l.before.requires.0.1 c.if-s-at-eq10.true),
     )
 
-loop-holds : tie.Need-loop-init invariant-loop decreases-loop
+loop-holds : tie.Need-loop-at-init invariant-loop decreases-loop
 loop-holds c = (omega arith, c.requires.0.0, fill_start _ _ c.args.index.now c.args.k refl)
 
-shared-slice-read-if1 : tie.Need-shared-slice-read-if1 invariant-loop decreases-loop
+shared-slice-read-if1 : tie.Need-bounds-s-at invariant-loop decreases-loop
 shared-slice-read-if1 c = search rules
 
-add-index : tie.Need-overflow-add-index invariant-loop decreases-loop
+add-index : tie.Need-overflow_add-index invariant-loop decreases-loop
 add-index c = search rules
 
-cast-index : tie.Need-overflow-cast-index invariant-loop decreases-loop
-cast-index c = omega (arith, c.before.before.before.loop.invariant.1, c.before.before.before.before.requires.0)
+cast-index : tie.Need-overflow_cast-index invariant-loop decreases-loop
+cast-index c = omega (arith, c.before.before.before.loop-at.invariant.1, c.before.before.before.before.requires.0)
 
-mul-index : tie.Need-overflow-mul-index invariant-loop decreases-loop
-mul-index c = omega (arith, room c, c.before.before.before.before.well-formed)
+mul-index : tie.Need-offset_bounds-index-n invariant-loop decreases-loop
+mul-index c = omega (arith, room c, c.before.before.before.before.well_formed)
 
-slice-write-index : tie.Need-slice-write-index invariant-loop decreases-loop
+slice-write-index : tie.Need-bounds-index-n invariant-loop decreases-loop
 slice-write-index c = omega (arith, room c)
 
-add-n : tie.Need-overflow-add-n invariant-loop decreases-loop
-add-n c = omega (arith, room c, c.before.before.before.before.well-formed)
+add-n : tie.Need-overflow_add-n invariant-loop decreases-loop
+add-n c = omega (arith, room c, c.before.before.before.before.well_formed)
 
-add_at : tie.Need-overflow-add-at invariant-loop decreases-loop
+add_at : tie.Need-overflow_add-at invariant-loop decreases-loop
 add_at c = search rules
 
-loop-less : tie.Need-loop-smaller invariant-loop decreases-loop
+loop-less : tie.Need-loop-at-smaller invariant-loop decreases-loop
 loop-less c = search rules
 
-loop-again : tie.Need-loop-preserved invariant-loop decreases-loop
+loop-again : tie.Need-loop-at-preserved invariant-loop decreases-loop
 loop-again c =
     let l = c.before.before.before in
     let a = l.before.args in
     let all = starts_from a.from (part a.from a.to a.s.now) in
-    let rest = starts_from l.loop.at (part l.loop.at a.to a.s.now) in
-    let next = starts_from (l.loop.at + 1) (part (l.loop.at + 1) a.to a.s.now) in
+    let rest = starts_from l.loop-at.at (part l.loop-at.at a.to a.s.now) in
+    let next = starts_from (l.loop-at.at + 1) (part (l.loop-at.at + 1) a.to a.s.now) in
     let ways
     = ⊎_elim
-    (λ w. fill_stored all rest a.index.now l.loop.index a.k l.loop.n l.loop.invariant.2 l.before.requires.1 (l.loop.at + 1) next c.if1.index c.if1.n
-    (starts_newline l.loop.at a.to a.s.now (omega arith) l.before.requires.0.1 w.0.taken) w.1 w.2)
-    (λ w. fill_kept all rest a.index.now l.loop.index a.k l.loop.n l.loop.invariant.2 next c.if1.index c.if1.n
-    (starts_other l.loop.at a.to a.s.now (omega arith) l.before.requires.0.1 w.0.left) w.1 w.2)
-    c.if1.branch in
-    (omega (arith, l.loop.invariant.0), omega arith, ways)
+    (λ w. fill_stored all rest a.index.now l.loop-at.index a.k l.loop-at.n l.loop-at.invariant.2 l.before.requires.1 (l.loop-at.at + 1) next c.if-s-at-eq10.index c.if-s-at-eq10.n
+    (starts_newline l.loop-at.at a.to a.s.now (omega arith) l.before.requires.0.1 w.0.true) w.1 w.2)
+    (λ w. fill_kept all rest a.index.now l.loop-at.index a.k l.loop-at.n l.loop-at.invariant.2 next c.if-s-at-eq10.index c.if-s-at-eq10.n
+    (starts_other l.loop-at.at a.to a.s.now (omega arith) l.before.requires.0.1 w.0.left) w.1 w.2)
+    c.if-s-at-eq10.branch-raw in
+    (omega (arith, l.loop-at.invariant.0), omega arith, ways)
 
-same_length : tie.Need-same-length invariant-loop decreases-loop
-same_length c = c.before.loop.invariant.2.long
+same_length : tie.Need-shape_of-index invariant-loop decreases-loop
+same_length c = c.before.loop-at.invariant.2.long
 
 returns : tie.Need-returns invariant-loop decreases-loop
 returns c =
     let l = c.before in
     let a = l.before.args in
-    fill_end _ _ _ _ _ _ l.loop.invariant.2 (starts_over l.loop.at a.to a.s.now (omega arith))
+    fill_end _ _ _ _ _ _ l.loop-at.invariant.2 (starts_over l.loop-at.at a.to a.s.now (omega arith))
 
-pub put-starts-spec : {M : Type 1} → statement M
-put-starts-spec =
+pub put_starts_spec : {M : Type 1} → statement M
+put_starts_spec =
     tie.close
     (tie.spec
     invariant-loop

@@ -11,73 +11,73 @@ use Rattle.line_index.proofs.stand_behind.Tie as tie
 use Rattle.line_index.proofs.stand_behind.Reads as reads
 use Rattle.line_index.proofs.stand_behind.Lts as lts
 
-abbrev invariant-loop : tie.invariant-loop
+abbrev invariant-loop : tie.invariant-loop-k
 invariant-loop s index last₀ k₀ last k =
     (1 ≤ k) × (stand_behind_in s last (drop k index) ≡ stand_behind_in s 0 (drop 1 index))
 
-abbrev decreases-loop : tie.decreases-loop
+abbrev decreases-loop : tie.decreases-loop-k
 decreases-loop s index last₀ k₀ last k =
     length index - k
 
-loop-holds : tie.Need-loop-init invariant-loop decreases-loop
+loop-holds : tie.Need-loop-k-init invariant-loop decreases-loop
 loop-holds c = search rules
 
-mul_at : tie.Need-overflow-mul-at invariant-loop decreases-loop
+mul_at : tie.Need-offset_bounds-index-k invariant-loop decreases-loop
 mul_at c = search rules
 
-shared-slice-read-at : tie.Need-shared-slice-read-at invariant-loop decreases-loop
+shared-slice-read-at : tie.Need-bounds-index-k invariant-loop decreases-loop
 shared-slice-read-at c = search rules
 
-cast-at : tie.Need-overflow-cast-at invariant-loop decreases-loop
-cast-at c = omega (arith, c.shared-slice-known.given c.before.before.loop.k)
+cast-at : tie.Need-overflow_cast-at invariant-loop decreases-loop
+cast-at c = omega (arith, c.shared_slice_known-1.given c.before.before.loop-k.k)
 
-returns : tie.Need-returns invariant-loop decreases-loop
+returns : tie.Need-returns-then-at-last invariant-loop decreases-loop
 returns c =
     let l = c.before.before.before in
     let a = l.before.args in
-    behind_stop a.s.now l.loop.last a.index.now l.loop.k (omega arith) _ l.loop.invariant.1 (behind_low a.s.now l.loop.last _ c.if1.true)
+    behind_stop a.s.now l.loop-k.last a.index.now l.loop-k.k (omega arith) _ l.loop-k.invariant.1 (behind_low a.s.now l.loop-k.last _ c.if-at-last.true)
 
-returns-2 : tie.Need-returns-2 invariant-loop decreases-loop
+returns-2 : tie.Need-returns-then-s-at invariant-loop decreases-loop
 returns-2 c =
     let l = c.before.before.before.before in
     let a = l.before.args in
-    behind_stop a.s.now l.loop.last a.index.now l.loop.k (omega arith) _ l.loop.invariant.1 (behind_past a.s.now l.loop.last _ c.before.if1.false c.if2.true)
+    behind_stop a.s.now l.loop-k.last a.index.now l.loop-k.k (omega arith) _ l.loop-k.invariant.1 (behind_past a.s.now l.loop-k.last _ c.before.if-at-last.false c.if-s-at.true)
 
-sub-if3 : tie.Need-overflow-sub-if3 invariant-loop decreases-loop
-sub-if3 c = omega (arith, c.before.if1.false)
+sub-if3 : tie.Need-overflow_sub-at invariant-loop decreases-loop
+sub-if3 c = omega (arith, c.before.if-at-last.false)
 
-shared-slice-read-if3 : tie.Need-shared-slice-read-if3 invariant-loop decreases-loop
-shared-slice-read-if3 c = omega (arith, c.before.before.if1.false, c.before.if2.false)
+shared-slice-read-if3 : tie.Need-bounds-s-at invariant-loop decreases-loop
+shared-slice-read-if3 c = omega (arith, c.before.before.if-at-last.false, c.before.if-s-at.false)
 
-returns-3 : tie.Need-returns-3 invariant-loop decreases-loop
+returns-3 : tie.Need-returns-then-s-at-ne10 invariant-loop decreases-loop
 returns-3 c =
     let l = c.before.before.before.before.before.before in
     let a = l.before.args in
-    behind_stop a.s.now l.loop.last a.index.now l.loop.k (omega arith) _ l.loop.invariant.1
-    (behind-other a.s.now l.loop.last _ c.before.before.before.if1.false c.before.before.if2.false c.if3.true)
+    behind_stop a.s.now l.loop-k.last a.index.now l.loop-k.k (omega arith) _ l.loop-k.invariant.1
+    (behind-other a.s.now l.loop-k.last _ c.before.before.before.if-at-last.false c.before.before.if-s-at.false c.if-s-at-ne10.true)
 
-add-k : tie.Need-overflow-add-k invariant-loop decreases-loop
+add-k : tie.Need-overflow_add-k invariant-loop decreases-loop
 add-k c = search rules
 
-loop-less : tie.Need-loop-smaller invariant-loop decreases-loop
+loop-less : tie.Need-loop-k-smaller invariant-loop decreases-loop
 loop-less c = search rules
 
-loop-again : tie.Need-loop-preserved invariant-loop decreases-loop
+loop-again : tie.Need-loop-k-preserved invariant-loop decreases-loop
 loop-again c =
     let l = c.before.before.before.before.before.before in
     let a = l.before.args in
-    let n = get_or a.index.now l.loop.k 0 in
-    let b = behind_in a.s.now l.loop.last n c.before.before.before.if1.false c.before.before.if2.false c.if3.false in
-    (omega arith, behind_on a.s.now l.loop.last a.index.now l.loop.k (omega arith) _ l.loop.invariant.1 b)
+    let n = get_or a.index.now l.loop-k.k 0 in
+    let b = behind_in a.s.now l.loop-k.last n c.before.before.before.if-at-last.false c.before.before.if-s-at.false c.if-s-at-ne10.false in
+    (omega arith, behind_on a.s.now l.loop-k.last a.index.now l.loop-k.k (omega arith) _ l.loop-k.invariant.1 b)
 
-returns-4 : tie.Need-returns-4 invariant-loop decreases-loop
+returns-4 : tie.Need-returns invariant-loop decreases-loop
 returns-4 c =
     let l = c.before in
     let a = l.before.args in
-    sym (behind_end a.s.now l.loop.last a.index.now l.loop.k (omega arith)) ∙ l.loop.invariant.1
+    sym (behind_end a.s.now l.loop-k.last a.index.now l.loop-k.k (omega arith)) ∙ l.loop-k.invariant.1
 
-pub stand-behind-spec : {M : Type 1} → statement M
-stand-behind-spec =
+pub stand_behind_spec : {M : Type 1} → statement M
+stand_behind_spec =
     tie.close
     (tie.spec
     invariant-loop

@@ -16,23 +16,23 @@ use Rattle.line_index.proofs.starts_fit.Reads as reads
 use Rattle.line_index.proofs.starts_fit.Lts as lts
 use Rattle.newlines.proofs.count_newlines.Reads as count-newlines-reads
 
-sub-if1 : tie.Need-overflow-sub-if1
+sub-if1 : tie.Need-overflow_sub-s
 sub-if1 c = search rules
 
-returns : tie.Need-returns
+returns : tie.Need-returns-then-s-from
 returns c =
     let a = c.before.before.args in
     let d = drop a.from a.s.now in
-    sym (le-leb (length (starts_from a.from d)) a.room (omega (arith, count_starts a.from d, count_few d, length-drop a.from a.s.now, c.if1.true)))
+    sym (le-leb (length (starts_from a.from d)) a.room (omega (arith, count_starts a.from d, count_few d, length-drop a.from a.s.now, c.if-s-from.true)))
 
-count-newlines-requires : tie.Need-count-newlines-requires
+count-newlines-requires : tie.Need-count_newlines-requires
 count-newlines-requires c κs = search rules
 
-returns-2 : tie.Need-returns-2
+returns-2 : tie.Need-returns
 returns-2 c =
     let a = c.before.before.before.args in
     let d = drop a.from a.s.now in
-    ap (λ (n : ℕ). leb n a.room) (c.count-newlines.ensures.0 ∙ sym (count_starts a.from d))
+    ap (λ (n : ℕ). leb n a.room) (c.count_newlines.ensures.0 ∙ sym (count_starts a.from d))
 
-pub starts-fit-spec : {M : Type 1} → statement M
-starts-fit-spec = tie.close (tie.spec sub-if1 returns count-newlines-requires returns-2)
+pub starts_fit_spec : {M : Type 1} → statement M
+starts_fit_spec = tie.close (tie.spec sub-if1 returns count-newlines-requires returns-2)

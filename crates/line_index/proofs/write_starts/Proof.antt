@@ -21,90 +21,90 @@ use Rattle.line_index.proofs.write_starts.Lts as lts
 use Rattle.line_index.proofs.put_starts.Reads as put-starts-reads
 use Rattle.newlines.proofs.has_break.Reads as has-break-reads
 
-abbrev invariant-loop : tie.invariant-loop
+abbrev invariant-loop : tie.invariant-loop-at
 invariant-loop s from index₀ first k₀ at₀ index k at =
     (from ≤ at) × (at ≤ length s) × Filled (starts_from from (drop from s)) (starts_from at (drop at s)) index₀ index first k
 
-abbrev decreases-loop : tie.decreases-loop
+abbrev decreases-loop : tie.decreases-loop-at
 decreases-loop s from index₀ first k₀ at₀ index k at =
     length s - at
 
-loop-holds : tie.Need-loop-init invariant-loop decreases-loop
+loop-holds : tie.Need-loop-at-init invariant-loop decreases-loop
 loop-holds c =
     let l = c.before.before in
     (omega arith, l.requires.0.0, fill_start _ _ l.args.index.now l.args.first refl)
 
-sub-loop : tie.Need-overflow-sub-loop invariant-loop decreases-loop
+sub-loop : tie.Need-overflow_sub-s invariant-loop decreases-loop
 sub-loop c = search rules
 
-has-break-requires : tie.Need-has-break-requires invariant-loop decreases-loop
+has-break-requires : tie.Need-has_break-requires invariant-loop decreases-loop
 has-break-requires c κs = search rules
 
-add-put-starts : tie.Need-overflow-add-put-starts invariant-loop decreases-loop
+add-put-starts : tie.Need-overflow_add-at invariant-loop decreases-loop
 add-put-starts c = search rules
 
-put-starts-requires : tie.Need-put-starts-requires invariant-loop decreases-loop
+put-starts-requires : tie.Need-put_starts-k-requires invariant-loop decreases-loop
 put-starts-requires c κs =
     let l = c.before.before.before.before in
     let b = l.before.before.before in
     let s = b.args.s.now in
-    let r = fill_room _ _ _ _ _ _ l.loop.invariant.2 b.requires.1 in
-    let p = starts_part l.loop.at (l.loop.at + 16) s (omega arith) (omega arith) in
-    let n = length-append (starts_from l.loop.at (part l.loop.at (l.loop.at + 16) s)) (starts_from (l.loop.at + 16) (drop (l.loop.at + 16) s)) in
+    let r = fill_room _ _ _ _ _ _ l.loop-at.invariant.2 b.requires.1 in
+    let p = starts_part l.loop-at.at (l.loop-at.at + 16) s (omega arith) (omega arith) in
+    let n = length-append (starts_from l.loop-at.at (part l.loop-at.at (l.loop-at.at + 16) s)) (starts_from (l.loop-at.at + 16) (drop (l.loop-at.at + 16) s)) in
     ((omega arith, omega arith, b.requires.0.1), omega (arith, r, ap length p, n))
 
-add_at : tie.Need-overflow-add-at invariant-loop decreases-loop
+add_at : tie.Need-overflow_add-at-in-loop-at invariant-loop decreases-loop
 add_at c = search rules
 
-loop-less : tie.Need-loop-smaller invariant-loop decreases-loop
+loop-less : tie.Need-loop-at-smaller invariant-loop decreases-loop
 loop-less c = search rules
 
-loop-again : tie.Need-loop-preserved invariant-loop decreases-loop
+loop-again : tie.Need-loop-at-preserved invariant-loop decreases-loop
 loop-again c =
     let l = c.before.before.before in
     let b = l.before.before.before in
     let s = b.args.s.now in
-    let at = l.loop.at in
+    let at = l.loop-at.at in
     let all = starts_from b.args.from (drop b.args.from s) in
     let rest = starts_from at (drop at s) in
     let next = starts_from (at + 16) (drop (at + 16) s) in
-    let S = l.loop.invariant.2 in
+    let S = l.loop-at.invariant.2 in
     let ways
     = ⊎_elim
-    (λ w. fill_more all rest b.args.index.now l.loop.index b.args.first l.loop.k S (omega (arith, b.requires.1)) (starts_from at (part at (at + 16) s)) next c.if1.index c.if1.k
+    (λ w. fill_more all rest b.args.index.now l.loop-at.index-1 b.args.first l.loop-at.k S (omega (arith, b.requires.1)) (starts_from at (part at (at + 16) s)) next c.if-has_break.index-1 c.if-has_break.k
     (starts_part at (at + 16) s (omega arith) (omega arith)) (w.5 ∙ w.2.ensures.0) (ap length w.5 ∙ w.2.kept.1.1.1.0) (w.6 ∙ w.2.ensures.1))
-    (λ w. fill_kept all rest b.args.index.now l.loop.index b.args.first l.loop.k S next c.if1.index c.if1.k
-    (starts_block 16 at s (ltb-false (to_break (drop at s)) 16 (sym c.before.has-break.ensures ∙ w.0.left))) w.1 w.2)
-    c.if1.branch in
-    (omega (arith, l.loop.invariant.0), omega arith, ways)
+    (λ w. fill_kept all rest b.args.index.now l.loop-at.index-1 b.args.first l.loop-at.k S next c.if-has_break.index-1 c.if-has_break.k
+    (starts_block 16 at s (ltb-false (to_break (drop at s)) 16 (sym c.before.has_break.ensures ∙ w.0.left))) w.1 w.2)
+    c.if-has_break.branch-raw in
+    (omega (arith, l.loop-at.invariant.0), omega arith, ways)
 
-put-starts-requires-2 : tie.Need-put-starts-requires-2 invariant-loop decreases-loop
+put-starts-requires-2 : tie.Need-put_starts-requires invariant-loop decreases-loop
 put-starts-requires-2 c κs =
     let l = c.before.before in
     let b = l.before.before.before in
     let s = b.args.s.now in
-    ((l.loop.invariant.1, omega arith, b.requires.0.1), omega (arith, fill_room _ _ _ _ _ _ l.loop.invariant.2 b.requires.1, ap length (starts_rest l.loop.at s l.loop.invariant.1)))
+    ((l.loop-at.invariant.1, omega arith, b.requires.0.1), omega (arith, fill_room _ _ _ _ _ _ l.loop-at.invariant.2 b.requires.1, ap length (starts_rest l.loop-at.at s l.loop-at.invariant.1)))
 
-same_length : tie.Need-same-length invariant-loop decreases-loop
+same_length : tie.Need-shape_of-index invariant-loop decreases-loop
 same_length c =
     let l = c.before.before.before.before.before in
-    c.before.before.put-starts2.auto.1.1.1.0 ∙ l.loop.invariant.2.long
+    c.before.before.put_starts.auto.1.1.1.0 ∙ l.loop-at.invariant.2.long
 
 returns : tie.Need-returns invariant-loop decreases-loop
 returns c =
     let l = c.before.before.before.before.before in
     let b = l.before.before.before in
     let s = b.args.s.now in
-    let at = l.loop.at in
-    let r = c.before.before.put-starts2 in
+    let at = l.loop-at.at in
+    let r = c.before.before.put_starts in
     let none = sym (append-nil (starts_from at (part at (length s) s))) in
-    let e = sym (starts_rest at s l.loop.invariant.1) ∙ none in
+    let e = sym (starts_rest at s l.loop-at.invariant.1) ∙ none in
     let h : b.args.first ≤ length b.args.index.now = omega (arith, b.requires.1) in
-    let S = fill_more _ (starts_from at (drop at s)) _ _ _ _ l.loop.invariant.2 h (starts_from at (part at (length s) s)) [] _ _ e r.ensures.0 r.auto.1.1.1.0 r.ensures.1 in
+    let S = fill_more _ (starts_from at (drop at s)) _ _ _ _ l.loop-at.invariant.2 h (starts_from at (part at (length s) s)) [] _ _ e r.ensures.0 r.auto.1.1.1.0 r.ensures.1 in
     fill_end _ [] _ _ _ _ S refl
 
-pub write-starts-spec : {M : Type 1} → statement M
-write-starts-spec =
+pub write_starts_spec : {M : Type 1} → statement M
+write_starts_spec =
     tie.close
     (tie.spec
     invariant-loop

@@ -12,48 +12,48 @@ use Rattle.newlines.proofs.count_bytes.Tie as tie
 use Rattle.newlines.proofs.count_bytes.Reads as reads
 use Rattle.newlines.proofs.count_bytes.Lts as lts
 
-abbrev invariant-loop : tie.invariant-loop
+abbrev invariant-loop : tie.invariant-loop-at
 invariant-loop s from n₀ at₀ n at =
     (from ≤ at) × (at ≤ length s) × (n ≤ at - from) × (n + newlines (drop at s) ≡ newlines (drop from s))
 
-abbrev decreases-loop : tie.decreases-loop
+abbrev decreases-loop : tie.decreases-loop-at
 decreases-loop s from n₀ at₀ n at =
     length s - at
 
-loop-holds : tie.Need-loop-init invariant-loop decreases-loop
+loop-holds : tie.Need-loop-at-init invariant-loop decreases-loop
 loop-holds c = search rules
 
-shared-slice-read-n : tie.Need-shared-slice-read-n invariant-loop decreases-loop
+shared-slice-read-n : tie.Need-bounds-s-at invariant-loop decreases-loop
 shared-slice-read-n c = search rules
 
-cast-n : tie.Need-overflow-cast-n invariant-loop decreases-loop
+cast-n : tie.Need-overflow_cast-n invariant-loop decreases-loop
 cast-n c = search rules
 
-add-n : tie.Need-overflow-add-n invariant-loop decreases-loop
+add-n : tie.Need-overflow_add-n invariant-loop decreases-loop
 add-n c =
     let l = c.before.before in
-    omega (arith, bit_small (eqb (get_or l.before.args.s.now l.loop.at 0) 0x0A), l.before.well-formed)
+    omega (arith, bit_small (eqb (get_or l.before.args.s.now l.loop-at.at 0) 0x0A), l.before.well_formed)
 
-add_at : tie.Need-overflow-add-at invariant-loop decreases-loop
+add_at : tie.Need-overflow_add-at invariant-loop decreases-loop
 add_at c = search rules
 
-loop-less : tie.Need-loop-smaller invariant-loop decreases-loop
+loop-less : tie.Need-loop-at-smaller invariant-loop decreases-loop
 loop-less c = search rules
 
-loop-again : tie.Need-loop-preserved invariant-loop decreases-loop
+loop-again : tie.Need-loop-at-preserved invariant-loop decreases-loop
 loop-again c =
     let l = c.before.before in
     let s = l.before.args.s.now in
-    let t = eqb (get_or s l.loop.at 0) 0x0A in
-    (search rules, search rules, omega (arith, bit_small t), omega (arith, bit_is t, l.loop.invariant.3, rest_next l.loop.at s (omega arith)))
+    let t = eqb (get_or s l.loop-at.at 0) 0x0A in
+    (search rules, search rules, omega (arith, bit_small t), omega (arith, bit_is t, l.loop-at.invariant.3, rest_next l.loop-at.at s (omega arith)))
 
 returns : tie.Need-returns invariant-loop decreases-loop
 returns c =
     let l = c.before in
-    (omega (arith, l.loop.invariant.3, rest_end l.loop.at l.before.args.s.now (omega arith)), search rules)
+    (omega (arith, l.loop-at.invariant.3, rest_end l.loop-at.at l.before.args.s.now (omega arith)), search rules)
 
-pub count-bytes-spec : {M : Type 1} → statement M
-count-bytes-spec =
+pub count_bytes_spec : {M : Type 1} → statement M
+count_bytes_spec =
     tie.close
     (tie.spec
     invariant-loop

@@ -14,43 +14,43 @@ use Rattle.newlines.proofs.has_break.Tie as tie
 use Rattle.newlines.proofs.has_break.Reads as reads
 use Rattle.newlines.proofs.has_break.Lts as lts
 
-abbrev invariant-loop : tie.invariant-loop
+abbrev invariant-loop : tie.invariant-loop-j
 invariant-loop s at found₀ j₀ found j =
     (j ≤ 16) × (found ≡ ltb (to_break (drop at s)) j)
 
-abbrev decreases-loop : tie.decreases-loop
+abbrev decreases-loop : tie.decreases-loop-j
 decreases-loop s at found₀ j₀ found j =
     16 - j
 
-loop-holds : tie.Need-loop-init invariant-loop decreases-loop
+loop-holds : tie.Need-loop-j-init invariant-loop decreases-loop
 loop-holds c = (search rules, sym (le-ltb (to_break (drop c.args.at c.args.s.now)) 0 (omega arith)))
 
-add-found : tie.Need-overflow-add-found invariant-loop decreases-loop
+add-found : tie.Need-overflow_add-found invariant-loop decreases-loop
 add-found c = search rules
 
-shared-slice-read-found : tie.Need-shared-slice-read-found invariant-loop decreases-loop
+shared-slice-read-found : tie.Need-bounds-s-at invariant-loop decreases-loop
 shared-slice-read-found c = search rules
 
-add-j : tie.Need-overflow-add-j invariant-loop decreases-loop
+add-j : tie.Need-overflow_add-j invariant-loop decreases-loop
 add-j c = search rules
 
-loop-less : tie.Need-loop-smaller invariant-loop decreases-loop
+loop-less : tie.Need-loop-j-smaller invariant-loop decreases-loop
 loop-less c = search rules
 
-loop-again : tie.Need-loop-preserved invariant-loop decreases-loop
+loop-again : tie.Need-loop-j-preserved invariant-loop decreases-loop
 loop-again c =
     let l = c.before.before in
     let a = l.before.args in
-    (search rules, ap (λ (t : Bool). t || eqb (get_or a.s.now (a.at + l.loop.j) 0) 0x0A) l.loop.invariant.1 ∙ found_next a.at l.loop.j a.s.now (omega arith))
+    (search rules, ap (λ (t : Bool). t || eqb (get_or a.s.now (a.at + l.loop-j.j) 0) 0x0A) l.loop-j.invariant.1 ∙ found_next a.at l.loop-j.j a.s.now (omega arith))
 
 returns : tie.Need-returns invariant-loop decreases-loop
 returns c =
     let l = c.before in
-    let e : l.loop.j ≡ 16 = omega arith in
-    l.loop.invariant.1 ∙ ap (λ (n : ℕ). ltb (to_break (drop l.before.args.at l.before.args.s.now)) n) e
+    let e : l.loop-j.j ≡ 16 = omega arith in
+    l.loop-j.invariant.1 ∙ ap (λ (n : ℕ). ltb (to_break (drop l.before.args.at l.before.args.s.now)) n) e
 
-pub has-break-spec : {M : Type 1} → statement M
-has-break-spec =
+pub has_break_spec : {M : Type 1} → statement M
+has_break_spec =
     tie.close
     (tie.spec
     invariant-loop

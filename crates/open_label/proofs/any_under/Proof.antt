@@ -15,34 +15,34 @@ use Rattle.open_label.proofs.opened.Reads as opened-reads
 use Rattle.recording.proofs.entry_at.Reads as entry-at-reads
 use Rattle.writer.proofs.place_at.Reads as place-at-reads
 
-abbrev invariant-loop : tie.invariant-loop
+abbrev invariant-loop : tie.invariant-loop-p
 invariant-loop content entries text label end at₀ k₀ o₀ p₀ at k o p =
     Reading label content entries text end at₀ k₀ o₀ at k o p
 
-abbrev decreases-loop : tie.decreases-loop
+abbrev decreases-loop : tie.decreases-loop-p
 decreases-loop content entries text label end at₀ k₀ o₀ p₀ at k o p =
     length entries - k
 
 -- at the loop: what the function was given
-abbrev start : tie.At-loop invariant-loop decreases-loop → tie.Start invariant-loop decreases-loop
+abbrev start : tie.At-loop-p invariant-loop decreases-loop → tie.Start invariant-loop decreases-loop
 start c = c.before.before.before.before.before.before
 
 -- in a turn: an entry of four numbers is next
-entire : (c : tie.In-loop invariant-loop decreases-loop) → c.before.loop.k + 4 ≤ length (start c.before).args.entries.now
+entire : (c : tie.In-loop-p invariant-loop decreases-loop) → c.before.loop-p.k + 4 ≤ length (start c.before).args.entries.now
 entire c =
-    let pre = (start c.before).pre in whole _ _ _ _ _ _ _ _ _ _ _ _ c.before.loop.invariant pre.1.1 pre.0.short c.loop-test.true
+    let pre = (start c.before).requires in whole _ _ _ _ _ _ _ _ _ _ _ _ c.before.loop-p.invariant pre.1.1 pre.0.short c.loop-p-test.true
 
-place-at-requires : tie.Need-place-at-requires invariant-loop decreases-loop
+place-at-requires : tie.Need-place_at-p-requires invariant-loop decreases-loop
 place-at-requires c κs = c.before.before.before.before.requires.0.within
 
-loop-holds : tie.Need-loop-init invariant-loop decreases-loop
+loop-holds : tie.Need-loop-p-init invariant-loop decreases-loop
 loop-holds c =
     let pre = c.before.before.before.before.before.requires in
     record {
       within = pre.0.within;
       valid = pre.0.valid;
       here = pre.1.0;
-      next = c.place_at.ensures;
+      next = c.place_at-p.ensures;
       depth = pre.1.2;
       rest = λ r u. u;
     }
@@ -50,48 +50,48 @@ loop-holds c =
 covers-requires : tie.Need-covers-requires invariant-loop decreases-loop
 covers-requires c κs = search rules
 
-returns : tie.Need-returns invariant-loop decreases-loop
+returns : tie.Need-returns-then-covers invariant-loop decreases-loop
 unfolding left
 returns c =
     let l = c.before.before.before in
-    hit _ _ _ _ _ _ _ _ _ _ _ _ l.loop.invariant (start l).requires.1.1 c.before.before.loop-test.true (sym c.before.covers.ensures ∙ c.if1.true)
+    hit _ _ _ _ _ _ _ _ _ _ _ _ l.loop-p.invariant (start l).requires.1.1 c.before.before.loop-p-test.true (sym c.before.covers.ensures ∙ c.if-covers.true)
 
-entry-at-requires : tie.Need-entry-at-requires invariant-loop decreases-loop
+entry-at-requires : tie.Need-entry_at-e-requires invariant-loop decreases-loop
 entry-at-requires c κs = entire c.before.before
 
-opened-requires : tie.Need-opened-requires invariant-loop decreases-loop
+opened-requires : tie.Need-opened-o-requires invariant-loop decreases-loop
 opened-requires c κs =
     let l = c.before.before.before.before in
     let pre = (start l).requires in (
-      (ok _ _ _ _ _ _ _ _ _ _ _ _ l.loop.invariant pre.1.1 pre.0.short c.before.before.before.loop-test.true _ c.entry_at.ensures).2,
-      omega (arith, entire c.before.before.before, l.loop.invariant.depth, (start l).well-formed),
+      (ok _ _ _ _ _ _ _ _ _ _ _ _ l.loop-p.invariant pre.1.1 pre.0.short c.before.before.before.loop-p-test.true _ c.entry_at-e.ensures).2,
+      omega (arith, entire c.before.before.before, l.loop-p.invariant.depth, (start l).well_formed),
     )
 
-add-k : tie.Need-overflow-add-k invariant-loop decreases-loop
+add-k : tie.Need-overflow_add-k invariant-loop decreases-loop
 add-k c = omega (arith, entire c.before.before.before.before, (start c.before.before.before.before.before).good)
 
-place-at-requires-2 : tie.Need-place-at-requires-2 invariant-loop decreases-loop
+place-at-requires-2 : tie.Need-place_at-p-requires-in-loop-p invariant-loop decreases-loop
 place-at-requires-2 c κs = entire c.before.before.before.before
 
-loop-less : tie.Need-loop-smaller invariant-loop decreases-loop
+loop-less : tie.Need-loop-p-smaller invariant-loop decreases-loop
 loop-less c = omega (arith, entire c.before.before.before.before.before)
 
-loop-again : tie.Need-loop-preserved invariant-loop decreases-loop
+loop-again : tie.Need-loop-p-preserved invariant-loop decreases-loop
 loop-again c =
     let l = c.before.before.before.before.before.before in
     let pre = (start l).requires in
-    let o = c.before.opened.ensures in
-    step _ _ _ _ _ _ _ _ _ _ _ _ l.loop.invariant pre.1.1 pre.0.short c.before.before.before.before.before.loop-test.true _ c.before.before.entry_at.ensures
-    (sym c.before.before.before.before.covers.ensures ∙ c.before.before.before.if1.false) _ o.0 o.1 _ c.place-at2.ensures
+    let o = c.before.opened-o.ensures in
+    step _ _ _ _ _ _ _ _ _ _ _ _ l.loop-p.invariant pre.1.1 pre.0.short c.before.before.before.before.before.loop-p-test.true _ c.before.before.entry_at-e.ensures
+    (sym c.before.before.before.before.covers.ensures ∙ c.before.before.before.if-covers.false) _ o.0 o.1 _ c.place_at-p-in-loop-p.ensures
 
-returns-2 : tie.Need-returns-2 invariant-loop decreases-loop
+returns-2 : tie.Need-returns invariant-loop decreases-loop
 unfolding left
 returns-2 c =
     let l = c.before.before in
-    ends _ _ _ _ _ _ _ _ _ _ _ _ l.loop.invariant (start l).requires.1.1 c.before.loop-test.false
+    ends _ _ _ _ _ _ _ _ _ _ _ _ l.loop-p.invariant (start l).requires.1.1 c.before.loop-p-test.false
 
-pub any-under-spec : {M : Type 1} → statement M
-any-under-spec =
+pub any_under_spec : {M : Type 1} → statement M
+any_under_spec =
     tie.close
     (tie.spec
     invariant-loop

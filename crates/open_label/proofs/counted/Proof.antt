@@ -12,27 +12,27 @@ use Rattle.open_label.proofs.drops.Reads as drops-reads
 drops-requires : tie.Need-drops-requires
 drops-requires c κs = c.before.before.requires.0
 
-returns : tie.Need-returns
+returns : tie.Need-returns-then-drops
 returns c =
     let d = c.before.drops in (
       refl,
-      (record { gone = true; drops = rw c.if1.true at d.ensures; entries = omega arith; text = omega arith }, (omega arith, omega arith)),
+      (record { gone = true; drops = rw c.if-drops.true at d.ensures; entries = omega arith; text = omega arith }, (omega arith, omega arith)),
     )
 
-add-t8 : tie.Need-overflow-add-t8
+add-t8 : tie.Need-overflow_add-result
 add-t8 c = search rules
 
-cast-t9 : tie.Need-overflow-cast-t9
+cast-t9 : tie.Need-overflow_cast-result
 cast-t9 c = search rules
 
-add-t10 : tie.Need-overflow-add-t10
+add-t10 : tie.Need-overflow_add-result-2
 add-t10 c = search rules
 
-returns-2 : tie.Need-returns-2
+returns-2 : tie.Need-returns
 returns-2 c =
     let d = c.before.before.before.before.drops in (
       refl,
-      (record { gone = false; drops = rw c.before.before.before.if1.false at d.ensures; entries = refl; text = refl }, (omega arith, omega arith)),
+      (record { gone = false; drops = rw c.before.before.before.if-drops.false at d.ensures; entries = refl; text = refl }, (omega arith, omega arith)),
     )
 
 pub counted_spec : {M : Type 1} → statement M

@@ -9,15 +9,15 @@ use Rattle.open_label.proofs.covers.Tie as tie
 use Rattle.open_label.proofs.covers.Reads as reads
 use Rattle.open_label.proofs.covers.Lts as lts
 
-returns : tie.Need-returns
+returns : tie.Need-returns-then-p-at
 returns c =
     let a = c.before.args in
     ap (λ (t : Bool). t && not (eqb a.since 0)) (sym (le-ltb a.at a.p (omega arith)))
 
-returns-2 : tie.Need-returns-2
+returns-2 : tie.Need-returns
 returns-2 c =
     let a = c.before.args in
     ap (λ (t : Bool). t && not (eqb a.since 0)) (sym (lt-ltb a.at a.p (omega arith)))
 
-pub covers-spec : {M : Type 1} → statement M
-covers-spec = tie.close (tie.spec returns returns-2)
+pub covers_spec : {M : Type 1} → statement M
+covers_spec = tie.close (tie.spec returns returns-2)

@@ -5,13 +5,13 @@ use Rattle.open_label.proofs.drops.Tie as tie
 use Rattle.open_label.proofs.drops.Reads as reads
 use Rattle.open_label.proofs.drops.Lts as lts
 
-returns : tie.Need-returns
+returns : tie.Need-returns-then-e-ne2
 returns c =
-    let s = c.before.before in kept_told s.args.e s.args.o s.requires c.if1.true
+    let s = c.before.before in kept_told s.args.e s.args.o s.requires c.if-e-ne2.true
 
-returns-2 : tie.Need-returns-2
+returns-2 : tie.Need-returns
 returns-2 c =
-    let s = c.before.before.before in dropped_told s.args.e s.args.o s.requires c.before.if1.false
+    let s = c.before.before.before in dropped_told s.args.e s.args.o s.requires c.before.if-e-ne2.false
 
-pub drops-spec : {M : Type 1} → statement M
-drops-spec = tie.close (tie.spec returns returns-2)
+pub drops_spec : {M : Type 1} → statement M
+drops_spec = tie.close (tie.spec returns returns-2)

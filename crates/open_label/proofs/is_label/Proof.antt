@@ -13,77 +13,77 @@ use Rattle.open_label.proofs.is_label.Tie as tie
 use Rattle.open_label.proofs.is_label.Reads as reads
 use Rattle.open_label.proofs.is_label.Lts as lts
 
-abbrev invariant-loop : tie.invariant-loop
+abbrev invariant-loop : tie.invariant-loop-j
 invariant-loop text start len label j₀ j =
     (j ≤ len) × (length label ≡ len) × (start + len ≤ length text) × (same label (take len (drop start text)) ≡ same (drop j label) (take (len - j) (drop (start + j) text)))
 
-abbrev decreases-loop : tie.decreases-loop
+abbrev decreases-loop : tie.decreases-loop-j
 decreases-loop text start len label j₀ j = len - j
 
 -- at the loop: what the function was given
-abbrev start : tie.At-loop invariant-loop decreases-loop → tie.Start invariant-loop decreases-loop
+abbrev start : tie.At-loop-j invariant-loop decreases-loop → tie.Start invariant-loop decreases-loop
 start c = c.before.before
 
-returns : tie.Need-returns invariant-loop decreases-loop
+returns : tie.Need-returns-then-len-label invariant-loop decreases-loop
 returns c =
     let a = c.before.args in
     sym (same_lengths a.label.now (take a.len (drop a.start a.text.now))
-    (λ e. c.if1.true (omega (arith, e, length-take a.len (drop a.start a.text.now), length-drop a.start a.text.now, c.before.requires))))
+    (λ e. c.if-len-label.true (omega (arith, e, length-take a.len (drop a.start a.text.now), length-drop a.start a.text.now, c.before.requires))))
 
-loop-holds : tie.Need-loop-init invariant-loop decreases-loop
+loop-holds : tie.Need-loop-j-init invariant-loop decreases-loop
 loop-holds c =
     let a = c.before.args in
     let z : a.start + 0 ≡ a.start = omega arith in
     let y : a.len - 0 ≡ a.len = omega arith in
-    (omega arith, sym c.if1.false, c.before.requires, λ i. same a.label.now (take (sym y i) (drop (sym z i) a.text.now)))
+    (omega arith, sym c.if-len-label.false, c.before.requires, λ i. same a.label.now (take (sym y i) (drop (sym z i) a.text.now)))
 
-add-if2 : tie.Need-overflow-add-if2 invariant-loop decreases-loop
+add-if2 : tie.Need-overflow_add-start invariant-loop decreases-loop
 add-if2 c = search rules
 
-shared-slice-read-if2 : tie.Need-shared-slice-read-if2 invariant-loop decreases-loop
+shared-slice-read-if2 : tie.Need-bounds-text-start invariant-loop decreases-loop
 shared-slice-read-if2 c = search rules
 
-shared-slice-read-if2-2 : tie.Need-shared-slice-read-if2-2 invariant-loop decreases-loop
+shared-slice-read-if2-2 : tie.Need-bounds-label-j invariant-loop decreases-loop
 shared-slice-read-if2-2 c = search rules
 
-returns-2 : tie.Need-returns-2 invariant-loop decreases-loop
+returns-2 : tie.Need-returns-then-text-start invariant-loop decreases-loop
 returns-2 c =
     let l = c.before.before.before.before in
     let a = (start l).args in
-    let j = l.loop.j in
-    sym (l.loop.invariant.3 ∙ same_next j (a.start + j) (a.len - j) (a.len - (j + 1)) a.label.now a.text.now (omega arith) (omega arith) (omega arith)
-    ∙ ap (λ (t : Bool). t && same (drop (j + 1) a.label.now) (take (a.len - (j + 1)) (drop (a.start + j + 1) a.text.now))) (ne_eqb _ _ (λ e. c.if2.true (sym e))))
+    let j = l.loop-j.j in
+    sym (l.loop-j.invariant.3 ∙ same_next j (a.start + j) (a.len - j) (a.len - (j + 1)) a.label.now a.text.now (omega arith) (omega arith) (omega arith)
+    ∙ ap (λ (t : Bool). t && same (drop (j + 1) a.label.now) (take (a.len - (j + 1)) (drop (a.start + j + 1) a.text.now))) (ne_eqb _ _ (λ e. c.if-text-start.true (sym e))))
 
-add-j : tie.Need-overflow-add-j invariant-loop decreases-loop
+add-j : tie.Need-overflow_add-j invariant-loop decreases-loop
 add-j c = search rules
 
-loop-less : tie.Need-loop-smaller invariant-loop decreases-loop
+loop-less : tie.Need-loop-j-smaller invariant-loop decreases-loop
 loop-less c = search rules
 
-loop-again : tie.Need-loop-preserved invariant-loop decreases-loop
+loop-again : tie.Need-loop-j-preserved invariant-loop decreases-loop
 loop-again c =
     let l = c.before.before.before.before in
     let a = (start l).args in
-    let j = l.loop.j in
+    let j = l.loop-j.j in
     let z : a.start + j + 1 ≡ a.start + (j + 1) = omega arith in (
       search rules,
-      l.loop.invariant.1,
-      l.loop.invariant.2,
-      l.loop.invariant.3 ∙ same_next j (a.start + j) (a.len - j) (a.len - (j + 1)) a.label.now a.text.now (omega arith) (omega arith) (omega arith)
-          ∙ (λ i. eq-eqb _ _ (sym c.if2.false) i && same (drop (j + 1) a.label.now) (take (a.len - (j + 1)) (drop (z i) a.text.now))),
+      l.loop-j.invariant.1,
+      l.loop-j.invariant.2,
+      l.loop-j.invariant.3 ∙ same_next j (a.start + j) (a.len - j) (a.len - (j + 1)) a.label.now a.text.now (omega arith) (omega arith) (omega arith)
+          ∙ (λ i. eq-eqb _ _ (sym c.if-text-start.false) i && same (drop (j + 1) a.label.now) (take (a.len - (j + 1)) (drop (z i) a.text.now))),
     )
 
-returns-3 : tie.Need-returns-3 invariant-loop decreases-loop
+returns-3 : tie.Need-returns invariant-loop decreases-loop
 returns-3 c =
     let l = c.before in
     let a = (start l).args in
-    let j = l.loop.j in
-    let z : a.len - j ≡ 0 = omega (arith, c.loop-test.false) in
-    sym (l.loop.invariant.3 ∙ ap (λ (n : ℕ). same (drop j a.label.now) (take n (drop (a.start + j) a.text.now))) z
-    ∙ same_end j a.label.now (drop (a.start + j) a.text.now) (omega (arith, c.loop-test.false, l.loop.invariant.1)))
+    let j = l.loop-j.j in
+    let z : a.len - j ≡ 0 = omega (arith, c.loop-j-test.false) in
+    sym (l.loop-j.invariant.3 ∙ ap (λ (n : ℕ). same (drop j a.label.now) (take n (drop (a.start + j) a.text.now))) z
+    ∙ same_end j a.label.now (drop (a.start + j) a.text.now) (omega (arith, c.loop-j-test.false, l.loop-j.invariant.1)))
 
-pub is-label-spec : {M : Type 1} → statement M
-is-label-spec =
+pub is_label_spec : {M : Type 1} → statement M
+is_label_spec =
     tie.close
     (tie.spec
     invariant-loop

@@ -16,65 +16,65 @@ use Rattle.open_label.proofs.is_label.Reads as is-label-reads
 abbrev own : tie.Start → Bool
 own s = same s.args.label.now (part_of s.args.text.now s.args.e)
 
-add-depth : tie.Need-overflow-add-depth
+add-depth : tie.Need-overflow_add-depth
 add-depth c = search rules
 
-returns : tie.Need-returns
+returns : tie.Need-returns-then-o-ne0
 returns c =
     let s = c.before.before.before.before.before.before.before in
-    (push_told _ _ _ _ _ c.before.before.before.if1.true refl (push_open (own s) s.args.o.depth s.args.o.since c.if2.true), omega arith)
+    (push_told _ _ _ _ _ c.before.before.before.if-e-eq0.true refl (push_open (own s) s.args.o.depth s.args.o.since c.if-o-ne0.true), omega arith)
 
-cast-is-label : tie.Need-overflow-cast-is-label
+cast-is-label : tie.Need-overflow_cast-e
 cast-is-label c = search rules
 
-cast-is-label-2 : tie.Need-overflow-cast-is-label-2
+cast-is-label-2 : tie.Need-overflow_cast-e-then-e-eq0
 cast-is-label-2 c = search rules
 
-is-label-requires : tie.Need-is-label-requires
+is-label-requires : tie.Need-is_label-requires
 is-label-requires c κs = search rules
 
-returns-2 : tie.Need-returns-2
+returns-2 : tie.Need-returns-then-is_label
 returns-2 c =
     let s = c.before.before.before.before.before.before.before.before.before.before.before in (
-      push_told _ _ _ _ _ c.before.before.before.before.before.before.before.if1.true refl
-          (push_first (own s) s.args.o.depth s.args.o.since c.before.before.before.before.if2.false (sym c.before.is-label.ensures ∙ c.if3.true)),
+      push_told _ _ _ _ _ c.before.before.before.before.before.before.before.if-e-eq0.true refl
+          (push_first (own s) s.args.o.depth s.args.o.since c.before.before.before.before.if-o-ne0.false (sym c.before.is_label.ensures ∙ c.if-is_label.true)),
       omega arith,
     )
 
-returns-3 : tie.Need-returns-3
+returns-3 : tie.Need-returns-then-e-eq0
 returns-3 c =
     let s = c.before.before.before.before.before.before.before.before.before.before.before in (
-      push_told _ _ _ _ _ c.before.before.before.before.before.before.before.if1.true refl
-          (push-other (own s) s.args.o.depth s.args.o.since c.before.before.before.before.if2.false (sym c.before.is-label.ensures ∙ c.if3.false)),
+      push_told _ _ _ _ _ c.before.before.before.before.before.before.before.if-e-eq0.true refl
+          (push-other (own s) s.args.o.depth s.args.o.since c.before.before.before.before.if-o-ne0.false (sym c.before.is_label.ensures ∙ c.if-is_label.false)),
       omega arith,
     )
 
-returns-4 : tie.Need-returns-4
+returns-4 : tie.Need-returns-then-e-ne1
 returns-4 c =
-    (raw_told _ _ _ _ c.before.before.if1.false c.if4.true, omega arith)
+    (raw_told _ _ _ _ c.before.before.if-e-eq0.false c.if-e-ne1.true, omega arith)
 
-returns-5 : tie.Need-returns-5
+returns-5 : tie.Need-returns-then-o-eq0
 returns-5 c =
-    (none_told _ _ _ _ c.before.before.if4.false c.if5.true, omega arith)
+    (none_told _ _ _ _ c.before.before.if-e-ne1.false c.if-o-eq0.true, omega arith)
 
-sub-t11 : tie.Need-overflow-sub-t11
+sub-t11 : tie.Need-overflow_sub-result
 sub-t11 c = search rules
 
-returns-6 : tie.Need-returns-6
+returns-6 : tie.Need-returns-then-o
 returns-6 c =
     let s = c.before.before.before.before.before.before.before.before.before.before.before in
-    (pop_told _ _ _ _ _ c.before.before.before.before.before.if4.false refl (pop_outermost s.args.o.depth s.args.o.since c.before.if6.true), omega arith)
+    (pop_told _ _ _ _ _ c.before.before.before.before.before.if-e-ne1.false refl (pop_outermost s.args.o.depth s.args.o.since c.before.if-o.true), omega arith)
 
-sub-t12 : tie.Need-overflow-sub-t12
+sub-t12 : tie.Need-overflow_sub-result-2
 sub-t12 c = search rules
 
-returns-7 : tie.Need-returns-7
+returns-7 : tie.Need-returns
 returns-7 c =
     let s = c.before.before.before.before.before.before.before.before.before.before.before in
-    (pop_told _ _ _ _ _ c.before.before.before.before.before.if4.false refl (pop_inner s.args.o.depth s.args.o.since c.before.if6.false), omega arith)
+    (pop_told _ _ _ _ _ c.before.before.before.before.before.if-e-ne1.false refl (pop_inner s.args.o.depth s.args.o.since c.before.if-o.false), omega arith)
 
-pub opened-spec : {M : Type 1} → statement M
-opened-spec =
+pub opened_spec : {M : Type 1} → statement M
+opened_spec =
     tie.close
     (tie.spec
     add-depth

@@ -20,101 +20,101 @@ use Rattle.open_label.proofs.opened.Reads as opened-reads
 use Rattle.open_label.proofs.unopened.Reads as unopened-reads
 use Rattle.recording.proofs.entry_at.Reads as entry-at-reads
 
-abbrev invariant-loop : tie.invariant-loop
+abbrev invariant-loop : tie.invariant-loop-k
 invariant-loop content entries text label o₀ n₀ k₀ o n k =
     (k ≤ length entries) × Scanning label content text (entries_of entries) (entries_of (drop k entries)) o n k
 
-abbrev decreases-loop : tie.decreases-loop
+abbrev decreases-loop : tie.decreases-loop-k
 decreases-loop content entries text label o₀ n₀ k₀ o n k = length entries - k
 
 -- at the loop: what the function was given
-abbrev start : tie.At-loop invariant-loop decreases-loop → tie.Start invariant-loop decreases-loop
+abbrev start : tie.At-loop-k invariant-loop decreases-loop → tie.Start invariant-loop decreases-loop
 start c = c.before.before.before.before.before
 
 -- at the loop: the state, with these entries left
-abbrev Left : tie.At-loop invariant-loop decreases-loop → List Entry → Type 0
+abbrev Left : tie.At-loop-k invariant-loop decreases-loop → List Entry → Type 0
 Left c es =
     let a = (start c).args in
-    Scanning a.label.now a.content.now a.text.now (entries_of a.entries.now) es c.loop.o c.loop.n c.loop.k
+    Scanning a.label.now a.content.now a.text.now (entries_of a.entries.now) es c.loop-k.o c.loop-k.n c.loop-k.k
 
 -- in a turn: the entry that was read is the first of them
-front : (c : tie.After-entry-at invariant-loop decreases-loop)
-    → Left c.before.before (c.entry_at.result ∷ entries_of (drop (c.before.before.loop.k + 4) (start c.before.before).args.entries.now))
-front c = subst (Left c.before.before) c.entry_at.ensures c.before.before.loop.invariant.1
+front : (c : tie.After-entry_at-e invariant-loop decreases-loop)
+    → Left c.before.before (c.entry_at-e.result ∷ entries_of (drop (c.before.before.loop-k.k + 4) (start c.before.before).args.entries.now))
+front c = subst (Left c.before.before) c.entry_at-e.ensures c.before.before.loop-k.invariant.1
 
 -- behind the loop: no entry is left
-none : (c : tie.After-loop invariant-loop decreases-loop) → entries_of (drop c.before.loop.k (start c.before).args.entries.now) ≡ []
+none : (c : tie.After-loop-k invariant-loop decreases-loop) → entries_of (drop c.before.loop-k.k (start c.before).args.entries.now) ≡ []
 none c =
     let a = (start c.before).args in
-    entries_few (drop c.before.loop.k a.entries.now) (omega (arith, length-drop c.before.loop.k a.entries.now, c.loop-test.false, c.before.loop.invariant.0))
+    entries_few (drop c.before.loop-k.k a.entries.now) (omega (arith, length-drop c.before.loop-k.k a.entries.now, c.loop-k-test.false, c.before.loop-k.invariant.0))
 
-loop-holds : tie.Need-loop-init invariant-loop decreases-loop
+loop-holds : tie.Need-loop-k-init invariant-loop decreases-loop
 loop-holds c = (omega arith, scan_first _ _ _ _ _ _ c.before.before.before.before.requires.0.valid refl refl refl refl refl)
 
-add-loop : tie.Need-overflow-add-loop invariant-loop decreases-loop
-add-loop c = omega (arith, c.loop.invariant.0, (start c).requires.1.0)
+add-loop : tie.Need-overflow_add-k invariant-loop decreases-loop
+add-loop c = omega (arith, c.loop-k.invariant.0, (start c).requires.1.0)
 
-entry-at-requires : tie.Need-entry-at-requires invariant-loop decreases-loop
-entry-at-requires c κs = c.loop-test.true
+entry-at-requires : tie.Need-entry_at-e-requires invariant-loop decreases-loop
+entry-at-requires c κs = c.loop-k-test.true
 
 unopened-requires : tie.Need-unopened-requires invariant-loop decreases-loop
 unopened-requires c κs = search rules
 
-returns : tie.Need-returns invariant-loop decreases-loop
+returns : tie.Need-returns-then-unopened invariant-loop decreases-loop
 unfolding ScanTold
 returns c =
     let l = c.before.before.before.before in
     let a = (start l).args in
-    let b = refused _ _ _ _ _ _ _ _ _ (front c.before.before) (start l).requires.1.1 (sym c.before.unopened.ensures ∙ c.if1.true) in
+    let b = refused _ _ _ _ _ _ _ _ _ (front c.before.before) (start l).requires.1.1 (sym c.before.unopened.ensures ∙ c.if-unopened.true) in
     (fault_open a.content.now a.entries.now a.text.now b, tt)
 
-opened-requires : tie.Need-opened-requires invariant-loop decreases-loop
+opened-requires : tie.Need-opened-behind-requires invariant-loop decreases-loop
 opened-requires c κs =
     let l = c.before.before.before.before in
-    ((ok _ _ _ _ _ _ _ _ _ (front c.before.before) (start l).requires.1.1).2, omega (arith, l.loop.invariant.0, l.loop.invariant.1.depth, (start l).requires.1.0))
+    ((ok _ _ _ _ _ _ _ _ _ (front c.before.before) (start l).requires.1.1).2, omega (arith, l.loop-k.invariant.0, l.loop-k.invariant.1.depth, (start l).requires.1.0))
 
-counted-requires : tie.Need-counted-requires invariant-loop decreases-loop
+counted-requires : tie.Need-counted-n-requires invariant-loop decreases-loop
 counted-requires c κs =
     let l = c.before.before.before.before.before in
-    let s = l.loop.invariant.1 in (
+    let s = l.loop-k.invariant.1 in (
       (ok _ _ _ _ _ _ _ _ _ (front c.before.before.before) (start l).requires.1.1).1,
-      (omega (arith, l.loop.invariant.0, s.few, (start l).requires.1.0), omega (arith, l.loop.invariant.0, s.short, (start l).requires.1.0)),
+      (omega (arith, l.loop-k.invariant.0, s.few, (start l).requires.1.0), omega (arith, l.loop-k.invariant.0, s.short, (start l).requires.1.0)),
     )
 
-add-k : tie.Need-overflow-add-k invariant-loop decreases-loop
-add-k c = omega (arith, c.before.before.before.before.before.before.loop.invariant.0, (start c.before.before.before.before.before.before).pre.1.0)
+add-k : tie.Need-overflow_add-k-in-loop-k invariant-loop decreases-loop
+add-k c = omega (arith, c.before.before.before.before.before.before.loop-k.invariant.0, (start c.before.before.before.before.before.before).requires.1.0)
 
-loop-less : tie.Need-loop-smaller invariant-loop decreases-loop
-loop-less c = omega (arith, c.before.before.before.before.before.loop-test.true)
+loop-less : tie.Need-loop-k-smaller invariant-loop decreases-loop
+loop-less c = omega (arith, c.before.before.before.before.before.loop-k-test.true)
 
-loop-again : tie.Need-loop-preserved invariant-loop decreases-loop
+loop-again : tie.Need-loop-k-preserved invariant-loop decreases-loop
 loop-again c =
     let turn = c.before.before.before.before in
     let l = turn.before.before in
-    let o = c.before.opened.ensures in
-    let n = c.counted.ensures in (
-      turn.before.loop-test.true,
-      goes _ _ _ _ _ _ _ _ _ (front turn) (start l).requires.1.1 (sym c.before.before.before.unopened.ensures ∙ c.before.before.if1.false) _ o.0 o.1 _ n.0 n.1.0 n.1.1,
+    let o = c.before.opened-behind.ensures in
+    let n = c.counted-n.ensures in (
+      turn.before.loop-k-test.true,
+      goes _ _ _ _ _ _ _ _ _ (front turn) (start l).requires.1.1 (sym c.before.before.before.unopened.ensures ∙ c.before.before.if-unopened.false) _ o.0 o.1 _ n.0 n.1.0 n.1.1,
     )
 
-returns-2 : tie.Need-returns-2 invariant-loop decreases-loop
+returns-2 : tie.Need-returns-then-o-ne0 invariant-loop decreases-loop
 unfolding ScanTold
 returns-2 c =
     let l = c.before.before.before in
     let a = (start l).args in
-    (fault_open a.content.now a.entries.now a.text.now (last_open _ _ a.entries.now _ _ _ _ _ l.loop.invariant.1 (none c.before.before) c.if2.true), tt)
+    (fault_open a.content.now a.entries.now a.text.now (last_open _ _ a.entries.now _ _ _ _ _ l.loop-k.invariant.1 (none c.before.before) c.if-o-ne0.true), tt)
 
-returns-3 : tie.Need-returns-3 invariant-loop decreases-loop
+returns-3 : tie.Need-returns invariant-loop decreases-loop
 returns-3 c =
     let l = c.before.before.before in
     let a = (start l).args in
-    let s = l.loop.invariant.1 in (
-      fault_none a.content.now a.entries.now a.text.now _ (last_closed _ _ a.entries.now _ _ _ _ _ s (none c.before.before) c.if2.false),
+    let s = l.loop-k.invariant.1 in (
+      fault_none a.content.now a.entries.now a.text.now _ (last_closed _ _ a.entries.now _ _ _ _ _ s (none c.before.before) c.if-o-ne0.false),
       last_told _ _ a.entries.now _ _ _ _ _ s (none c.before.before),
     )
 
-pub scan-spec : {M : Type 1} → statement M
-scan-spec =
+pub scan_spec : {M : Type 1} → statement M
+scan_spec =
     tie.close
     (tie.spec
     invariant-loop

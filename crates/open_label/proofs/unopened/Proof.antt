@@ -8,15 +8,15 @@ use Rattle.open_label.proofs.unopened.Tie as tie
 use Rattle.open_label.proofs.unopened.Reads as reads
 use Rattle.open_label.proofs.unopened.Lts as lts
 
-returns : tie.Need-returns
+returns : tie.Need-returns-then-e-ne1
 returns c =
     let a = c.before.before.args in
-    ap (λ (t : Bool). t && eqb a.o.depth 0) (sym (ne_eqb a.e.kind 1 c.if1.true))
+    ap (λ (t : Bool). t && eqb a.o.depth 0) (sym (ne_eqb a.e.kind 1 c.if-e-ne1.true))
 
-returns-2 : tie.Need-returns-2
+returns-2 : tie.Need-returns
 returns-2 c =
     let a = c.before.before.before.args in
-    ap (λ (t : Bool). t && eqb a.o.depth 0) (sym (eq-eqb a.e.kind 1 c.before.if1.false))
+    ap (λ (t : Bool). t && eqb a.o.depth 0) (sym (eq-eqb a.e.kind 1 c.before.if-e-ne1.false))
 
-pub unopened-spec : {M : Type 1} → statement M
-unopened-spec = tie.close (tie.spec returns returns-2)
+pub unopened_spec : {M : Type 1} → statement M
+unopened_spec = tie.close (tie.spec returns returns-2)

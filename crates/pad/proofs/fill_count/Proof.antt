@@ -8,21 +8,21 @@ use Rattle.pad.proofs.fill_count.Reads as reads
 use Rattle.pad.proofs.fill_count.Lts as lts
 use Rattle.chars.proofs.text_width.Reads as text-width-reads
 
-text-width-requires : tie.Need-text-width-requires
+text-width-requires : tie.Need-text_width-w-requires
 text-width-requires c κs = search rules
 
-returns : tie.Need-returns
+returns : tie.Need-returns-then-min-w
 unfolding fill_count_of
 returns c =
-    (omega (arith, c.before.text-width.ensures.0, c.if1.true), omega arith)
+    (omega (arith, c.before.text_width-w.ensures.0, c.if-min-w.true), omega arith)
 
-sub-result : tie.Need-overflow-sub-result
+sub-result : tie.Need-overflow_sub-result
 sub-result c = search rules
 
-returns-2 : tie.Need-returns-2
+returns-2 : tie.Need-returns
 unfolding fill_count_of
 returns-2 c =
-    (omega (arith, c.before.text-width.ensures.0, c.if1.false), omega (arith, c.before.before.before.ranges))
+    (omega (arith, c.before.text_width-w.ensures.0, c.if-min-w.false), omega (arith, c.before.before.before.ranges))
 
-pub fill-count-spec : {M : Type 1} → statement M
-fill-count-spec = tie.close (tie.spec text-width-requires returns sub-result returns-2)
+pub fill_count_spec : {M : Type 1} → statement M
+fill_count_spec = tie.close (tie.spec text-width-requires returns sub-result returns-2)

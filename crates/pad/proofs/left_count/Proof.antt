@@ -9,30 +9,30 @@ use Rattle.pad.proofs.left_count.Tie as tie
 use Rattle.pad.proofs.left_count.Reads as reads
 use Rattle.pad.proofs.left_count.Lts as lts
 
-enum_told : tie.Need-enum-told
+enum_told : tie.Need-enum_told-1
 enum_told c = search rules
 
-enum-told-2 : tie.Need-enum-told-2
+enum-told-2 : tie.Need-enum_told-in-End
 enum-told-2 c = search rules
 
-enum-told-3 : tie.Need-enum-told-3
+enum-told-3 : tie.Need-enum_told-in-Centered
 enum-told-3 c = search rules
 
-returns : tie.Need-returns
+returns : tie.Need-returns-in-Start
 unfolding left_of
 returns c =
-    (sym (ap (λ (s : Side). left_of s c.before.before.args.n) c.enum_told.given.1), omega arith)
+    (sym (ap (λ (s : Side). left_of s c.before.before.args.n) c.enum_told-1.given.1), omega arith)
 
-returns-2 : tie.Need-returns-2
+returns-2 : tie.Need-returns-in-End
 unfolding left_of
 returns-2 c =
-    (sym (ap (λ (s : Side). left_of s c.before.before.args.n) c.enum-told2.given.1), omega arith)
+    (sym (ap (λ (s : Side). left_of s c.before.before.args.n) c.enum_told-in-End-1.given.1), omega arith)
 
-returns-3 : tie.Need-returns-3
+returns-3 : tie.Need-returns-in-Centered
 unfolding left_of
 returns-3 c =
-    (sym (ap (λ (s : Side). left_of s c.before.before.args.n) c.enum-told3.given.1), omega arith)
+    (sym (ap (λ (s : Side). left_of s c.before.before.args.n) c.enum_told-in-Centered-1.given.1), omega arith)
 
-pub left-count-spec : {M : Type 1} → statement M
-left-count-spec =
+pub left_count_spec : {M : Type 1} → statement M
+left_count_spec =
     tie.close (tie.spec enum_told enum-told-2 enum-told-3 returns returns-2 returns-3)

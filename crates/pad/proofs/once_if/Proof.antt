@@ -6,13 +6,13 @@ use Rattle.pad.proofs.once_if.Tie as tie
 use Rattle.pad.proofs.once_if.Reads as reads
 use Rattle.pad.proofs.once_if.Lts as lts
 
-returns : tie.Need-returns
+returns : tie.Need-returns-then-count-eq0
 returns c =
-    (once_none _ c.if1.true, omega arith)
+    (once_none _ c.if-count-eq0.true, omega arith)
 
-returns-2 : tie.Need-returns-2
+returns-2 : tie.Need-returns
 returns-2 c =
     (once_more _ (omega arith), omega arith)
 
-pub once-if-spec : {M : Type 1} → statement M
-once-if-spec = tie.close (tie.spec returns returns-2)
+pub once_if_spec : {M : Type 1} → statement M
+once_if_spec = tie.close (tie.spec returns returns-2)

@@ -11,45 +11,45 @@ use Rattle.pad.proofs.put_padding.Reads as put-padding-reads
 use Rattle.writer.proofs.put_recording.Reads as put-recording-reads
 
 -- ── the places on the way: after the fill before the content, after the content, after the fill behind it
-abbrev start : tie.After-put-padding → tie.Start
+abbrev start : tie.After-put_padding-a → tie.Start
 start c = c.before.before.before.before.before.before.before.before.before.before.before.before.before
 
-abbrev left-done : tie.After-put-recording → tie.After-put-padding
+abbrev left-done : tie.After-put_recording-b → tie.After-put_padding-a
 left-done c = c.before.before.before.before.before.before.before.before.before.before
 
-abbrev content-done : tie.After-put-padding2 → tie.After-put-recording
+abbrev content-done : tie.After-put_padding → tie.After-put_recording-b
 content-done c = c.before.before.before.before.before.before.before.before.before.before
 
 -- ── what is asked on the way
-put-padding-requires : tie.Need-put-padding-requires
+put-padding-requires : tie.Need-put_padding-a-requires
 unfolding out
 put-padding-requires c κs =
     let z = c.before.before.before.before.before.before.before.before.before.before.before.before.requires in
     (z.0.1, room_before _ _ _ _ _ z.1)
 
-put-recording-requires : tie.Need-put-recording-requires
+put-recording-requires : tie.Need-put_recording-b-requires
 unfolding out
 put-recording-requires c κs =
     let l = c.before.before.before.before.before.before.before.before.before in
-    ((start l).requires.0.0, room_content _ _ _ _ _ (start l).requires.1 _ l.put-padding.ensures)
+    ((start l).requires.0.0, room_content _ _ _ _ _ (start l).requires.1 _ l.put_padding-a.ensures)
 
-put-padding-requires-2 : tie.Need-put-padding-requires-2
+put-padding-requires-2 : tie.Need-put_padding-requires
 unfolding out
 put-padding-requires-2 c κs =
     let m = c.before.before.before.before.before.before.before.before.before in
     let l = left-done m in
-    ((start l).pre.0.1, room_behind _ _ _ _ _ (start l).pre.1 _ l.put-padding.ensures _ m.put-recording.ensures.0)
+    ((start l).requires.0.1, room_behind _ _ _ _ _ (start l).requires.1 _ l.put_padding-a.ensures _ m.put_recording-b.ensures.0)
 
-same_length : tie.Need-same-length
+same_length : tie.Need-shape_of-bytes
 same_length c =
     let r = c.before.before.before.before.before.before in
     let m = content-done r in
-    r.put-padding2.auto.0 ∙ m.put-recording.kept.0 ∙ (left-done m).put-padding.kept.0
+    r.put_padding.auto.0 ∙ m.put_recording-b.kept.0 ∙ (left-done m).put_padding-a.kept.0
 
-same-length-2 : tie.Need-same-length-2
+same-length-2 : tie.Need-shape_of-numbers
 same-length-2 c = search rules
 
-same-length-3 : tie.Need-same-length-3
+same-length-3 : tie.Need-shape_of-texts
 same-length-3 c = search rules
 
 returns : tie.Need-returns
@@ -58,10 +58,10 @@ returns c =
     let r = c.before.before.before.before.before.before in
     let m = content-done r in
     let l = left-done m in
-    all_three _ _ _ _ _ (start l).pre.1 _ l.put-padding.ensures _ m.put-recording.ensures.0 _ r.put-padding2.ensures
+    all_three _ _ _ _ _ (start l).requires.1 _ l.put_padding-a.ensures _ m.put_recording-b.ensures.0 _ r.put_padding.ensures
 
-pub put-padded-spec : {M : Type 1} → statement M
-put-padded-spec =
+pub put_padded_spec : {M : Type 1} → statement M
+put_padded_spec =
     tie.close
     (tie.spec
     put-padding-requires

@@ -34,107 +34,107 @@ module _ (n : ℕ) (ds ns ts od oe ot : List ℕ) (c : Cursor) (more : n ≡ 0 �
   unfolding out
   back_to = ap (λ (l : List Item). add l (out od oe ot c)) (sym (padding_more n (items (recording ds ns ts)) more))
 
-abbrev invariant-loop : tie.invariant-loop
+abbrev invariant-loop : tie.invariant-loop-p
 invariant-loop bytes₀ numbers₀ texts₀ fill entries text n f₀ p₀ bytes numbers texts f p =
     State n fill entries text (out bytes₀ numbers₀ texts₀ f₀) (out bytes numbers texts f) f p
 
-abbrev decreases-loop : tie.decreases-loop
+abbrev decreases-loop : tie.decreases-loop-p
 decreases-loop bytes₀ numbers₀ texts₀ fill entries text n f₀ p₀ bytes numbers texts f p =
     length entries - f.k
 
 -- ── the places on the way, and what is known there
 -- at the loop
-abbrev start : tie.At-loop invariant-loop decreases-loop → tie.Start invariant-loop decreases-loop
+abbrev start : tie.At-loop-p invariant-loop decreases-loop → tie.Start invariant-loop decreases-loop
 start c = c.before.before.before.before.before.before.before.before.before
 
-room : (c : tie.At-loop invariant-loop decreases-loop)
-    → let a = (start c).args in Fits (repeat_pieces a.n [] (items (recording a.fill.now a.entries.now a.text.now))) (out a.bytes.now a.numbers.now a.texts.now (from a.c))
-room c = room_of _ _ _ _ _ _ _ _ c.before.before.if1.false (start c).requires.1
+room : (c : tie.At-loop-p invariant-loop decreases-loop)
+    → let a = (start c).args in Fits (repeat_pieces a.n [] (items (recording a.fill.now a.entries.now a.text.now))) (out a.bytes-1.now a.numbers-1.now a.texts-1.now (from a.c))
+room c = room_of _ _ _ _ _ _ _ _ c.before.before.if-n-eq0.false (start c).requires.1
 
 -- in a turn
-whole : (c : tie.In-loop invariant-loop decreases-loop) → c.before.loop.f.k + 4 ≤ length (start c.before).args.entries.now
-whole c = entire _ _ _ _ _ _ _ _ _ _ _ _ _ c.before.loop.invariant (room c.before) c.loop-test.true
+whole : (c : tie.In-loop-p invariant-loop decreases-loop) → c.before.loop-p.f.k + 4 ≤ length (start c.before).args.entries.now
+whole c = entire _ _ _ _ _ _ _ _ _ _ _ _ _ c.before.loop-p.invariant (room c.before) c.loop-p-test.true
 
-abbrev turn : tie.After-put-times invariant-loop decreases-loop → tie.In-loop invariant-loop decreases-loop
+abbrev turn : tie.After-put_times-f invariant-loop decreases-loop → tie.In-loop-p invariant-loop decreases-loop
 turn c = c.before.before.before
 
-abbrev times : tie.After-put-entry invariant-loop decreases-loop → tie.After-put-times invariant-loop decreases-loop
+abbrev times : tie.After-put_entry-f invariant-loop decreases-loop → tie.After-put_times-f invariant-loop decreases-loop
 times c = c.before.before.before.before.before
 
 -- ── what is asked on the way
-returns : tie.Need-returns invariant-loop decreases-loop
+returns : tie.Need-returns-then-n-eq0 invariant-loop decreases-loop
 returns c =
     let a = c.before.before.before.before.before.before.before.args in
-    add-nil _ ∙ ap (λ (l : List Item). add l (out a.bytes.now a.numbers.now a.texts.now a.c)) (sym (padding-zero a.n _ c.if1.true))
+    add-nil _ ∙ ap (λ (l : List Item). add l (out a.bytes-1.now a.numbers-1.now a.texts-1.now a.c)) (sym (padding-zero a.n _ c.if-n-eq0.true))
 
-place-at-requires : tie.Need-place-at-requires invariant-loop decreases-loop
+place-at-requires : tie.Need-place_at-p-requires invariant-loop decreases-loop
 place-at-requires c κs = search rules
 
-loop-holds : tie.Need-loop-init invariant-loop decreases-loop
+loop-holds : tie.Need-loop-p-init invariant-loop decreases-loop
 loop-holds c =
-    state_first _ _ _ _ _ _ _ refl refl c.before.before.before.before.before.before.before.before.requires.0 c.place_at.ensures
+    state_first _ _ _ _ _ _ _ refl refl c.before.before.before.before.before.before.before.before.requires.0 c.place_at-p.ensures
 
-entry-at-requires : tie.Need-entry-at-requires invariant-loop decreases-loop
+entry-at-requires : tie.Need-entry_at-e-requires invariant-loop decreases-loop
 entry-at-requires c κs = whole c
 
-put-times-requires : tie.Need-put-times-requires invariant-loop decreases-loop
+put-times-requires : tie.Need-put_times-f-requires invariant-loop decreases-loop
 put-times-requires c κs =
     let t = c.before.before in
-    times_asked _ _ _ _ _ _ _ _ _ _ _ _ _ t.before.loop.invariant (room t.before) t.loop-test.true _ c.before.entry_at.ensures
+    times_asked _ _ _ _ _ _ _ _ _ _ _ _ _ t.before.loop-p.invariant (room t.before) t.loop-p-test.true _ c.before.entry_at-e.ensures
 
-put-entry-requires : tie.Need-put-entry-requires invariant-loop decreases-loop
+put-entry-requires : tie.Need-put_entry-f-requires invariant-loop decreases-loop
 put-entry-requires c κs =
     let b = c.before.before.before.before in
     let t = turn b in
-    entry_asked _ _ _ _ _ _ _ _ _ _ _ _ _ t.before.loop.inv (room t.before) t.loop-test.taken _ b.before.before.entry_at.ensures
-    _ b.put-times.ensures.0 (omega (arith, (start t.before).good))
+    entry_asked _ _ _ _ _ _ _ _ _ _ _ _ _ t.before.loop-p.invariant (room t.before) t.loop-p-test.true _ b.before.before.entry_at-e.ensures
+    _ b.put_times-f.ensures.0 (omega (arith, (start t.before).good))
 
-place-at-requires-2 : tie.Need-place-at-requires-2 invariant-loop decreases-loop
+place-at-requires-2 : tie.Need-place_at-p-requires-in-loop-p invariant-loop decreases-loop
 place-at-requires-2 c κs =
     let e = c.before.before.before.before in
-    omega (arith, whole (turn (times e)), (times e).put-times.ensures.0.1, e.put-entry.ensures.0.1)
+    omega (arith, whole (turn (times e)), (times e).put_times-f.ensures.0.1, e.put_entry-f.ensures.0.1)
 
-loop-less : tie.Need-loop-smaller invariant-loop decreases-loop
+loop-less : tie.Need-loop-p-smaller invariant-loop decreases-loop
 loop-less c =
     let e = c.before.before.before.before.before in
-    omega (arith, whole (turn (times e)), (times e).put-times.ensures.0.1, e.put-entry.ensures.0.1)
+    omega (arith, whole (turn (times e)), (times e).put_times-f.ensures.0.1, e.put_entry-f.ensures.0.1)
 
-loop-again : tie.Need-loop-preserved invariant-loop decreases-loop
+loop-again : tie.Need-loop-p-preserved invariant-loop decreases-loop
 loop-again c =
     let e = c.before.before.before.before.before in
     let b = times e in
     let t = turn b in
-    turned _ _ _ _ _ _ _ _ _ _ _ _ _ t.before.loop.inv (room t.before) t.loop-test.taken _ b.before.before.entry_at.ensures
-    _ _ _ _ _ _ b.put-times.ensures.1 b.put-times.ensures.0 e.put-entry.ensures.0 e.put-entry.ensures.1.0 e.put-entry.ensures.1.1 c.place-at2.ensures
+    turned _ _ _ _ _ _ _ _ _ _ _ _ _ t.before.loop-p.invariant (room t.before) t.loop-p-test.true _ b.before.before.entry_at-e.ensures
+    _ _ _ _ _ _ b.put_times-f.ensures.1 b.put_times-f.ensures.0 e.put_entry-f.ensures.0 e.put_entry-f.ensures.1.0 e.put_entry-f.ensures.1.1 c.place_at-p-in-loop-p.ensures
 
-put-times-requires-2 : tie.Need-put-times-requires-2 invariant-loop decreases-loop
+put-times-requires-2 : tie.Need-put_times-requires invariant-loop decreases-loop
 put-times-requires-2 c κs =
     let l = c.before.before in
-    last_asked _ _ _ _ _ _ _ _ _ _ _ _ _ l.loop.invariant (room l) c.before.loop-test.false
+    last_asked _ _ _ _ _ _ _ _ _ _ _ _ _ l.loop-p.invariant (room l) c.before.loop-p-test.false
 
-same_length : tie.Need-same-length invariant-loop decreases-loop
+same_length : tie.Need-shape_of-bytes invariant-loop decreases-loop
 same_length c =
     let l = c.before.before.before.before.before in
-    c.before.before.put-times2.auto.0 ∙ (now_long _ _ _ _ _ _ _ _ _ _ _ _ _ l.loop.invariant (room l)).0
+    c.before.before.put_times.auto.0 ∙ (now_long _ _ _ _ _ _ _ _ _ _ _ _ _ l.loop-p.invariant (room l)).0
 
-same-length-2 : tie.Need-same-length-2 invariant-loop decreases-loop
+same-length-2 : tie.Need-shape_of-numbers invariant-loop decreases-loop
 same-length-2 c =
     let l = c.before.before.before.before.before in
-    (now_long _ _ _ _ _ _ _ _ _ _ _ _ _ l.loop.invariant (room l)).1
+    (now_long _ _ _ _ _ _ _ _ _ _ _ _ _ l.loop-p.invariant (room l)).1
 
-same-length-3 : tie.Need-same-length-3 invariant-loop decreases-loop
+same-length-3 : tie.Need-shape_of-texts invariant-loop decreases-loop
 same-length-3 c =
     let l = c.before.before.before.before.before in
-    (now_long _ _ _ _ _ _ _ _ _ _ _ _ _ l.loop.invariant (room l)).2
+    (now_long _ _ _ _ _ _ _ _ _ _ _ _ _ l.loop-p.invariant (room l)).2
 
-returns-2 : tie.Need-returns-2 invariant-loop decreases-loop
+returns-2 : tie.Need-returns invariant-loop decreases-loop
 returns-2 c =
-    let b = c.before.before.put-times2.ensures in
+    let b = c.before.before.put_times.ensures in
     let l = c.before.before.before.before.before in
-    ended _ _ _ _ _ _ _ _ _ _ _ _ _ l.loop.invariant (room l) c.before.before.before.before.loop-test.false _ _ b.1 b.0 ∙ back_to _ _ _ _ _ _ _ _ l.before.before.if1.false
+    ended _ _ _ _ _ _ _ _ _ _ _ _ _ l.loop-p.invariant (room l) c.before.before.before.before.loop-p-test.false _ _ b.1 b.0 ∙ back_to _ _ _ _ _ _ _ _ l.before.before.if-n-eq0.false
 
-pub put-padding-spec : {M : Type 1} → statement M
-put-padding-spec =
+pub put_padding_spec : {M : Type 1} → statement M
+put_padding_spec =
     tie.close
     (tie.spec
     invariant-loop

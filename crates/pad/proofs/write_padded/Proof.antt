@@ -48,113 +48,113 @@ given s =
       fs = a.fill.now;
       gs = a.fill-entries.now;
       us = a.fill-text.now;
-      od = a.bytes.now;
-      oe = a.numbers.now;
-      ot = a.texts.now;
+      od = a.bytes-1.now;
+      oe = a.numbers-1.now;
+      ot = a.texts-1.now;
     }
 
 -- once both recordings are checked
-abbrev start : tie.After-checked2 → tie.Start
+abbrev start : tie.In-Fine-2 → tie.Start
 start c = c.before.before.before.before.before.before.before.before.before.before.before.before
 
-abbrev sizes : tie.After-checked2 → TextSizes
-sizes c = c.checked2.given.0.0
+abbrev sizes : tie.In-Fine-2 → TextSizes
+sizes c = c.checked-in-Fine-1.given.0.0
 
-fine : (c : tie.After-checked2) → BothFine (given (start c)) (sizes c)
-fine c = both_fine (given (start c)) c.before.before.check_both.result c.before.before.check_both.ensures (sizes c) c.checked2.given.1
+fine : (c : tie.In-Fine-2) → BothFine (given (start c)) (sizes c)
+fine c = both_fine (given (start c)) c.before.before.check_both-checked.result c.before.before.check_both-checked.ensures (sizes c) c.checked-in-Fine-1.given.1
 
 -- once it is known how often the fill comes, and how often before the content
-abbrev checked : tie.After-left-count → tie.After-checked2
+abbrev checked : tie.After-left_count-left → tie.In-Fine-2
 checked c = c.before.before.before.before
 
-abbrev call : tie.After-left-count → Given
+abbrev call : tie.After-left_count-left → Given
 call c = given (start (checked c))
 
-abbrev count : tie.After-left-count → ℕ
-count c = c.before.fill-count.result
+abbrev count : tie.After-left_count-left → ℕ
+count c = c.before.fill_count-count.result
 
-abbrev result : tie.After-left-count → List Item
-result c = let l = c.left-count.result in sides l (count c - l) (items (second (call c))) (items (content (call c)))
+abbrev result : tie.After-left_count-left → List Item
+result c = let l = c.left_count-left.result in sides l (count c - l) (items (second (call c))) (items (content (call c)))
 
 -- the product is exact: a count of 32 bits and a fill within its limit
-product : (c : tie.After-left-count) → count c * length (call c).fs ≤ 4503599626321920
-product c = mul-le-mul c.before.fill-count.ensures.1 (fine (checked c)).1.data_short
+product : (c : tie.After-left_count-left) → count c * length (call c).fs ≤ 4503599626321920
+product c = mul-le-mul c.before.fill_count-count.ensures.1 (fine (checked c)).1.data_short
 
 -- once it is known on how many sides it comes
-abbrev counted : tie.After-once-if2 → tie.After-left-count
+abbrev counted : tie.After-once_if-2 → tie.After-left_count-left
 counted c = c.before.before
 
-abbrev times : tie.After-once-if2 → ℕ
-times c = c.before.once-if.result + c.once-if2.result
+abbrev times : tie.After-once_if-2 → ℕ
+times c = c.before.once_if.result + c.once_if-2.result
 
-few : (c : tie.After-once-if2) → times c ≤ 2
-few c = omega (arith, c.before.once-if.ensures.1, c.once-if2.ensures.1)
+few : (c : tie.After-once_if-2) → times c ≤ 2
+few c = omega (arith, c.before.once_if.ensures.1, c.once_if-2.ensures.1)
 
-entry-product : (c : tie.After-once-if2) → times c * length (call (counted c)).gs ≤ 32768
+entry-product : (c : tie.After-once_if-2) → times c * length (call (counted c)).gs ≤ 32768
 entry-product c = mul-le-mul (few c) (fine (checked (counted c))).1.entries_short
 
-text-product : (c : tie.After-once-if2) → times c * (sizes (checked (counted c))).second ≤ 536870912
+text-product : (c : tie.After-once_if-2) → times c * (sizes (checked (counted c))).second ≤ 536870912
 text-product c = mul-le-mul (few c) (fine (checked (counted c))).1.text_short
 
 -- once the text is measured
-abbrev sided : tie.After-text-size → tie.After-once-if2
+abbrev sided : tie.After-text_size-shared → tie.After-once_if-2
 sided c = c.before.before.before
 
-measured : (c : tie.After-text-size)
+measured : (c : tie.After-text_size-shared)
     → let n = sided c in let l = counted n in
-    Measured (call l) (times n) (result l) (length (call l).ds + count l * length (call l).fs) (length (call l).ns + times n * length (call l).gs) c.text-size.result
+    Measured (call l) (times n) (result l) (length (call l).ds + count l * length (call l).fs) (length (call l).ns + times n * length (call l).gs) c.text_size-shared.result
 measured c =
     let n = sided c in
     let l = counted n in
     let v = checked l in
-    padded_measured (call l) (sizes v) (fine v) (count l) l.left-count.result l.left-count.ensures.1
-    (times n) (λ i. n.before.once-if.ensures.0 i + n.once-if2.ensures.0 i)
-    (start v).args.side refl l.before.fill-count.ensures.0 l.left-count.ensures.0 c.text-size.result c.text-size.ensures
+    padded_measured (call l) (sizes v) (fine v) (count l) l.left_count-left.result l.left_count-left.ensures.1
+    (times n) (λ i. n.before.once_if.ensures.0 i + n.once_if-2.ensures.0 i)
+    (start v).args.side refl l.before.fill_count-count.ensures.0 l.left_count-left.ensures.0 c.text_size-shared.result c.text_size-shared.ensures
 
 -- ── what is asked on the way
-check-both-requires : tie.Need-check-both-requires
+check-both-requires : tie.Need-check_both-checked-requires
 check-both-requires c κs = search rules
 
-enum-known-checked : tie.Need-enum-known-checked
+enum-known-checked : tie.Need-enum_known-checked
 enum-known-checked c = search rules
 
-returns : tie.Need-returns
+returns : tie.Need-returns-in-Refused
 returns c =
     let k = c.before.before.before in
     let s = k.before.before.before.before.before.before.before.before.before.before in
-    both_refused (given s) k.check_both.result k.check_both.ensures c.before.checked.given.0.0 c.before.checked.given.1
+    both_refused (given s) k.check_both-checked.result k.check_both-checked.ensures c.before.checked-1.given.0.0 c.before.checked-1.given.1
 
-enum-known-checked-2 : tie.Need-enum-known-checked-2
+enum-known-checked-2 : tie.Need-enum_known-checked-in-Fine-1
 enum-known-checked-2 c = search rules
 
-fill-count-requires : tie.Need-fill-count-requires
+fill-count-requires : tie.Need-fill_count-count-requires
 unfolding lead_table
 fill-count-requires c κs = refl
 
-left-count-requires : tie.Need-left-count-requires
+left-count-requires : tie.Need-left_count-left-requires
 left-count-requires c κs = search rules
 
-sub-right : tie.Need-overflow-sub-right
+sub-right : tie.Need-overflow_sub-right
 sub-right c = search rules
 
-once-if-requires : tie.Need-once-if-requires
+once-if-requires : tie.Need-once_if-requires
 once-if-requires c κs = search rules
 
-once-if-requires-2 : tie.Need-once-if-requires-2
+once-if-requires-2 : tie.Need-once_if-requires-2
 once-if-requires-2 c κs = search rules
 
-add_times : tie.Need-overflow-add-times
+add_times : tie.Need-overflow_add-times
 add_times c = omega (arith, few c)
 
-mul-text-size : tie.Need-overflow-mul-text-size
+mul-text-size : tie.Need-overflow_mul-times
 mul-text-size c = omega (arith, text-product c.before)
 
-add-text-size : tie.Need-overflow-add-text-size
+add-text-size : tie.Need-overflow_add-sizes
 add-text-size c =
     let n = c.before.before in
     omega (arith, (fine (checked (counted n))).0.text_short, text-product n)
 
-text-size-requires : tie.Need-text-size-requires
+text-size-requires : tie.Need-text_size-shared-requires
 text-size-requires c κs =
     let n = c.before.before in
     let v = checked (counted n) in
@@ -163,58 +163,58 @@ text-size-requires c κs =
       ((f.1.entries_short, f.1.own_short, f.1.parts, omega (arith, few n)), texts_less (call (counted n)) (sizes v) (times n) f),
     )
 
-mul-settle : tie.Need-overflow-mul-settle
+mul-settle : tie.Need-overflow_mul-count
 mul-settle c = omega (arith, product (counted (sided c)))
 
-add-settle : tie.Need-overflow-add-settle
+add-settle : tie.Need-overflow_add-content
 add-settle c =
     let l = counted (sided c) in
     omega (arith, (fine (checked l)).0.data_short, product l)
 
-mul-settle-2 : tie.Need-overflow-mul-settle-2
+mul-settle-2 : tie.Need-overflow_mul-times-2
 mul-settle-2 c = omega (arith, entry-product (sided c))
 
-add-settle-2 : tie.Need-overflow-add-settle-2
+add-settle-2 : tie.Need-overflow_add-entries
 add-settle-2 c = omega (arith, (fine (checked (counted (sided c)))).0.entries_short, entry-product (sided c))
 
-settle-requires : tie.Need-settle-requires
+settle-requires : tie.Need-settle-verdict-requires
 settle-requires c κs = search rules
 
-enum-known-verdict : tie.Need-enum-known-verdict
+enum-known-verdict : tie.Need-enum_known-verdict
 enum-known-verdict c = search rules
 
-returns-2 : tie.Need-returns-2
+returns-2 : tie.Need-returns-in-Refused-verdict
 returns-2 c =
     let p = c.before.before.before in
     let n = sided p.before in
     let l = counted n in
     let v = checked l in
-    sizes_refused (call l) (sizes v) (fine v) (times n) (result l) _ _ _ (measured p.before) p.settle.result p.settle.ensures
-    c.before.verdict.given.0.0 c.before.verdict.given.1
+    sizes_refused (call l) (sizes v) (fine v) (times n) (result l) _ _ _ (measured p.before) p.settle-verdict.result p.settle-verdict.ensures
+    c.before.verdict-1.given.0.0 c.before.verdict-1.given.1
 
-enum_told : tie.Need-enum-told
+enum_told : tie.Need-enum_told-1
 enum_told c = search rules
 
-put-padded-requires : tie.Need-put-padded-requires
+put-padded-requires : tie.Need-put_padded-c-requires
 put-padded-requires c κs =
     let p = c.before.before.before.before.before in
     let n = sided p.before in
     let l = counted n in
     let v = checked l in
     let f = fine v in
-    let room = has_room (call l) (sizes v) f (times n) (result l) _ _ _ (measured p.before) p.settle.result p.settle.ensures c.before.before.before.enum_told.given.1 in
+    let room = has_room (call l) (sizes v) f (times n) (result l) _ _ _ (measured p.before) p.settle-verdict.result p.settle-verdict.ensures c.before.before.before.enum_told-1.given.1 in
     ((f.0.whole, f.1.whole), room)
 
-same_length : tie.Need-same-length
+same_length : tie.Need-shape_of-bytes
 same_length c = search rules
 
-same-length-2 : tie.Need-same-length-2
+same-length-2 : tie.Need-shape_of-numbers
 same-length-2 c = search rules
 
-same-length-3 : tie.Need-same-length-3
+same-length-3 : tie.Need-shape_of-texts
 same-length-3 c = search rules
 
-returns-3 : tie.Need-returns-3
+returns-3 : tie.Need-returns
 returns-3 c =
     let w = c.before.before.before.before.before.before in
     let told = w.before.before.before.before in
@@ -223,11 +223,11 @@ returns-3 c =
     let l = counted n in
     let x = call l in
     let v = checked l in
-    written x (sizes v) (fine v) (times n) (result l) _ _ _ (measured p.before) p.settle.result p.settle.ensures told.enum_told.given.1
-    0 _ _ _ w.put-padded.result (number_of_refusal (start v).args.side x.width (second x) (content x)) w.put-padded.ensures
+    written x (sizes v) (fine v) (times n) (result l) _ _ _ (measured p.before) p.settle-verdict.result p.settle-verdict.ensures told.enum_told-1.given.1
+    0 _ _ _ w.put_padded-c.result (number_of_refusal (start v).args.side x.width (second x) (content x)) w.put_padded-c.ensures
 
-pub write-padded-spec : {M : Type 1} → statement M
-write-padded-spec =
+pub write_padded_spec : {M : Type 1} → statement M
+write_padded_spec =
     tie.close
     (tie.spec
     check-both-requires

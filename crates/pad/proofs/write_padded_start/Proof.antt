@@ -7,23 +7,23 @@ use Rattle.pad.proofs.write_padded_start.Reads as reads
 use Rattle.pad.proofs.write_padded_start.Lts as lts
 use Rattle.pad.proofs.write_padded.Reads as write-padded-reads
 
-write-padded-requires : tie.Need-write-padded-requires
+write-padded-requires : tie.Need-write_padded-requires
 write-padded-requires c κs = search rules
 
-same_length : tie.Need-same-length
+same_length : tie.Need-shape_of-bytes
 same_length c = search rules
 
-same-length-2 : tie.Need-same-length-2
+same-length-2 : tie.Need-shape_of-numbers
 same-length-2 c = search rules
 
-same-length-3 : tie.Need-same-length-3
+same-length-3 : tie.Need-shape_of-texts
 same-length-3 c = search rules
 
 returns : tie.Need-returns
 unfolding kind_of
 returns c =
-    c.before.before.before.before.before.before.write-padded.ensures
+    c.before.before.before.before.before.before.write_padded.ensures
 
-pub write-padded-start-spec : {M : Type 1} → statement M
-write-padded-start-spec =
+pub write_padded_start_spec : {M : Type 1} → statement M
+write_padded_start_spec =
     tie.close (tie.spec write-padded-requires same_length same-length-2 same-length-3 returns)

@@ -19,48 +19,48 @@ use Rattle.recording_check.proofs.check.Reads as check-reads
 use Rattle.well_formed.proofs.is_well_formed.Reads as is-well-formed-reads
 
 -- where the function started, seen from the check
-abbrev start : tie.After-check → tie.Start
+abbrev start : tie.After-check-checked → tie.Start
 start c = c.before.before.before.before.before
 
 -- the recording that is read
-abbrev content : tie.After-check → Recording
+abbrev content : tie.After-check-checked → Recording
 content c = recording (start c).args.content.now (start c).args.entries.now (start c).args.text.now
 
 -- the check found no fault
-clean : (c : tie.After-known-told2) → recording_fault (content c.before.before.before) ≡ 0
-clean c = let k = c.before.before.before.check in let g = c.before.checked2.given in sym k.ensures.0 ∙ fine_zero k.result g.0.0 g.1
+clean : (c : tie.In-Fine) → recording_fault (content c.before.before.before) ≡ 0
+clean c = let k = c.before.before.before.check-checked in let g = c.before.checked-in-Fine-1.given in sym k.ensures.0 ∙ fine_zero k.result g.0.0 g.1
 
-check-requires : tie.Need-check-requires
+check-requires : tie.Need-check-checked-requires
 check-requires c κs = search rules
 
-enum-known-checked : tie.Need-enum-known-checked
+enum-known-checked : tie.Need-enum_known-checked
 enum-known-checked c = search rules
 
-returns : tie.Need-returns
+returns : tie.Need-returns-in-Refused
 returns c =
     let at-check = c.before.before.before in
-    let k = at-check.check in
-    let g = c.before.checked.given in
+    let k = at-check.check-checked in
+    let g = c.before.checked-1.given in
     content-refused (start at-check).args.label.now (content at-check) g.0.0 (sym (refused-number k.result g.0.0 g.1) ∙ k.ensures.0)
 
-enum-known-checked-2 : tie.Need-enum-known-checked-2
+enum-known-checked-2 : tie.Need-enum_known-checked-in-Fine-1
 enum-known-checked-2 c = search rules
 
-returns-2 : tie.Need-returns-2
+returns-2 : tie.Need-returns-then-label-eq0
 returns-2 c =
     let at-check = c.before.before.before.before in
-    label_empty (start at-check).args.label.now (content at-check) (clean c.before) c.if1.true
+    label_empty (start at-check).args.label.now (content at-check) (clean c.before) c.if-label-eq0.true
 
-is-well-formed-requires : tie.Need-is-well-formed-requires
+is-well-formed-requires : tie.Need-is_well_formed-requires
 is-well-formed-requires c κs = search rules
 
-returns-3 : tie.Need-returns-3
+returns-3 : tie.Need-returns-then-not-is_well_formed
 returns-3 c =
     let at-check = c.before.before.before.before.before.before in
-    let w = c.before.is-well-formed in
-    label_refused (start at-check).args.label.now (content at-check) (clean c.before.before.before) (sym w.ensures ∙ not-true w.result c.if2.true)
+    let w = c.before.is_well_formed in
+    label_refused (start at-check).args.label.now (content at-check) (clean c.before.before.before) (sym w.ensures ∙ c.if-not-is_well_formed.true)
 
-scan-requires : tie.Need-scan-requires
+scan-requires : tie.Need-scan-scanned-requires
 scan-requires c κs =
     let at-check = c.before.before.before.before.before.before in
     let a = (start at-check).args in
@@ -69,37 +69,37 @@ scan-requires c κs =
       (ltb-false 16384 (length a.entries.now) n.entry_numbers, ltb-false 65536 (length a.text.now) n.text),
     )
 
-enum_told : tie.Need-enum-told
+enum_told : tie.Need-enum_told-1
 enum_told c = search rules
 
-enum-known-scanned : tie.Need-enum-known-scanned
+enum-known-scanned : tie.Need-enum_known-scanned
 enum-known-scanned c = search rules
 
-returns-4 : tie.Need-returns-4
+returns-4 : tie.Need-returns-in-Unbalanced
 returns-4 c =
     let at-scan = c.before.before in
     let at_label = at-scan.before.before in
     let at-check = at_label.before.before.before.before.before in
-    let w = at_label.is-well-formed in
-    content_unbalanced (start at-check).args.label.now (content at-check) (clean at_label.before.before) at_label.before.if1.false
-    (sym w.ensures ∙ not_false w.result at-scan.before.if2.false) at-scan.scan.result at-scan.scan.ensures.0 c.enum_told.given.1
+    let w = at_label.is_well_formed in
+    content_unbalanced (start at-check).args.label.now (content at-check) (clean at_label.before.before) at_label.before.if-label-eq0.false
+    (sym w.ensures ∙ at-scan.before.if-not-is_well_formed.false) at-scan.scan-scanned.result at-scan.scan-scanned.ensures.0 c.enum_told-1.given.1
 
-returns-5 : tie.Need-returns-5
+returns-5 : tie.Need-returns-in-Fine-scanned
 returns-5 c =
     let at-scan = c.before.before.before in
     let at_label = at-scan.before.before in
     let at-fine = at_label.before.before in
     let at-check = at-fine.before.before.before in
-    let k = at-check.check in
-    let g = at-fine.before.checked2.given in
-    let h = c.before.scanned.given in
-    let w = at_label.is-well-formed in
-    all_fine (start at-check).args.label.now (content at-check) (clean at-fine) at_label.before.if1.false
-    (sym w.ensures ∙ not_false w.result at-scan.before.if2.false) at-scan.scan.result at-scan.scan.ensures.0
-    h.0.0 h.1 at-scan.scan.ensures.1 g.0.0 (fine_count k.result g.0.0 (length (text_of (items (content at-check)))) g.1 k.ensures.1.0)
+    let k = at-check.check-checked in
+    let g = at-fine.before.checked-in-Fine-1.given in
+    let h = c.before.scanned-1.given in
+    let w = at_label.is_well_formed in
+    all_fine (start at-check).args.label.now (content at-check) (clean at-fine) at_label.before.if-label-eq0.false
+    (sym w.ensures ∙ at-scan.before.if-not-is_well_formed.false) at-scan.scan-scanned.result at-scan.scan-scanned.ensures.0
+    h.0.0 h.1 at-scan.scan-scanned.ensures.1 g.0.0 (fine_count k.result g.0.0 (length (text_of (items (content at-check)))) g.1 k.ensures.1.0)
 
-pub admit-spec : {M : Type 1} → statement M
-admit-spec =
+pub admit_spec : {M : Type 1} → statement M
+admit_spec =
     tie.close
     (tie.spec
     check-requires

@@ -12,57 +12,57 @@ use Rattle.readers.proofs.behind_entry.Reads as behind-entry-reads
 use Rattle.recording.proofs.entry_at.Reads as entry-at-reads
 use Rattle.writer.proofs.place_at.Reads as place-at-reads
 
-abbrev invariant-loop : tie.invariant-loop
+abbrev invariant-loop : tie.invariant-loop-p
 invariant-loop content entries text label c₀ o₀ p₀ c o p =
     Passing label content entries text (record { c = c₀; o = o₀ }) (record { c = c; o = o }) p
 
-abbrev decreases-loop : tie.decreases-loop
+abbrev decreases-loop : tie.decreases-loop-p
 decreases-loop content entries text label c₀ o₀ p₀ c o p =
     length entries - c.k
 
 -- at the loop: what the function was given
-abbrev start : tie.At-loop invariant-loop decreases-loop → tie.Start invariant-loop decreases-loop
+abbrev start : tie.At-loop-p invariant-loop decreases-loop → tie.Start invariant-loop decreases-loop
 start c = c.before.before.before.before.before.before.before.before
 
 -- in a turn: an entry of four numbers is next
-entire : (c : tie.Then1 invariant-loop decreases-loop) → c.before.before.loop.c.k + 4 ≤ length (start c.before.before).args.entries.now
-entire c = whole _ _ _ _ _ _ _ c.before.before.loop.invariant c.if1.true
+entire : (c : tie.In-loop-p invariant-loop decreases-loop) → c.before.before.loop-p.c-1.k + 4 ≤ length (start c.before.before).args.entries.now
+entire c = whole _ _ _ _ _ _ _ c.before.before.loop-p.invariant c.loop-p-test.true
 
-place-at-requires : tie.Need-place-at-requires invariant-loop decreases-loop
+place-at-requires : tie.Need-place_at-p-requires invariant-loop decreases-loop
 place-at-requires c κs = c.before.before.before.before.before.before.requires.ready.within
 
-loop-holds : tie.Need-loop-init invariant-loop decreases-loop
-loop-holds c = passing_first _ _ _ _ _ _ c.before.before.before.before.before.before.before.requires c.place_at.ensures
+loop-holds : tie.Need-loop-p-init invariant-loop decreases-loop
+loop-holds c = passing_first _ _ _ _ _ _ c.before.before.before.before.before.before.before.requires c.place_at-p.ensures
 
-entry-at-requires : tie.Need-entry-at-requires invariant-loop decreases-loop
+entry-at-requires : tie.Need-entry_at-e-requires invariant-loop decreases-loop
 entry-at-requires c κs = entire c
 
-opened-requires : tie.Need-opened-requires invariant-loop decreases-loop
+opened-requires : tie.Need-opened-o-requires invariant-loop decreases-loop
 opened-requires c κs =
     let l = c.before.before.before in
-    may_open _ _ _ _ _ _ _ l.loop.invariant c.before.if1.true _ c.entry_at.ensures (omega (arith, (start l).well-formed))
+    may_open _ _ _ _ _ _ _ l.loop-p.invariant c.before.loop-p-test.true _ c.entry_at-e.ensures (omega (arith, (start l).well_formed))
 
-behind-entry-requires : tie.Need-behind-entry-requires invariant-loop decreases-loop
+behind-entry-requires : tie.Need-behind_entry-c-requires invariant-loop decreases-loop
 behind-entry-requires c κs = omega (arith, entire c.before.before, (start c.before.before.before.before).good)
 
-place-at-requires-2 : tie.Need-place-at-requires-2 invariant-loop decreases-loop
-place-at-requires-2 c κs = omega (arith, entire c.before.before.before, c.behind-entry.ensures.1)
+place-at-requires-2 : tie.Need-place_at-p-requires-in-loop-p invariant-loop decreases-loop
+place-at-requires-2 c κs = omega (arith, entire c.before.before.before, c.behind_entry-c.ensures.1)
 
-loop-less : tie.Need-loop-smaller invariant-loop decreases-loop
-loop-less c = omega (arith, entire c.before.before.before.before, c.before.behind-entry.ensures.1)
+loop-less : tie.Need-loop-p-smaller invariant-loop decreases-loop
+loop-less c = omega (arith, entire c.before.before.before.before, c.before.behind_entry-c.ensures.1)
 
-loop-again : tie.Need-loop-preserved invariant-loop decreases-loop
+loop-again : tie.Need-loop-p-preserved invariant-loop decreases-loop
 loop-again c =
     let turn = c.before.before.before.before in
-    let o = c.before.before.opened.ensures in
-    let b = c.before.behind-entry.ensures in
-    passing_next _ _ _ _ _ _ _ turn.before.before.loop.invariant turn.if1.true _ c.before.before.before.entry_at.ensures _ b.0 b.1 _ o.0 o.1 c.place-at2.ensures
+    let o = c.before.before.opened-o.ensures in
+    let b = c.before.behind_entry-c.ensures in
+    passing_next _ _ _ _ _ _ _ turn.before.before.loop-p.invariant turn.loop-p-test.true _ c.before.before.before.entry_at-e.ensures _ b.0 b.1 _ o.0 o.1 c.place_at-p-in-loop-p.ensures
 
 returns : tie.Need-returns invariant-loop decreases-loop
-returns c = passed _ _ _ _ _ _ _ c.before.before.loop.invariant c.if1.false
+returns c = passed _ _ _ _ _ _ _ c.before.before.loop-p.invariant c.loop-p-test.false
 
-pub pass-entries-spec : {M : Type 1} → statement M
-pass-entries-spec =
+pub pass_entries_spec : {M : Type 1} → statement M
+pass_entries_spec =
     tie.close
     (tie.spec
     invariant-loop

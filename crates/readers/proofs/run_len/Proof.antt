@@ -8,18 +8,18 @@ use Rattle.readers.proofs.run_len.Tie as tie
 use Rattle.readers.proofs.run_len.Reads as reads
 use Rattle.readers.proofs.run_len.Lts as lts
 
-sub-result : tie.Need-overflow-sub-result
+sub-result : tie.Need-overflow_sub-result
 sub-result c = search rules
 
-returns : tie.Need-returns
+returns : tie.Need-returns-then-run
 returns c =
     let s = c.before.before in
-    sym (length-copied s.args.content.now s.args.at s.args.run c.before.if1.true s.requires.1)
+    sym (length-copied s.args.content.now s.args.at s.args.run c.before.if-run.true s.requires.1)
 
-returns-2 : tie.Need-returns-2
+returns-2 : tie.Need-returns
 returns-2 c =
     let s = c.before in
-    sym (length-starred s.args.content.now s.args.at s.args.run c.if1.false)
+    sym (length-starred s.args.content.now s.args.at s.args.run c.if-run.false)
 
-pub run-len-spec : {M : Type 1} → statement M
-run-len-spec = tie.close (tie.spec sub-result returns returns-2)
+pub run_len_spec : {M : Type 1} → statement M
+run_len_spec = tie.close (tie.spec sub-result returns returns-2)

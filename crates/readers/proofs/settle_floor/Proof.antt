@@ -12,35 +12,35 @@ use Rattle.readers.proofs.settle_floor.Lts as lts
 use Rattle.readers.proofs.floor_len.Reads as floor-len-reads
 use Rattle.writer.proofs.settle.Reads as settle-reads
 
-settle-requires : tie.Need-settle-requires
+settle-requires : tie.Need-settle-verdict-requires
 settle-requires c κs = search rules
 
-enum_told : tie.Need-enum-told
+enum_told : tie.Need-enum_told-1
 enum_told c = search rules
 
-returns : tie.Need-returns
+returns : tie.Need-returns-in-Room
 returns c =
     let s = c.before.before in
     let a = s.before.before.before.before.before.args in
-    floor_roomy a.label.now (recording a.content.now a.entries.now a.text.now) s.settle.result a.floor-entries a.floor-text
-    (room_of_state a.bytes a.numbers a.texts 0) s.settle.ensures c.enum_told.given.1
+    floor_roomy a.label.now (recording a.content.now a.entries.now a.text.now) s.settle-verdict.result a.floor-entries a.floor-text
+    (room_of_state a.bytes a.numbers a.texts 0) s.settle-verdict.ensures c.enum_told-1.given.1
 
-enum-known-verdict : tie.Need-enum-known-verdict
+enum-known-verdict : tie.Need-enum_known-verdict
 enum-known-verdict c = search rules
 
-floor-len-requires : tie.Need-floor-len-requires
+floor-len-requires : tie.Need-floor_len-d-requires
 floor-len-requires c κs = search rules
 
-settle-requires-2 : tie.Need-settle-requires-2
+settle-requires-2 : tie.Need-settle-requires
 settle-requires-2 c κs = search rules
 
-returns-2 : tie.Need-returns-2
+returns-2 : tie.Need-returns
 returns-2 c =
     let a = c.before.before.before.before.before.before.before.before.before.before.args in
-    c.settle2.ensures ∙ ap (λ (d : ℕ). sizes_fault d a.floor-entries a.floor-text 0 (room_of_state a.bytes a.numbers a.texts 0)) c.before.floor-len.ensures
+    c.settle.ensures ∙ ap (λ (d : ℕ). sizes_fault d a.floor-entries a.floor-text 0 (room_of_state a.bytes a.numbers a.texts 0)) c.before.floor_len-d.ensures
 
-pub settle-floor-spec : {M : Type 1} → statement M
-settle-floor-spec =
+pub settle_floor_spec : {M : Type 1} → statement M
+settle_floor_spec =
     tie.close
     (tie.spec
     settle-requires

@@ -13,88 +13,88 @@ use Rattle.readers.proofs.put_starred.Reads as put-starred-reads
 use Rattle.recorder.proofs.put_whole.Reads as put-whole-reads
 
 -- once the checks are done: where the function started, and the recording that is read
-abbrev start : tie.After-admit → tie.Start
+abbrev start : tie.After-admit-admitted → tie.Start
 start c = c.before.before.before.before.before.before.before.before
 
-abbrev content : tie.After-admit → Recording
+abbrev content : tie.After-admit-admitted → Recording
 content c = let a = (start c).args in recording a.content.now a.entries.now a.text.now
 
-admit-requires : tie.Need-admit-requires
+admit-requires : tie.Need-admit-admitted-requires
 admit-requires c κs = search rules
 
-enum-known-admitted : tie.Need-enum-known-admitted
+enum-known-admitted : tie.Need-enum_known-admitted
 enum-known-admitted c = search rules
 
-returns : tie.Need-returns
+returns : tie.Need-returns-in-Refused
 returns c =
     let s = c.before.before.before in
     let a = (start s).args in
-    let g = c.before.admitted.given in
-    refused_floor a.label.now (content s) s.admit.result s.admit.ensures.0 g.0.0 g.1 (lent_of a.bytes.now a.numbers.now a.texts.now)
+    let g = c.before.admitted-1.given in
+    refused_floor a.label.now (content s) s.admit-admitted.result s.admit-admitted.ensures.0 g.0.0 g.1 (lent_of a.bytes-1.now a.numbers-1.now a.texts-1.now)
 
-enum-known-admitted-2 : tie.Need-enum-known-admitted-2
+enum-known-admitted-2 : tie.Need-enum_known-admitted-in-Fine-1
 enum-known-admitted-2 c = search rules
 
-put-whole-requires : tie.Need-put-whole-requires
+put-whole-requires : tie.Need-put_whole-requires
 put-whole-requires c κs =
     let s = c.before.before.before.before.before.before.before.before.before in
     let l = (start s).args.label.now in
-    let g = c.before.before.before.before.before.before.before.admitted2.given in
-    let r = s.admit in (
+    let g = c.before.before.before.before.before.before.before.admitted-in-Fine-1.given in
+    let r = s.admit-admitted in (
       passed l (content s) r.result r.ensures.0 g.0.0 g.1,
       office_size l (content s) r.result r.ensures.0 g.0.0 g.1 r.ensures.1,
     )
 
-same_length : tie.Need-same-length
+same_length : tie.Need-shape_of-bytes-then-not-floor
 same_length c = search rules
 
-same-length-2 : tie.Need-same-length-2
+same-length-2 : tie.Need-shape_of-numbers-then-not-floor
 same-length-2 c = search rules
 
-same-length-3 : tie.Need-same-length-3
+same-length-3 : tie.Need-shape_of-texts-then-not-floor
 same-length-3 c = search rules
 
-returns-2 : tie.Need-returns-2
+returns-2 : tie.Need-returns-then-not-floor
 returns-2 c =
     let p = c.before.before.before.before.before.before in
     let s = p.before.before.before.before.before.before.before.before.before.before in
     let a = (start s).args in
-    let g = p.before.before.before.before.before.before.before.before.admitted2.given in
-    let r = s.admit in
-    absent_kept a.label.now (content s) r.result r.ensures.0 g.0.0 g.1 r.ensures.1 (not-true g.0.0.floor.found p.before.before.before.before.if1.true)
-    (lent_of a.bytes.now a.numbers.now a.texts.now) (lent_of _ _ _) p.put_whole.result p.put_whole.ensures
+    let g = p.before.before.before.before.before.before.before.before.admitted-in-Fine-1.given in
+    let r = s.admit-admitted in
+    absent_kept a.label.now (content s) r.result r.ensures.0 g.0.0 g.1 r.ensures.1 p.before.before.before.before.if-not-floor.true
+    (lent_of a.bytes-1.now a.numbers-1.now a.texts-1.now) (lent_of _ _ _) p.put_whole.result p.put_whole.ensures
 
-put-starred-requires : tie.Need-put-starred-requires
+put-starred-requires : tie.Need-put_starred-requires
 put-starred-requires c κs =
     let s = c.before.before.before.before.before.before.before.before.before in
     let l = (start s).args.label.now in
-    let g = c.before.before.before.before.before.before.before.admitted2.given in
-    let r = s.admit in (
+    let g = c.before.before.before.before.before.before.before.admitted-in-Fine-1.given in
+    let r = s.admit-admitted in (
       (passed l (content s) r.result r.ensures.0 g.0.0 g.1, office_size l (content s) r.result r.ensures.0 g.0.0 g.1 r.ensures.1),
       scan_told l (content s) r.result r.ensures.0 g.0.0 g.1 r.ensures.1,
     )
 
-same-length-4 : tie.Need-same-length-4
+same-length-4 : tie.Need-shape_of-bytes
 same-length-4 c = search rules
 
-same-length-5 : tie.Need-same-length-5
+same-length-5 : tie.Need-shape_of-numbers
 same-length-5 c = search rules
 
-same-length-6 : tie.Need-same-length-6
+same-length-6 : tie.Need-shape_of-texts
 same-length-6 c = search rules
 
-returns-3 : tie.Need-returns-3
+returns-3 : tie.Need-returns
 returns-3 c =
     let p = c.before.before.before.before.before.before in
     let s = p.before.before.before.before.before.before.before.before.before.before in
     let a = (start s).args in
-    let g = p.before.before.before.before.before.before.before.before.admitted2.given in
-    let r = s.admit in
+    let g = p.before.before.before.before.before.before.before.before.admitted-in-Fine-1.given in
+    let r = s.admit-admitted in
     floor_kept a.label.now (content s) r.result r.ensures.0 g.0.0 g.1
-    (lent_of a.bytes.now a.numbers.now a.texts.now) (lent_of _ _ _) p.put-starred.result p.put-starred.ensures
+    (lent_of a.bytes-1.now a.numbers-1.now a.texts-1.now) (lent_of _ _ _) p.put_starred.result p.put_starred.ensures
 
-pub write-for-floor-spec : {M : Type 1} → statement M
-write-for-floor-spec =
+pub write_for_floor_spec : {M : Type 1} → statement M
+write_for_floor_spec =
     tie.close
     (tie.spec
     admit-requires

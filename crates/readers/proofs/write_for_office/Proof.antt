@@ -11,59 +11,59 @@ use Rattle.readers.proofs.admit.Reads as admit-reads
 use Rattle.recorder.proofs.put_whole.Reads as put-whole-reads
 
 -- once the checks are done: where the function started, and the recording that is read
-abbrev start : tie.After-admit → tie.Start
+abbrev start : tie.After-admit-admitted → tie.Start
 start c = c.before.before.before.before.before.before.before.before
 
-abbrev content : tie.After-admit → Recording
+abbrev content : tie.After-admit-admitted → Recording
 content c = let a = (start c).args in recording a.content.now a.entries.now a.text.now
 
-admit-requires : tie.Need-admit-requires
+admit-requires : tie.Need-admit-admitted-requires
 admit-requires c κs = search rules
 
-enum-known-admitted : tie.Need-enum-known-admitted
+enum-known-admitted : tie.Need-enum_known-admitted
 enum-known-admitted c = search rules
 
-returns : tie.Need-returns
+returns : tie.Need-returns-in-Refused
 returns c =
     let s = c.before.before.before in
     let a = (start s).args in
-    let g = c.before.admitted.given in
-    refused_office a.label.now (content s) s.admit.result s.admit.ensures.0 g.0.0 g.1 (lent_of a.bytes.now a.numbers.now a.texts.now)
+    let g = c.before.admitted-1.given in
+    refused_office a.label.now (content s) s.admit-admitted.result s.admit-admitted.ensures.0 g.0.0 g.1 (lent_of a.bytes-1.now a.numbers-1.now a.texts-1.now)
 
-enum-known-admitted-2 : tie.Need-enum-known-admitted-2
+enum-known-admitted-2 : tie.Need-enum_known-admitted-in-Fine-1
 enum-known-admitted-2 c = search rules
 
-put-whole-requires : tie.Need-put-whole-requires
+put-whole-requires : tie.Need-put_whole-requires
 put-whole-requires c κs =
     let s = c.before.before.before.before.before.before in
     let l = (start s).args.label.now in
-    let g = c.before.before.before.before.admitted2.given in
-    let r = s.admit in (
+    let g = c.before.before.before.before.admitted-in-Fine-1.given in
+    let r = s.admit-admitted in (
       passed l (content s) r.result r.ensures.0 g.0.0 g.1,
       office_size l (content s) r.result r.ensures.0 g.0.0 g.1 r.ensures.1,
     )
 
-same_length : tie.Need-same-length
+same_length : tie.Need-shape_of-bytes
 same_length c = search rules
 
-same-length-2 : tie.Need-same-length-2
+same-length-2 : tie.Need-shape_of-numbers
 same-length-2 c = search rules
 
-same-length-3 : tie.Need-same-length-3
+same-length-3 : tie.Need-shape_of-texts
 same-length-3 c = search rules
 
-returns-2 : tie.Need-returns-2
+returns-2 : tie.Need-returns
 returns-2 c =
     let p = c.before.before.before.before.before.before in
     let s = p.before.before.before.before.before.before.before in
     let a = (start s).args in
-    let g = p.before.before.before.before.before.admitted2.given in
-    let r = s.admit in
-    office_kept a.label.now (content s) r.result r.ensures.0 g.0.0 g.1 (lent_of a.bytes.now a.numbers.now a.texts.now) (lent_of _ _ _)
+    let g = p.before.before.before.before.before.admitted-in-Fine-1.given in
+    let r = s.admit-admitted in
+    office_kept a.label.now (content s) r.result r.ensures.0 g.0.0 g.1 (lent_of a.bytes-1.now a.numbers-1.now a.texts-1.now) (lent_of _ _ _)
     p.put_whole.result p.put_whole.ensures
 
-pub write-for-office-spec : {M : Type 1} → statement M
-write-for-office-spec =
+pub write_for_office_spec : {M : Type 1} → statement M
+write_for_office_spec =
     tie.close
     (tie.spec
     admit-requires

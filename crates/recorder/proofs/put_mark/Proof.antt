@@ -9,24 +9,24 @@ use Rattle.recorder.proofs.put_mark.Lts as lts
 use Rattle.buffer.proofs.put.Reads as put_reads
 use Rattle.share.proofs.set_entry.Reads as set-entry-reads
 
-set-entry-requires : tie.Need-set-entry-requires
+set-entry-requires : tie.Need-set_entry-requires
 set-entry-requires c κs = search rules
 
 put-requires : tie.Need-put-requires
 put-requires c κs = search rules
 
-same_length : tie.Need-same-length
+same_length : tie.Need-shape_of-numbers
 same_length c = search rules
 
-same-length-2 : tie.Need-same-length-2
+same-length-2 : tie.Need-shape_of-texts
 same-length-2 c = search rules
 
 returns : tie.Need-returns
 returns c =
-    (c.before.before.before.before.before.before.set-entry.ensures, c.before.before.put.ensures.1 ∙ whole_part _ _ _)
+    (c.before.before.before.before.before.before.set_entry.ensures, c.before.before.put.ensures.1 ∙ whole_part _ _ _)
 
-pub put-mark-spec : {M : Type 1} → statement M
-put-mark-spec =
+pub put_mark_spec : {M : Type 1} → statement M
+put_mark_spec =
     tie.close
     (tie.spec
     set-entry-requires

@@ -24,47 +24,47 @@ abbrev begin : Cursor
 begin = record { at = 0; k = 0; d = 0; e = 0; t = 0 }
 
 -- once the sizes are settled: where the function started, the items that are to be written, and that the sizes are theirs
-abbrev start : tie.After-settle → tie.Start
+abbrev start : tie.After-settle-verdict → tie.Start
 start c = c.before.before.before.before.before.before.before.before
 
-abbrev whole : tie.After-settle → List Item
+abbrev whole : tie.After-settle-verdict → List Item
 whole c = let a = (start c).args in items (recording a.content.now a.entries.now a.text.now)
 
-sized : (c : tie.After-settle)
+sized : (c : tie.After-settle-verdict)
     → let a = (start c).args in
-    Sized (length a.out-text.now) (whole c) (length a.content.now) (length a.entries.now) c.before.own-size.result
+    Sized (length a.out_text-1.now) (whole c) (length a.content.now) (length a.entries.now) c.before.own_size-shared.result
 sized c =
     let a = (start c).args in
-    let o = c.before.own-size in
-    whole_sized a.content.now a.entries.now a.text.now (length a.out-text.now) o.result (start c).requires.0 o.ensures
+    let o = c.before.own_size-shared in
+    whole_sized a.content.now a.entries.now a.text.now (length a.out_text-1.now) o.result (start c).requires.0 o.ensures
 
-own-size-requires : tie.Need-own-size-requires
+own-size-requires : tie.Need-own_size-shared-requires
 own-size-requires c κs =
     let s = c.before.before.before.before.before.before in
     let a = s.args in
     own_asked a.content.now a.entries.now a.text.now a.size s.requires.0 s.requires.1
 
-settle-requires : tie.Need-settle-requires
+settle-requires : tie.Need-settle-verdict-requires
 settle-requires c κs = search rules
 
-enum-known-verdict : tie.Need-enum-known-verdict
+enum-known-verdict : tie.Need-enum_known-verdict
 enum-known-verdict c = search rules
 
-returns : tie.Need-returns
+returns : tie.Need-returns-in-Refused
 returns c =
     let s = c.before.before.before in
     let a = (start s).args in
-    let g = c.before.verdict.given in
-    left_refused (whole s) a.out-data.now a.out-entries.now a.out-text.now _ _ _ (sized s) s.settle.result s.settle.ensures g.0.0 g.1
+    let g = c.before.verdict-1.given in
+    left_refused (whole s) a.out_data-1.now a.out_entries-1.now a.out_text-1.now _ _ _ (sized s) s.settle-verdict.result s.settle-verdict.ensures g.0.0 g.1
 
-enum_told : tie.Need-enum-told
+enum_told : tie.Need-enum_told-1
 enum_told c = search rules
 
 -- all items of the recording are those before its data's end
 all-items : (ds ns ts : List ℕ) → front (length ds - 0) (left ds ns ts begin) ≡ items (recording ds ns ts)
 all-items ds ns ts = front_start ds ns ts begin refl refl (length ds) ∙ keep_all ds ns ts
 
-keep-entries-requires : tie.Need-keep-entries-requires
+keep-entries-requires : tie.Need-keep_entries-c-requires
 unfolding out
 keep-entries-requires c κs =
     let s = c.before.before.before.before.before in
@@ -73,32 +73,32 @@ keep-entries-requires c κs =
       (
         (omega arith, omega arith),
         rw (all-items a.content.now a.entries.now a.text.now)
-            (left_room (whole s) a.out-data.now a.out-entries.now a.out-text.now _ _ _ (sized s) s.settle.result s.settle.ensures c.before.before.before.enum_told.given.1),
+            (left_room (whole s) a.out_data-1.now a.out_entries-1.now a.out_text-1.now _ _ _ (sized s) s.settle-verdict.result s.settle-verdict.ensures c.before.before.before.enum_told-1.given.1),
       ),
     )
 
-same_length : tie.Need-same-length
+same_length : tie.Need-shape_of-out_data
 same_length c = search rules
 
-same-length-2 : tie.Need-same-length-2
+same-length-2 : tie.Need-shape_of-out_entries
 same-length-2 c = search rules
 
-same-length-3 : tie.Need-same-length-3
+same-length-3 : tie.Need-shape_of-out_text
 same-length-3 c = search rules
 
-returns-2 : tie.Need-returns-2
+returns-2 : tie.Need-returns
 unfolding out
 returns-2 c =
     let p = c.before.before.before.before.before.before in
     let s = p.before.before.before.before.before.before in
     let a = (start s).args in
-    left_settled (whole s) a.out-data.now a.out-entries.now a.out-text.now _ _ _ (sized s) s.settle.result s.settle.ensures
-    p.before.before.before.before.enum_told.given.1 _ _ _
-    p.keep-entries.result
-    (p.keep-entries.ensures.0 ∙ ap (λ (is : List Item). add is (out a.out-data.now a.out-entries.now a.out-text.now begin)) (all-items a.content.now a.entries.now a.text.now))
+    left_settled (whole s) a.out_data-1.now a.out_entries-1.now a.out_text-1.now _ _ _ (sized s) s.settle-verdict.result s.settle-verdict.ensures
+    p.before.before.before.before.enum_told-1.given.1 _ _ _
+    p.keep_entries-c.result
+    (p.keep_entries-c.ensures.0 ∙ ap (λ (is : List Item). add is (out a.out_data-1.now a.out_entries-1.now a.out_text-1.now begin)) (all-items a.content.now a.entries.now a.text.now))
 
-pub put-whole-spec : {M : Type 1} → statement M
-put-whole-spec =
+pub put_whole_spec : {M : Type 1} → statement M
+put_whole_spec =
     tie.close
     (tie.spec
     own-size-requires

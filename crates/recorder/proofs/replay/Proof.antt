@@ -13,59 +13,59 @@ use Rattle.recorder.proofs.put_whole.Reads as put-whole-reads
 use Rattle.recording_check.proofs.check.Reads as check-reads
 
 -- once the content is checked: where the function started, and the recording that is read
-abbrev start : tie.After-check → tie.Start
+abbrev start : tie.After-check-checked → tie.Start
 start c = c.before.before.before.before.before.before.before
 
-abbrev content : tie.After-check → Recording
+abbrev content : tie.After-check-checked → Recording
 content c = let a = (start c).args in recording a.content.now a.entries.now a.text.now
 
-check-requires : tie.Need-check-requires
+check-requires : tie.Need-check-checked-requires
 check-requires c κs = search rules
 
-enum-known-checked : tie.Need-enum-known-checked
+enum-known-checked : tie.Need-enum_known-checked
 enum-known-checked c = search rules
 
-returns : tie.Need-returns
+returns : tie.Need-returns-in-Refused
 returns c =
     let s = c.before.before.before in
     let a = (start s).args in
-    let g = c.before.checked.given in
-    check_refused (content s) (lent_of a.out-data.now a.out-entries.now a.out-text.now) s.check.result s.check.ensures.0 g.0.0 g.1
+    let g = c.before.checked-1.given in
+    check_refused (content s) (lent_of a.out_data-1.now a.out_entries-1.now a.out_text-1.now) s.check-checked.result s.check-checked.ensures.0 g.0.0 g.1
 
-enum-known-checked-2 : tie.Need-enum-known-checked-2
+enum-known-checked-2 : tie.Need-enum_known-checked-in-Fine-1
 enum-known-checked-2 c = search rules
 
-put-whole-requires : tie.Need-put-whole-requires
+put-whole-requires : tie.Need-put_whole-requires
 put-whole-requires c κs =
     let s = c.before.before.before.before.before.before in
     let a = (start s).args in
-    let g = c.before.before.before.before.checked2.given in
-    let k = s.check in (
-      passed (content s) (lent_of a.out-data.now a.out-entries.now a.out-text.now) k.result k.ensures.0 g.0.0 g.1,
+    let g = c.before.before.before.before.checked-in-Fine-1.given in
+    let k = s.check-checked in (
+      passed (content s) (lent_of a.out_data-1.now a.out_entries-1.now a.out_text-1.now) k.result k.ensures.0 g.0.0 g.1,
       fine_count k.result g.0.0 (length (text_of (items (content s)))) g.1 k.ensures.1.0,
     )
 
-same_length : tie.Need-same-length
+same_length : tie.Need-shape_of-out_data
 same_length c = search rules
 
-same-length-2 : tie.Need-same-length-2
+same-length-2 : tie.Need-shape_of-out_entries
 same-length-2 c = search rules
 
-same-length-3 : tie.Need-same-length-3
+same-length-3 : tie.Need-shape_of-out_text
 same-length-3 c = search rules
 
-returns-2 : tie.Need-returns-2
+returns-2 : tie.Need-returns
 returns-2 c =
     let p = c.before.before.before.before.before.before in
     let s = p.before.before.before.before.before.before.before in
     let a = (start s).args in
-    let g = p.before.before.before.before.before.checked2.given in
-    let k = s.check in
-    sizes_left (content s) (lent_of a.out-data.now a.out-entries.now a.out-text.now) k.result k.ensures.0 g.0.0 g.1 (lent_of _ _ _) p.put_whole.result
+    let g = p.before.before.before.before.before.checked-in-Fine-1.given in
+    let k = s.check-checked in
+    sizes_left (content s) (lent_of a.out_data-1.now a.out_entries-1.now a.out_text-1.now) k.result k.ensures.0 g.0.0 g.1 (lent_of _ _ _) p.put_whole.result
     p.put_whole.ensures
 
-pub replay-spec : {M : Type 1} → statement M
-replay-spec =
+pub replay_spec : {M : Type 1} → statement M
+replay_spec =
     tie.close
     (tie.spec
     check-requires

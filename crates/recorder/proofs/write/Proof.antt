@@ -15,77 +15,77 @@ use Rattle.buffer.proofs.put.Reads as put_reads
 use Rattle.recorder.proofs.check_used.Reads as check-used-reads
 use Rattle.writer.proofs.settle.Reads as settle-reads
 
-check-used-requires : tie.Need-check-used-requires
+check-used-requires : tie.Need-check_used-checked-requires
 check-used-requires c κs = search rules
 
-enum-known-checked : tie.Need-enum-known-checked
+enum-known-checked : tie.Need-enum_known-checked
 enum-known-checked c = search rules
 
-same_length : tie.Need-same-length
+same_length : tie.Need-shape_of-content-in-Refused
 same_length c = search rules
 
-returns : tie.Need-returns
+returns : tie.Need-returns-in-Refused
 unfolding written
 returns c =
     let a = c.before.before.before.before.before.before.before.before.before.args in
-    let b = lent_of a.content.now a.entries.now a.text.now in
+    let b = lent_of a.content-1.now a.entries.now a.text.now in
     let u = used_of b a.content-len a.entries-len a.text-len in
     let q = with_data a.added.now u in
-    let k = c.before.before.before.check-used in
-    let g = c.before.checked.given in
+    let k = c.before.before.before.check_used-checked in
+    let g = c.before.checked-1.given in
     add-refused (add_faults 0 b a.content-len a.entries-len a.text-len) b q g.0.0
     (check_refused b a.content-len a.entries-len a.text-len k.result k.ensures 0 (room_in b) (leaves q) g.0.0 g.1)
 
-enum_told : tie.Need-enum-told
+enum_told : tie.Need-enum_told-1
 enum_told c = search rules
 
-add_total : tie.Need-overflow-add-total
+add_total : tie.Need-overflow_add-total
 add_total c =
     let a = c.before.before.before.before.before.before.before.before.args in
-    let b = lent_of a.content.now a.entries.now a.text.now in
-    let k = c.before.before.check-used in
-    let g = c.enum_told.given in
-    omega (arith, limits b a.content-len a.entries-len a.text-len k.result k.ensures g.0.0 g.1, c.before.before.before.before.before.before.before.before.well-formed)
+    let b = lent_of a.content-1.now a.entries.now a.text.now in
+    let k = c.before.before.check_used-checked in
+    let g = c.enum_told-1.given in
+    omega (arith, limits b a.content-len a.entries-len a.text-len k.result k.ensures g.0.0 g.1, c.before.before.before.before.before.before.before.before.well_formed)
 
-settle-requires : tie.Need-settle-requires
+settle-requires : tie.Need-settle-verdict-requires
 settle-requires c κs = search rules
 
-enum-known-verdict : tie.Need-enum-known-verdict
+enum-known-verdict : tie.Need-enum_known-verdict
 enum-known-verdict c = search rules
 
-same-length-2 : tie.Need-same-length-2
+same-length-2 : tie.Need-shape_of-content-in-Refused-verdict
 same-length-2 c = search rules
 
-returns-2 : tie.Need-returns-2
+returns-2 : tie.Need-returns-in-Refused-verdict
 unfolding written
 returns-2 c =
     let a = c.before.before.before.before.before.before.before.before.before.before.before.before.args in
-    let b = lent_of a.content.now a.entries.now a.text.now in
+    let b = lent_of a.content-1.now a.entries.now a.text.now in
     let u = used_of b a.content-len a.entries-len a.text-len in
     let q = with_data a.added.now u in
-    let k = c.before.before.before.before.before.before.check-used in
-    let v = c.before.before.before.settle in
-    let g = c.before.before.before.before.enum_told.given in
-    let h = c.before.verdict.given in
+    let k = c.before.before.before.before.before.before.check_used-checked in
+    let v = c.before.before.before.settle-verdict in
+    let g = c.before.before.before.before.enum_told-1.given in
+    let h = c.before.verdict-1.given in
     let i = is_inside b a.content-len a.entries-len a.text-len k.result k.ensures g.0.0 g.1 in
     let s = data_sizes b a.content-len a.entries-len a.text-len a.added.now i in
     add-refused (add_faults 0 b a.content-len a.entries-len a.text-len) b q h.0.0
     (too_large b a.content-len a.entries-len a.text-len k.result k.ensures g.0.0 g.1 0 refl (room_in b) (leaves q) v.result (a.content-len + length a.added.now)
     a.entries-len a.text-len v.ensures s.0 s.1 s.2 refl h.0.0 h.1)
 
-enum-told-2 : tie.Need-enum-told-2
+enum-told-2 : tie.Need-enum_told-in-Room
 enum-told-2 c = search rules
 
 put-requires : tie.Need-put-requires
 put-requires c κs =
     let a = c.before.before.before.before.before.before.before.before.before.before.before.before.args in
-    let b = lent_of a.content.now a.entries.now a.text.now in
+    let b = lent_of a.content-1.now a.entries.now a.text.now in
     let u = used_of b a.content-len a.entries-len a.text-len in
     let q = with_data a.added.now u in
-    let k = c.before.before.before.before.before.before.check-used in
-    let v = c.before.before.before.settle in
-    let g = c.before.before.before.before.enum_told.given in
-    let g₂ = c.before.enum-told2.given in
+    let k = c.before.before.before.before.before.before.check_used-checked in
+    let v = c.before.before.before.settle-verdict in
+    let g = c.before.before.before.before.enum_told-1.given in
+    let g₂ = c.before.enum_told-in-Room-1.given in
     let i = is_inside b a.content-len a.entries-len a.text-len k.result k.ensures g.0.0 g.1 in
     let s = data_sizes b a.content-len a.entries-len a.text-len a.added.now i in
     let f = fits b a.content-len a.entries-len a.text-len k.result k.ensures g.0.0 g.1 0 refl (room_in b) (leaves q) v.result
@@ -93,10 +93,10 @@ put-requires c κs =
     let m = limits b a.content-len a.entries-len a.text-len k.result k.ensures g.0.0 g.1 in
     (omega arith, omega arith, omega (arith, f.data_room, s.0))
 
-same-length-3 : tie.Need-same-length-3
+same-length-3 : tie.Need-shape_of-content
 same-length-3 c = search rules
 
-returns-3 : tie.Need-returns-3
+returns-3 : tie.Need-returns
 unfolding written
 returns-3 c =
     let at-enum-told2 = c.before.before.before.before in
@@ -105,14 +105,14 @@ returns-3 c =
     let at-check-used = at-enum-told.before.before in
     let start = at-check-used.before.before.before.before.before.before in
     let a = start.args in
-    let b = lent_of a.content.now a.entries.now a.text.now in
+    let b = lent_of a.content-1.now a.entries.now a.text.now in
     let u = used_of b a.content-len a.entries-len a.text-len in
     let q = with_data a.added.now u in
-    let k = at-check-used.check-used in
-    let v = at-settle.settle in
+    let k = at-check-used.check_used-checked in
+    let v = at-settle.settle-verdict in
     let p = c.before.before.put in
-    let g = at-enum-told.enum_told.given in
-    let g₂ = at-enum-told2.enum-told2.given in
+    let g = at-enum-told.enum_told-1.given in
+    let g₂ = at-enum-told2.enum_told-in-Room-1.given in
     let i = is_inside b a.content-len a.entries-len a.text-len k.result k.ensures g.0.0 g.1 in
     let s = data_sizes b a.content-len a.entries-len a.text-len a.added.now i in
     let z = accepted b a.content-len a.entries-len a.text-len k.result k.ensures g.0.0 g.1 0 refl (room_in b) (leaves q) v.result

@@ -25,27 +25,27 @@ pop-len : (k s n : ℕ) → k ≡ 1 → s ≡ 0 → not (eqb n 0) ≡ bad_shape_
 unfolding bad_shape_of
 pop-len k s n e h = rw (e, eq-eqb s 0 h)
 
-returns : tie.Need-returns
+returns : tie.Need-returns-then-kind-eq0
 unfolding bad_shape_of
 returns c =
-    rw c.if1.true
+    rw c.if-kind-eq0.true
 
-returns-2 : tie.Need-returns-2
+returns-2 : tie.Need-returns-then-kind-eq2
 unfolding bad_shape_of
 returns-2 c =
-    rw c.if2.true
+    rw c.if-kind-eq2.true
 
-returns-3 : tie.Need-returns-3
+returns-3 : tie.Need-returns-then-kind-ne1
 returns-3 c =
-    high _ _ _ c.before.before.if1.false c.before.if2.false c.if3.true
+    high _ _ _ c.before.before.if-kind-eq0.false c.before.if-kind-eq2.false c.if-kind-ne1.true
 
-returns-4 : tie.Need-returns-4
+returns-4 : tie.Need-returns-then-start-ne0
 returns-4 c =
-    pop_start _ _ _ c.before.if3.false c.if4.true
+    pop_start _ _ _ c.before.if-kind-ne1.false c.if-start-ne0.true
 
-returns-5 : tie.Need-returns-5
+returns-5 : tie.Need-returns
 returns-5 c =
-    pop-len _ _ _ c.before.if3.false c.if4.false
+    pop-len _ _ _ c.before.if-kind-ne1.false c.if-start-ne0.false
 
-pub bad-shape-spec : {M : Type 1} → statement M
-bad-shape-spec = tie.close (tie.spec returns returns-2 returns-3 returns-4 returns-5)
+pub bad_shape_spec : {M : Type 1} → statement M
+bad_shape_spec = tie.close (tie.spec returns returns-2 returns-3 returns-4 returns-5)

@@ -10,36 +10,36 @@ use Rattle.recording_check.proofs.check.Reads as reads
 use Rattle.recording_check.proofs.check.Lts as lts
 use Rattle.recording_check.proofs.check_entries.Reads as check-entries-reads
 
-returns : tie.Need-returns
+returns : tie.Need-returns-then-content-gt1048576
 unfolding fault_of Counted Within number_of_refusal
 returns c =
-    (sym (fault_1 _ _ _ c.if1.true), (tt, tt))
+    (sym (fault_1 _ _ _ c.if-content-gt1048576.true), (tt, tt))
 
-returns-2 : tie.Need-returns-2
+returns-2 : tie.Need-returns-then-entries-ne0
 unfolding fault_of Counted Within number_of_refusal
 returns-2 c =
-    (sym (fault_2a _ _ _ c.before.if1.false c.if2.true), (tt, tt))
+    (sym (fault_2a _ _ _ c.before.if-content-gt1048576.false c.if-entries-ne0.true), (tt, tt))
 
-returns-3 : tie.Need-returns-3
+returns-3 : tie.Need-returns-then-entries-gt16384
 unfolding fault_of Counted Within number_of_refusal
 returns-3 c =
-    (sym (fault_2b _ _ _ c.before.before.if1.false c.before.if2.false c.if3.true), (tt, tt))
+    (sym (fault_2b _ _ _ c.before.before.if-content-gt1048576.false c.before.if-entries-ne0.false c.if-entries-gt16384.true), (tt, tt))
 
-returns-4 : tie.Need-returns-4
+returns-4 : tie.Need-returns-then-text-gt65536
 unfolding fault_of Counted Within number_of_refusal
 returns-4 c =
-    (sym (fault_5 _ _ _ c.before.before.before.if1.false c.before.before.if2.false c.before.if3.false c.if4.true), (tt, tt))
+    (sym (fault_5 _ _ _ c.before.before.before.if-content-gt1048576.false c.before.before.if-entries-ne0.false c.before.if-entries-gt16384.false c.if-text-gt65536.true), (tt, tt))
 
-check-entries-requires : tie.Need-check-entries-requires
+check-entries-requires : tie.Need-check_entries-requires
 check-entries-requires c κs = search rules
 
-returns-5 : tie.Need-returns-5
+returns-5 : tie.Need-returns
 returns-5 c = (
-  c.check-entries.ensures.0 ∙ sym (fault_entries _ _ _ c.before.before.before.before.if1.false c.before.before.before.if2.false c.before.before.if3.false
-      c.before.if4.false),
-  c.check-entries.ensures.1,
+  c.check_entries.ensures.0 ∙ sym (fault_entries _ _ _ c.before.before.before.before.if-content-gt1048576.false c.before.before.before.if-entries-ne0.false c.before.before.if-entries-gt16384.false
+      c.before.if-text-gt65536.false),
+  c.check_entries.ensures.1,
 )
 
-pub check-spec : {M : Type 1} → statement M
-check-spec =
+pub check_spec : {M : Type 1} → statement M
+check_spec =
     tie.close (tie.spec returns returns-2 returns-3 returns-4 check-entries-requires returns-5)

@@ -15,55 +15,55 @@ content s = recording s.args.content.now s.args.entries.now s.args.text.now
 second : tie.Start → Recording
 second s = recording s.args.second.now s.args.second-entries.now s.args.second-text.now
 
-check-requires : tie.Need-check-requires
+check-requires : tie.Need-check-first-requires
 check-requires c κs = search rules
 
-enum-known-first : tie.Need-enum-known-first
+enum-known-first : tie.Need-enum_known-first
 enum-known-first c = search rules
 
-returns : tie.Need-returns
+returns : tie.Need-returns-in-Refused
 unfolding content second
 returns c =
     let s = c.before.before.before.before.before.before.before.before.before.before in
-    let k = c.before.before.before.check in
-    let x = c.before.first.given in
+    let k = c.before.before.before.check-first in
+    let x = c.before.first-1.given in
     first_refused (content s) (second s) k.result k.ensures.0 x.0.0 x.1
 
-enum-known-first-2 : tie.Need-enum-known-first-2
+enum-known-first-2 : tie.Need-enum_known-first-in-Fine-1
 enum-known-first-2 c = search rules
 
-check-requires-2 : tie.Need-check-requires-2
+check-requires-2 : tie.Need-check-next-requires
 check-requires-2 c κs = search rules
 
-enum-known-next : tie.Need-enum-known-next
+enum-known-next : tie.Need-enum_known-next
 enum-known-next c = search rules
 
-enum-known-next-2 : tie.Need-enum-known-next-2
+enum-known-next-2 : tie.Need-enum_known-next-in-Fine-next
 enum-known-next-2 c = search rules
 
-returns-2 : tie.Need-returns-2
+returns-2 : tie.Need-returns-in-Refused-next
 unfolding content second
 returns-2 c =
     let s = c.before.before.before.before.before.before.before.before.before.before.before.before.before.before in
-    let k = c.before.before.before.before.before.before.before.check in
-    let x = c.before.before.before.before.before.first2.given in
-    let l = c.before.before.before.check2 in
-    let y = c.before.next.given in
+    let k = c.before.before.before.before.before.before.before.check-first in
+    let x = c.before.before.before.before.before.first-in-Fine-1.given in
+    let l = c.before.before.before.check-next in
+    let y = c.before.next-1.given in
     next_refused (content s) (second s) k.result k.ensures.0 x.0.0 x.1 k.ensures.1.0 k.ensures.1.1 l.result l.ensures.0 y.0.0 y.1
 
-returns-3 : tie.Need-returns-3
+returns-3 : tie.Need-returns-in-Fine-next
 unfolding content second
 returns-3 c =
     let s = c.before.before.before.before.before.before.before.before.before.before.before.before.before.before in
-    let k = c.before.before.before.before.before.before.before.check in
-    let x = c.before.before.before.before.before.first2.given in
-    let l = c.before.before.before.check2 in
-    let y = c.before.next2.given in
+    let k = c.before.before.before.before.before.before.before.check-first in
+    let x = c.before.before.before.before.before.first-in-Fine-1.given in
+    let l = c.before.before.before.check-next in
+    let y = c.before.next-in-Fine-next-1.given in
     both_fine (content s) (second s) k.result k.ensures.0 x.0.0 x.1 k.ensures.1.0 k.ensures.1.1 l.result l.ensures.0 y.0.0 y.1
     l.ensures.1.0 l.ensures.1.1
 
-pub check-both-spec : {M : Type 1} → statement M
-check-both-spec =
+pub check_both_spec : {M : Type 1} → statement M
+check_both_spec =
     tie.close
     (tie.spec
     check-requires

@@ -13,83 +13,83 @@ use Rattle.recording_check.proofs.check_entries.Lts as lts
 use Rattle.recording_check.proofs.check_entry.Reads as check-entry-reads
 use Rattle.recording.proofs.entry_at.Reads as entry-at-reads
 
-abbrev invariant-loop : tie.invariant-loop
+abbrev invariant-loop : tie.invariant-loop-k
 invariant-loop content entries text at₀ k₀ size₀ at k size =
     Seen content entries text at k size
 
-abbrev decreases-loop : tie.decreases-loop
+abbrev decreases-loop : tie.decreases-loop-k
 decreases-loop content entries text at₀ k₀ size₀ at k size =
     length entries - k
 
-loop-holds : tie.Need-loop-init invariant-loop decreases-loop
+loop-holds : tie.Need-loop-k-init invariant-loop decreases-loop
 loop-holds c =
     seen_first _ _ _
 
-entry-at-requires : tie.Need-entry-at-requires invariant-loop decreases-loop
+entry-at-requires : tie.Need-entry_at-e-requires invariant-loop decreases-loop
 entry-at-requires c κs =
-    whole _ _ _ _ _ _ c.before.loop.invariant c.before.before.before.before.before.requires.0 c.loop-test.true
+    whole _ _ _ _ _ _ c.before.loop-k.invariant c.before.before.before.before.before.requires.0 c.loop-k-test.true
 
-check-entry-requires : tie.Need-check-entry-requires invariant-loop decreases-loop
+check-entry-requires : tie.Need-check_entry-got-requires invariant-loop decreases-loop
 check-entry-requires c κs = search rules
 
-enum_told : tie.Need-enum-told invariant-loop decreases-loop
+enum_told : tie.Need-enum_told-1 invariant-loop decreases-loop
 enum_told c = search rules
 
-returns : tie.Need-returns invariant-loop decreases-loop
+returns : tie.Need-returns-in-Refused invariant-loop decreases-loop
 returns c =
-    let g = c.enum_told.given in
-    let k = c.before.before.check-entry in (
-      stops _ _ _ _ _ _ c.before.before.before.before.before.loop.invariant c.before.before.before.before.before.before.before.before.before.requires.0
-          c.before.before.before.before.loop-test.true _ c.before.before.before.entry_at.ensures k.result k.ensures.0 g.0.0 g.1,
+    let g = c.enum_told-1.given in
+    let k = c.before.before.check_entry-got in (
+      stops _ _ _ _ _ _ c.before.before.before.before.before.loop-k.invariant c.before.before.before.before.before.before.before.before.before.requires.0
+          c.before.before.before.before.loop-k-test.true _ c.before.before.before.entry_at-e.ensures k.result k.ensures.0 g.0.0 g.1,
       (refused-count k.result g.0.0 _ g.1, refused-within k.result g.0.0 _ g.1),
     )
 
-enum-known-got : tie.Need-enum-known-got invariant-loop decreases-loop
+enum-known-got : tie.Need-enum_known-got invariant-loop decreases-loop
 enum-known-got c = search rules
 
-add-size : tie.Need-overflow-add-size invariant-loop decreases-loop
+add-size : tie.Need-overflow_add-size invariant-loop decreases-loop
 add-size c =
-    let g = c.before.got.given in
-    let k = c.before.before.before.check-entry in
+    let g = c.before.got-1.given in
+    let k = c.before.before.before.check_entry-got in
     omega (
       arith,
-      fits_size _ _ _ _ _ _ c.before.before.before.before.before.before.loop.invariant
-          c.before.before.before.before.before.before.before.before.before.before.requires.0 c.before.before.before.before.before.loop-test.true _
-          c.before.before.before.before.entry_at.ensures k.result k.ensures.0 g.0.0 g.1 k.ensures.1
+      fits_size _ _ _ _ _ _ c.before.before.before.before.before.before.loop-k.invariant
+          c.before.before.before.before.before.before.before.before.before.before.requires.0 c.before.before.before.before.before.loop-k-test.true _
+          c.before.before.before.before.entry_at-e.ensures k.result k.ensures.0 g.0.0 g.1 k.ensures.1
           c.before.before.before.before.before.before.before.before.before.before.requires.2,
       c.before.before.before.before.before.before.before.before.before.before.requires,
-      c.before.before.before.before.before.loop-test.true,
+      c.before.before.before.before.before.loop-k-test.true,
     )
 
-add-k : tie.Need-overflow-add-k invariant-loop decreases-loop
+add-k : tie.Need-overflow_add-k invariant-loop decreases-loop
 add-k c =
     omega (
       arith,
-      whole _ _ _ _ _ _ c.before.before.before.before.before.before.loop.invariant
-          c.before.before.before.before.before.before.before.before.before.before.requires.0 c.before.before.before.before.before.loop-test.true,
+      whole _ _ _ _ _ _ c.before.before.before.before.before.before.loop-k.invariant
+          c.before.before.before.before.before.before.before.before.before.before.requires.0 c.before.before.before.before.before.loop-k-test.true,
       c.before.before.before.before.before.before.before.before.before.before.requires,
     )
 
-loop-less : tie.Need-loop-smaller invariant-loop decreases-loop
+loop-less : tie.Need-loop-k-smaller invariant-loop decreases-loop
 loop-less c = search rules
 
-loop-again : tie.Need-loop-preserved invariant-loop decreases-loop
+loop-again : tie.Need-loop-k-preserved invariant-loop decreases-loop
 loop-again c =
-    let g = c.before.got.given in
-    let k = c.before.before.before.check-entry in
-    goes _ _ _ _ _ _ c.before.before.before.before.before.before.loop.invariant c.before.before.before.before.before.before.before.before.before.before.requires.0
-    c.before.before.before.before.before.loop-test.true _ c.before.before.before.before.entry_at.ensures k.result k.ensures.0 g.0.0 g.1
+    let g = c.before.got-1.given in
+    let k = c.before.before.before.check_entry-got in
+    goes _ _ _ _ _ _ c.before.before.before.before.before.before.loop-k.invariant c.before.before.before.before.before.before.before.before.before.before.requires.0
+    c.before.before.before.before.before.loop-k-test.true _ c.before.before.before.before.entry_at-e.ensures k.result k.ensures.0 g.0.0 g.1
     k.ensures.1 c.before.before.before.before.before.before.before.before.before.before.requires.2 _ refl
 
-returns-2 : tie.Need-returns-2 invariant-loop decreases-loop
+returns-2 : tie.Need-returns invariant-loop decreases-loop
 unfolding fault_of Counted Within
 returns-2 c =
-    let s = c.before.loop.invariant in
-    let l = seen_last _ _ _ _ _ _ s c.loop-test.false in
+    let s = c.before.loop-k.invariant in
+    let l = seen_last _ _ _ _ _ _ s c.loop-k-test.false in
     (l.0, (l.1, omega (arith, s.small, s.within, c.before.before.before.before.before.requires)))
 
-pub check-entries-spec : {M : Type 1} → statement M
-check-entries-spec =
+pub check_entries_spec : {M : Type 1} → statement M
+check_entries_spec =
     tie.close
     (tie.spec
     invariant-loop

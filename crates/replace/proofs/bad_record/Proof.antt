@@ -5,26 +5,26 @@ use Rattle.replace.proofs.bad_record.Tie as tie
 use Rattle.replace.proofs.bad_record.Reads as reads
 use Rattle.replace.proofs.bad_record.Lts as lts
 
-returns : tie.Need-returns
+returns : tie.Need-returns-then-end-start
 returns c =
-    rw (lt-ltb _ _ c.if1.true)
+    rw (lt-ltb _ _ c.if-end-start.true)
 
-returns-2 : tie.Need-returns-2
+returns-2 : tie.Need-returns-then-n-end
 returns-2 c =
-    rw (le-ltb _ _ c.before.if1.false, lt-ltb _ _ c.if2.true)
+    rw (le-ltb _ _ c.before.if-end-start.false, lt-ltb _ _ c.if-n-end.true)
 
-returns-3 : tie.Need-returns-3
+returns-3 : tie.Need-returns-then-start-at
 returns-3 c =
-    rw (le-ltb _ _ c.before.before.if1.false, le-ltb _ _ c.before.if2.false, lt-ltb _ _ c.if3.true)
+    rw (le-ltb _ _ c.before.before.if-end-start.false, le-ltb _ _ c.before.if-n-end.false, lt-ltb _ _ c.if-start-at.true)
 
-returns-4 : tie.Need-returns-4
+returns-4 : tie.Need-returns-then-to-from
 returns-4 c =
-    rw (le-ltb _ _ c.before.before.before.if1.false, le-ltb _ _ c.before.before.if2.false, le-ltb _ _ c.before.if3.false, lt-ltb _ _ c.if4.true)
+    rw (le-ltb _ _ c.before.before.before.if-end-start.false, le-ltb _ _ c.before.before.if-n-end.false, le-ltb _ _ c.before.if-start-at.false, lt-ltb _ _ c.if-to-from.true)
 
-returns-5 : tie.Need-returns-5
+returns-5 : tie.Need-returns
 returns-5 c =
-    rw (le-ltb _ _ c.before.before.before.if1.false, le-ltb _ _ c.before.before.if2.false, le-ltb _ _ c.before.if3.false, le-ltb _ _ c.if4.false)
+    rw (le-ltb _ _ c.before.before.before.if-end-start.false, le-ltb _ _ c.before.before.if-n-end.false, le-ltb _ _ c.before.if-start-at.false, le-ltb _ _ c.if-to-from.false)
 
-pub bad-record-spec : {M : Type 1} → statement M
-bad-record-spec =
+pub bad_record_spec : {M : Type 1} → statement M
+bad_record_spec =
     tie.close (tie.spec returns returns-2 returns-3 returns-4 returns-5)

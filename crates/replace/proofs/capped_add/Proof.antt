@@ -8,20 +8,20 @@ use Rattle.replace.proofs.capped_add.Tie as tie
 use Rattle.replace.proofs.capped_add.Reads as reads
 use Rattle.replace.proofs.capped_add.Lts as lts
 
-returns : tie.Need-returns
+returns : tie.Need-returns-then-size-gt1048576
 returns c =
-    sym (capped_over _ (omega (arith, c.if1.true)))
+    sym (capped_over _ (omega (arith, c.if-size-gt1048576.true)))
 
-returns-2 : tie.Need-returns-2
+returns-2 : tie.Need-returns-then-size-more
 returns-2 c =
-    sym (capped_over _ (omega (arith, c.before.if1.false, c.if2.true)))
+    sym (capped_over _ (omega (arith, c.before.if-size-gt1048576.false, c.if-size-more.true)))
 
-add-result : tie.Need-overflow-add-result
+add-result : tie.Need-overflow_add-result
 add-result c = search rules
 
-returns-3 : tie.Need-returns-3
+returns-3 : tie.Need-returns
 returns-3 c =
-    sym (capped_in _ (omega (arith, c.before.if1.false, c.if2.false)))
+    sym (capped_in _ (omega (arith, c.before.if-size-gt1048576.false, c.if-size-more.false)))
 
-pub capped-add-spec : {M : Type 1} → statement M
-capped-add-spec = tie.close (tie.spec returns returns-2 add-result returns-3)
+pub capped_add_spec : {M : Type 1} → statement M
+capped_add_spec = tie.close (tie.spec returns returns-2 add-result returns-3)

@@ -11,52 +11,52 @@ use Rattle.replace.proofs.check_numbers.Lts as lts
 use Rattle.replace.proofs.bad_record.Reads as bad-record-reads
 use Rattle.replace.proofs.capped_add.Reads as capped-add-reads
 
-returns : tie.Need-returns
+returns : tie.Need-returns-then-s
 unfolding check_step
 returns c =
-    rw c.if1.true
+    rw c.if-s.true
 
-bad-record-requires : tie.Need-bad-record-requires
+bad-record-requires : tie.Need-bad_record-requires
 bad-record-requires c κs = search rules
 
-returns-2 : tie.Need-returns-2
+returns-2 : tie.Need-returns-then-bad_record
 unfolding check_step
 returns-2 c =
-    let e = sym c.before.bad-record.ensures ∙ c.if2.true in
-    rw (c.before.before.if1.false, e)
+    let e = sym c.before.bad_record.ensures ∙ c.if-bad_record.true in
+    rw (c.before.before.if-s.false, e)
 
-sub-capped-add : tie.Need-overflow-sub-capped-add
+sub-capped-add : tie.Need-overflow_sub-start
 sub-capped-add c =
     let a = c.before.before.before.before.args in
-    let g = good a.s.at a.n a.t (replacement a.start a.end a.from a.to) (sym c.before.before.bad-record.ensures ∙ c.before.if2.false) in
+    let g = good a.s.at a.n a.t (replacement a.start a.end a.from a.to) (sym c.before.before.bad_record.ensures ∙ c.before.if-bad_record.false) in
     omega (arith, g.low)
 
-cast-capped-add : tie.Need-overflow-cast-capped-add
+cast-capped-add : tie.Need-overflow_cast-start
 cast-capped-add c = search rules
 
-capped-add-requires : tie.Need-capped-add-requires
+capped-add-requires : tie.Need-capped_add-kept-requires
 capped-add-requires c κs = search rules
 
-sub-capped-add-2 : tie.Need-overflow-sub-capped-add-2
+sub-capped-add-2 : tie.Need-overflow_sub-to
 sub-capped-add-2 c =
     let a = c.before.before.before.before.before.args in
-    let g = good a.s.at a.n a.t (replacement a.start a.end a.from a.to) (sym c.before.before.before.bad-record.ensures ∙ c.before.before.if2.false) in
+    let g = good a.s.at a.n a.t (replacement a.start a.end a.from a.to) (sym c.before.before.before.bad_record.ensures ∙ c.before.before.if-bad_record.false) in
     omega (arith, g.part)
 
-cast-capped-add-2 : tie.Need-overflow-cast-capped-add-2
+cast-capped-add-2 : tie.Need-overflow_cast-to
 cast-capped-add-2 c = search rules
 
-capped-add-requires-2 : tie.Need-capped-add-requires-2
+capped-add-requires-2 : tie.Need-capped_add-requires
 capped-add-requires-2 c κs = search rules
 
-returns-3 : tie.Need-returns-3
+returns-3 : tie.Need-returns
 unfolding check_step
 returns-3 c =
-    let e = sym c.before.before.before.before.bad-record.ensures ∙ c.before.before.before.if2.false in
-    rw (c.before.before.before.before.before.if1.false, e, c.capped-add2.ensures, c.before.capped-add.ensures)
+    let e = sym c.before.before.before.before.bad_record.ensures ∙ c.before.before.before.if-bad_record.false in
+    rw (c.before.before.before.before.before.if-s.false, e, c.capped_add.ensures, c.before.capped_add-kept.ensures)
 
-pub check-numbers-spec : {M : Type 1} → statement M
-check-numbers-spec =
+pub check_numbers_spec : {M : Type 1} → statement M
+check_numbers_spec =
     tie.close
     (tie.spec
     returns

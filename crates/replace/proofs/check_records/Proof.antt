@@ -14,46 +14,46 @@ use Rattle.replace.proofs.check_records.Lts as lts
 use Rattle.replace.proofs.check_numbers.Reads as check-numbers-reads
 use Rattle.replace.proofs.record_at.Reads as record-at-reads
 
-abbrev invariant-loop : tie.invariant-loop
+abbrev invariant-loop : tie.invariant-loop-i
 invariant-loop records n t s₀ i₀ s i =
     (i ≤ length records) × (check_all n t (records_of (drop i records)) s ≡ check_all n t (records_of records) (scan false 0 0))
 
-abbrev decreases-loop : tie.decreases-loop
+abbrev decreases-loop : tie.decreases-loop-i
 decreases-loop records n t s₀ i₀ s i =
     length records - i
 
-loop-holds : tie.Need-loop-init invariant-loop decreases-loop
+loop-holds : tie.Need-loop-i-init invariant-loop decreases-loop
 loop-holds c = search rules
 
-add-loop : tie.Need-overflow-add-loop invariant-loop decreases-loop
+add-loop : tie.Need-overflow_add-i invariant-loop decreases-loop
 add-loop c = search rules
 
-record-at-requires : tie.Need-record-at-requires invariant-loop decreases-loop
+record-at-requires : tie.Need-record_at-x-requires invariant-loop decreases-loop
 record-at-requires c κs = search rules
 
-check-numbers-requires : tie.Need-check-numbers-requires invariant-loop decreases-loop
+check-numbers-requires : tie.Need-check_numbers-s-requires invariant-loop decreases-loop
 check-numbers-requires c κs = search rules
 
-add-i : tie.Need-overflow-add-i invariant-loop decreases-loop
+add-i : tie.Need-overflow_add-i-in-loop-i invariant-loop decreases-loop
 add-i c = search rules
 
-loop-less : tie.Need-loop-smaller invariant-loop decreases-loop
+loop-less : tie.Need-loop-i-smaller invariant-loop decreases-loop
 loop-less c = search rules
 
-loop-again : tie.Need-loop-preserved invariant-loop decreases-loop
+loop-again : tie.Need-loop-i-preserved invariant-loop decreases-loop
 loop-again c =
     let a = c.before.before.before.before.before.args in
-    let r = c.before.record-at in
-    (search rules, scan_next a.n a.t a.records.now c.before.before.before.loop.i r.result _ _ _ r.ensures c.check-numbers.ensures c.before.before.before.loop.invariant.1)
+    let r = c.before.record_at-x in
+    (search rules, scan_next a.n a.t a.records.now c.before.before.before.loop-i.i r.result _ _ _ r.ensures c.check_numbers-s.ensures c.before.before.before.loop-i.invariant.1)
 
 returns : tie.Need-returns invariant-loop decreases-loop
 returns c =
     let a = c.before.before.before.args in
-    let l = c.before.loop in
-    scan_end a.n a.t a.records.now l.i _ _ (omega (arith, length-drop l.i a.records.now, c.loop-test.false)) l.invariant.1
+    let l = c.before.loop-i in
+    scan_end a.n a.t a.records.now l.i _ _ (omega (arith, length-drop l.i a.records.now, c.loop-i-test.false)) l.invariant.1
 
-pub check-records-spec : {M : Type 1} → statement M
-check-records-spec =
+pub check_records_spec : {M : Type 1} → statement M
+check_records_spec =
     tie.close
     (tie.spec
     invariant-loop

@@ -6,45 +6,45 @@ use Rattle.replace.proofs.record_at.Tie as tie
 use Rattle.replace.proofs.record_at.Reads as reads
 use Rattle.replace.proofs.record_at.Lts as lts
 
-mul-t3 : tie.Need-overflow-mul-t3
+mul-t3 : tie.Need-offset_bounds-records-k
 mul-t3 c = search rules
 
-shared-slice-read-t5 : tie.Need-shared-slice-read-t5
+shared-slice-read-t5 : tie.Need-bounds-records-k
 shared-slice-read-t5 c = search rules
 
-add-t6 : tie.Need-overflow-add-t6
+add-t6 : tie.Need-overflow_add-result
 add-t6 c = search rules
 
-mul-t7 : tie.Need-overflow-mul-t7
+mul-t7 : tie.Need-offset_bounds-records-k-2
 mul-t7 c = search rules
 
-shared-slice-read-t9 : tie.Need-shared-slice-read-t9
+shared-slice-read-t9 : tie.Need-bounds-records-k-2
 shared-slice-read-t9 c = search rules
 
-add-t10 : tie.Need-overflow-add-t10
+add-t10 : tie.Need-overflow_add-result-2
 add-t10 c = search rules
 
-mul-t11 : tie.Need-overflow-mul-t11
+mul-t11 : tie.Need-offset_bounds-records-k-3
 mul-t11 c = search rules
 
-shared-slice-read-t13 : tie.Need-shared-slice-read-t13
+shared-slice-read-t13 : tie.Need-bounds-records-k-3
 shared-slice-read-t13 c = search rules
 
-add-t14 : tie.Need-overflow-add-t14
+add-t14 : tie.Need-overflow_add-result-3
 add-t14 c = search rules
 
-mul-t15 : tie.Need-overflow-mul-t15
+mul-t15 : tie.Need-offset_bounds-records-k-4
 mul-t15 c = search rules
 
-shared-slice-read-t17 : tie.Need-shared-slice-read-t17
+shared-slice-read-t17 : tie.Need-bounds-records-k-4
 shared-slice-read-t17 c = search rules
 
 returns : tie.Need-returns
 returns c =
     records_next _ _ c.before.before.before.before.requires
 
-pub record-at-spec : {M : Type 1} → statement M
-record-at-spec =
+pub record_at_spec : {M : Type 1} → statement M
+record_at_spec =
     tie.close
     (tie.spec
     mul-t3

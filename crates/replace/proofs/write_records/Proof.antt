@@ -21,63 +21,63 @@ use Rattle.writer.proofs.keep.Reads as keep-reads
 none_left : (ns : List ℕ) (k : ℕ) → length ns < k + 4 → records_of (drop k ns) ≡ []
 none_left ns k h = records_few (drop k ns) (omega (arith, length-drop k ns))
 
-abbrev invariant-loop : tie.invariant-loop
+abbrev invariant-loop : tie.invariant-loop-k
 invariant-loop content entries text records new bytes₀ numbers₀ texts₀ c₀ k₀ bytes numbers texts c k =
     (k ≤ length records) × State content entries text new (records_of records) (records_of (drop k records)) (blank bytes₀ numbers₀ texts₀) (out bytes numbers texts c) c
 
-abbrev decreases-loop : tie.decreases-loop
+abbrev decreases-loop : tie.decreases-loop-k
 decreases-loop content entries text records new bytes₀ numbers₀ texts₀ c₀ k₀ bytes numbers texts c k =
     length records - k
 
-loop-holds : tie.Need-loop-init invariant-loop decreases-loop
+loop-holds : tie.Need-loop-k-init invariant-loop decreases-loop
 unfolding out
 loop-holds c =
     let p = c.before.before.before.before.before.before.before.before.requires in
     (omega arith, state_first _ _ _ _ _ _ _ refl refl p.0 p.1.0)
 
 -- at the loop's head: where the function started
-abbrev start : tie.At-loop invariant-loop decreases-loop → tie.Start invariant-loop decreases-loop
+abbrev start : tie.At-loop-k invariant-loop decreases-loop → tie.Start invariant-loop decreases-loop
 start c = c.before.before.before.before.before.before.before.before.before
 
-add-loop : tie.Need-overflow-add-loop invariant-loop decreases-loop
+add-loop : tie.Need-overflow_add-k invariant-loop decreases-loop
 add-loop c = search rules
 
-record-at-requires : tie.Need-record-at-requires invariant-loop decreases-loop
+record-at-requires : tie.Need-record_at-requires invariant-loop decreases-loop
 record-at-requires c κs = search rules
 
-write-step-requires : tie.Need-write-step-requires invariant-loop decreases-loop
+write-step-requires : tie.Need-write_step-c-requires invariant-loop decreases-loop
 write-step-requires c κs =
     let l = c.before.before.before.before.before in
     let a = (start l).args in
-    let x = c.before.before.before.record-at in
-    may_turn a.content.now a.entries.now a.text.now a.new.now (records_of a.records.now) _ _ _ _ l.loop.invariant.1 (start l).requires.1.1 x.result _ x.ensures
+    let x = c.before.before.before.record_at in
+    may_turn a.content.now a.entries.now a.text.now a.new.now (records_of a.records.now) _ _ _ _ l.loop-k.invariant.1 (start l).requires.1.1 x.result _ x.ensures
 
-add-k : tie.Need-overflow-add-k invariant-loop decreases-loop
+add-k : tie.Need-overflow_add-k-in-loop-k invariant-loop decreases-loop
 add-k c =
     let l = c.before.before.before.before.before.before.before.before.before.before.before.before in
-    omega (arith, c.before.before.before.before.before.before.before.before.before.before.before.loop-test, (start l).well-formed)
+    omega (arith, c.before.before.before.before.before.before.before.before.before.before.before.loop-k-test, (start l).well_formed)
 
-loop-less : tie.Need-loop-smaller invariant-loop decreases-loop
+loop-less : tie.Need-loop-k-smaller invariant-loop decreases-loop
 loop-less c = search rules
 
-loop-again : tie.Need-loop-preserved invariant-loop decreases-loop
+loop-again : tie.Need-loop-k-preserved invariant-loop decreases-loop
 loop-again c =
     let l = c.before.before.before.before.before.before.before.before.before.before.before.before in
     let a = (start l).args in
-    let x = c.before.before.before.before.before.before.before.before.before.before.record-at in (
-      omega (arith, c.before.before.before.before.before.before.before.before.before.before.before.loop-test),
-      state_next a.content.now a.entries.now a.text.now a.new.now (records_of a.records.now) _ _ _ _ l.loop.invariant.1 (start l).requires.1.1 x.result _ x.ensures _ _
-          c.before.before.before.before.before.before.write_step.ensures,
+    let x = c.before.before.before.before.before.before.before.before.before.before.record_at in (
+      omega (arith, c.before.before.before.before.before.before.before.before.before.before.before.loop-k-test),
+      state_next a.content.now a.entries.now a.text.now a.new.now (records_of a.records.now) _ _ _ _ l.loop-k.invariant.1 (start l).requires.1.1 x.result _ x.ensures _ _
+          c.before.before.before.before.before.before.write_step-c.ensures,
     )
 
 keep-requires : tie.Need-keep-requires invariant-loop decreases-loop
 keep-requires c κs =
     let h = c.before.before.before.before in
     let a = (start h).args in
-    let l = h.loop in
+    let l = h.loop-k in
     let s = l.invariant.1 in
     let p = (start h).requires in
-    let e = none_left a.records.now l.k c.before.before.before.loop-test.false in (
+    let e = none_left a.records.now l.k c.before.before.before.loop-k-test.false in (
       s.ready,
       (
         (within a.content.now a.entries.now a.text.now a.new.now (records_of a.records.now) _ _ _ _ s p.1.1 e, omega arith),
@@ -85,41 +85,41 @@ keep-requires c κs =
       ),
     )
 
-same_length : tie.Need-same-length invariant-loop decreases-loop
+same_length : tie.Need-shape_of-bytes invariant-loop decreases-loop
 unfolding out
 same_length c =
     let l = c.before.before.before.before.before.before.before.before.before.before.before in
     let a = (start l).args in
-    let g = long_now a.content.now a.entries.now a.text.now a.new.now (records_of a.records.now) _ _ _ _ l.loop.invariant.1 (start l).requires.1.1 in
+    let g = long_now a.content.now a.entries.now a.text.now a.new.now (records_of a.records.now) _ _ _ _ l.loop-k.invariant.1 (start l).requires.1.1 in
     c.before.before.before.before.before.before.keep.auto.0 ∙ g.data_bytes
 
-same-length-2 : tie.Need-same-length-2 invariant-loop decreases-loop
+same-length-2 : tie.Need-shape_of-numbers invariant-loop decreases-loop
 unfolding out
 same-length-2 c =
     let l = c.before.before.before.before.before.before.before.before.before.before.before in
     let a = (start l).args in
-    let g = long_now a.content.now a.entries.now a.text.now a.new.now (records_of a.records.now) _ _ _ _ l.loop.invariant.1 (start l).requires.1.1 in
+    let g = long_now a.content.now a.entries.now a.text.now a.new.now (records_of a.records.now) _ _ _ _ l.loop-k.invariant.1 (start l).requires.1.1 in
     c.before.before.before.before.before.before.keep.auto.1.0 ∙ g.entry_numbers
 
-same-length-3 : tie.Need-same-length-3 invariant-loop decreases-loop
+same-length-3 : tie.Need-shape_of-texts invariant-loop decreases-loop
 unfolding out
 same-length-3 c =
     let l = c.before.before.before.before.before.before.before.before.before.before.before in
     let a = (start l).args in
-    let g = long_now a.content.now a.entries.now a.text.now a.new.now (records_of a.records.now) _ _ _ _ l.loop.invariant.1 (start l).requires.1.1 in
+    let g = long_now a.content.now a.entries.now a.text.now a.new.now (records_of a.records.now) _ _ _ _ l.loop-k.invariant.1 (start l).requires.1.1 in
     c.before.before.before.before.before.before.keep.auto.1.1.0 ∙ g.text
 
 returns : tie.Need-returns invariant-loop decreases-loop
 returns c =
     let h = c.before.before.before.before.before.before.before.before.before.before.before in
     let a = (start h).args in
-    let l = h.loop in
+    let l = h.loop-k in
     finish a.content.now a.entries.now a.text.now a.new.now (records_of a.records.now) _ _ _ _ l.invariant.1 (start h).requires.1.1
-    (none_left a.records.now l.k c.before.before.before.before.before.before.before.before.before.before.loop-test.false) _
+    (none_left a.records.now l.k c.before.before.before.before.before.before.before.before.before.before.loop-k-test.false) _
     c.before.before.before.before.before.before.keep.ensures.0
 
-pub write-records-spec : {M : Type 1} → statement M
-write-records-spec =
+pub write_records_spec : {M : Type 1} → statement M
+write_records_spec =
     tie.close
     (tie.spec
     invariant-loop

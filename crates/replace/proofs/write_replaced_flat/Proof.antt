@@ -55,141 +55,141 @@ abbrev lent : tie.Start → Lent
 lent s = lent_of s.args.bytes.now s.args.numbers.now s.args.texts.now
 
 -- once the content is checked
-abbrev start : tie.After-checked2 → tie.Start
+abbrev start : tie.In-Fine-2 → tie.Start
 start c = c.before.before.before.before.before.before.before.before.before.before.before
 
-abbrev size : tie.After-checked2 → ℕ
-size c = c.checked2.given.0.0
+abbrev size : tie.In-Fine-2 → ℕ
+size c = c.checked-in-Fine-1.given.0.0
 
-fine : (c : tie.After-checked2) → Fine (ds (start c)) (ns (start c)) (ts (start c)) (size c)
+fine : (c : tie.In-Fine-2) → Fine (ds (start c)) (ns (start c)) (ts (start c)) (size c)
 fine c =
     let s = start c in
-    let k = c.before.before.check in
-    content_fine (call s) (ds s) (ns s) (ts s) (lent s) k.result k.ensures.0 k.ensures.1.0 k.ensures.1.1 (size c) c.checked2.given.1
+    let k = c.before.before.check-checked in
+    content_fine (call s) (ds s) (ns s) (ts s) (lent s) k.result k.ensures.0 k.ensures.1.0 k.ensures.1.1 (size c) c.checked-in-Fine-1.given.1
 
 -- once the records are scanned
-abbrev checked : tie.After-check-records → tie.After-checked2
+abbrev checked : tie.After-check_records-s → tie.In-Fine-2
 checked c = c.before.before
 
 -- once the sizes are settled: no record was bad
-abbrev scanned : tie.After-settle → tie.After-check-records
+abbrev scanned : tie.After-settle-verdict → tie.After-check_records-s
 scanned c = c.before.before.before.before.before
 
-abbrev no-bad : (c : tie.After-settle) → (scanned c).check-records.result.bad ≡ false
-no-bad c = c.before.before.before.before.if1.false
+abbrev no-bad : (c : tie.After-settle-verdict) → (scanned c).check_records-s.result.bad ≡ false
+no-bad c = c.before.before.before.before.if-s.false
 
-good : (c : tie.After-settle) → single_fault (call (start (checked (scanned c)))) (ds (start (checked (scanned c)))) ≡ 0
+good : (c : tie.After-settle-verdict) → single_fault (call (start (checked (scanned c)))) (ds (start (checked (scanned c)))) ≡ 0
 good c =
     let r = scanned c in
     let s = start (checked r) in
-    none_bad (ds s) (new s) (xs s) r.check-records.result r.check-records.ensures (no-bad c)
+    none_bad (ds s) (new s) (xs s) r.check_records-s.result r.check_records-s.ensures (no-bad c)
 
 -- the capped size was settled as that of the result
-sized : (c : tie.After-settle)
-    → settled_fault c.settle.result
+sized : (c : tie.After-settle-verdict)
+    → settled_fault c.settle-verdict.result
     ≡ sizes_fault (length (edit_data (single_ops (call (start (checked (scanned c)))) (ds (start (checked (scanned c))))) (ds (start (checked (scanned c)))))) (length (ns (start (checked (scanned c)))))
-    c.before.own-size.result 0 (room_in (lent (start (checked (scanned c)))))
+    c.before.own_size-shared.result 0 (room_in (lent (start (checked (scanned c)))))
 sized c =
     let r = scanned c in
     let s = start (checked r) in
-    let d = c.before.before.capped-add in
-    settled (ds s) (new s) (xs s) r.check-records.result r.check-records.ensures (no-bad c) d.result (length (ns s)) c.before.own-size.result (room_in (lent s)) d.ensures
-    c.settle.result c.settle.ensures
+    let d = c.before.before.capped_add-d in
+    settled (ds s) (new s) (xs s) r.check_records-s.result r.check_records-s.ensures (no-bad c) d.result (length (ns s)) c.before.own_size-shared.result (room_in (lent s)) d.ensures
+    c.settle-verdict.result c.settle-verdict.ensures
 
 -- ── what is asked on the way
-check-requires : tie.Need-check-requires
+check-requires : tie.Need-check-checked-requires
 check-requires c κs = search rules
 
-enum-known-checked : tie.Need-enum-known-checked
+enum-known-checked : tie.Need-enum_known-checked
 enum-known-checked c = search rules
 
-returns : tie.Need-returns
+returns : tie.Need-returns-in-Refused
 returns c =
     let k = c.before.before.before in
     let s = k.before.before.before.before.before.before.before.before.before in
-    content-refused (call s) (ds s) (ns s) (ts s) (lent s) k.check.result k.check.ensures.0 c.before.checked.given.0.0 c.before.checked.given.1
+    content-refused (call s) (ds s) (ns s) (ts s) (lent s) k.check-checked.result k.check-checked.ensures.0 c.before.checked-1.given.0.0 c.before.checked-1.given.1
 
-enum-known-checked-2 : tie.Need-enum-known-checked-2
+enum-known-checked-2 : tie.Need-enum_known-checked-in-Fine-1
 enum-known-checked-2 c = search rules
 
-check-records-requires : tie.Need-check-records-requires
+check-records-requires : tie.Need-check_records-s-requires
 check-records-requires c κs = search rules
 
-returns-2 : tie.Need-returns-2
+returns-2 : tie.Need-returns-then-s
 returns-2 c =
     let r = c.before in
     let s = start (checked r) in
     own_refused (call s) (ds s) (ns s) (ts s) (lent s) (fine (checked r)).passed ReplacementRange
-    (some_bad (ds s) (new s) (xs s) r.check-records.result r.check-records.ensures c.if1.true)
+    (some_bad (ds s) (new s) (xs s) r.check_records-s.result r.check_records-s.ensures c.if-s.true)
 
-cast-capped-add : tie.Need-overflow-cast-capped-add
+cast-capped-add : tie.Need-overflow_cast-s
 cast-capped-add c = search rules
 
-sub-capped-add : tie.Need-overflow-sub-capped-add
+sub-capped-add : tie.Need-overflow_sub-content
 sub-capped-add c =
     let r = c.before.before in
     let s = start (checked r) in
-    within (ds s) (new s) (xs s) r.check-records.result r.check-records.ensures c.before.if1.false
+    within (ds s) (new s) (xs s) r.check_records-s.result r.check_records-s.ensures c.before.if-s.false
 
-capped-add-requires : tie.Need-capped-add-requires
+capped-add-requires : tie.Need-capped_add-d-requires
 capped-add-requires c κs = search rules
 
-own-size-requires : tie.Need-own-size-requires
+own-size-requires : tie.Need-own_size-shared-requires
 own-size-requires c κs =
     let k = checked c.before.before.before in
     let s = start k in
     let f = fine k in
     ((f.entries_short, f.own_short, f.parts), omega (arith, own_less (ds s) (ns s) (ts s) f.passed, f.text_size_lem))
 
-settle-requires : tie.Need-settle-requires
+settle-requires : tie.Need-settle-verdict-requires
 settle-requires c κs = search rules
 
-enum-known-verdict : tie.Need-enum-known-verdict
+enum-known-verdict : tie.Need-enum_known-verdict
 enum-known-verdict c = search rules
 
-returns-3 : tie.Need-returns-3
+returns-3 : tie.Need-returns-in-Refused-verdict
 returns-3 c =
     let p = c.before.before.before in
     let r = scanned p in
     let s = start (checked r) in
-    sizes_refused (call s) (ds s) (ns s) (ts s) (lent s) (fine (checked r)).passed (good p) _ _ 0 refl p.before.own-size.ensures refl p.settle.result (sized p)
-    c.before.verdict.given.0.0 c.before.verdict.given.1
+    sizes_refused (call s) (ds s) (ns s) (ts s) (lent s) (fine (checked r)).passed (good p) _ _ 0 refl p.before.own_size-shared.ensures refl p.settle-verdict.result (sized p)
+    c.before.verdict-1.given.0.0 c.before.verdict-1.given.1
 
-enum_told : tie.Need-enum-told
+enum_told : tie.Need-enum_told-1
 enum_told c = search rules
 
-write-records-requires : tie.Need-write-records-requires
+write-records-requires : tie.Need-write_records-c-requires
 write-records-requires c κs =
     let p = c.before.before.before.before.before in
     let r = scanned p in
     let s = start (checked r) in
-    let room = has_room (call s) (ds s) (ns s) (ts s) (lent s) (fine (checked r)).passed (good p) _ _ 0 refl p.before.own-size.ensures refl p.settle.result
-    (sized p) c.before.before.before.enum_told.given.1 in
+    let room = has_room (call s) (ds s) (ns s) (ts s) (lent s) (fine (checked r)).passed (good p) _ _ 0 refl p.before.own_size-shared.ensures refl p.settle-verdict.result
+    (sized p) c.before.before.before.enum_told-1.given.1 in
     ((fine (checked r)).whole, (good p, room))
 
-same_length : tie.Need-same-length
+same_length : tie.Need-shape_of-bytes
 same_length c = search rules
 
-same-length-2 : tie.Need-same-length-2
+same-length-2 : tie.Need-shape_of-numbers
 same-length-2 c = search rules
 
-same-length-3 : tie.Need-same-length-3
+same-length-3 : tie.Need-shape_of-texts
 same-length-3 c = search rules
 
-returns-4 : tie.Need-returns-4
+returns-4 : tie.Need-returns
 unfolding number over
 returns-4 c =
-    let w = c.before.before.before.before.before.before.write-records in
+    let w = c.before.before.before.before.before.before.write_records-c in
     let t = c.before.before.before.before.before.before.before.before.before.before in
     let p = t.before.before in
     let r = scanned p in
     let s = start (checked r) in
-    written (call s) (ds s) (ns s) (ts s) (lent s) (fine (checked r)).passed (good p) _ _ 0 refl p.before.own-size.ensures refl p.settle.result (sized p)
-    t.enum_told.given.1
+    written (call s) (ds s) (ns s) (ts s) (lent s) (fine (checked r)).passed (good p) _ _ 0 refl p.before.own_size-shared.ensures refl p.settle-verdict.result (sized p)
+    t.enum_told-1.given.1
     0 _ _ _ _ w.result refl w.ensures refl
 
-pub write-replaced-flat-spec : {M : Type 1} → statement M
-write-replaced-flat-spec =
+pub write_replaced_flat_spec : {M : Type 1} → statement M
+write_replaced_flat_spec =
     tie.close
     (tie.spec
     check-requires

@@ -13,42 +13,42 @@ use Rattle.writer.proofs.keep.Reads as keep-reads
 use Rattle.writer.proofs.put_bytes.Reads as put-bytes-reads
 use Rattle.writer.proofs.skip.Reads as skip-reads
 
-cast-keep : tie.Need-overflow-cast-keep
+cast-keep : tie.Need-overflow_cast-x
 cast-keep c = search rules
 
 -- ── the places on the way
 -- once the content up to the record's start is kept: where the function started
-abbrev start : tie.After-keep → tie.Start
+abbrev start : tie.After-keep-a → tie.Start
 start c = c.before.before.before.before.before.before.before.before.before.before.before.before
 
 -- once the new bytes are in
-abbrev kept : tie.After-put-bytes → tie.After-keep
+abbrev kept : tie.After-put_bytes-b → tie.After-keep-a
 kept c = c.before.before.before.before.before.before.before.before.before.before
 
-keep-requires : tie.Need-keep-requires
+keep-requires : tie.Need-keep-a-requires
 keep-requires c κs =
     let a = c.before.before.before.before.before.before.before.before.before.before.before.args in
     let p = c.before.before.before.before.before.before.before.before.before.before.before.requires in
     let g = is_good a.content.now a.entries.now a.text.now a.new.now a.x a.c _ p in
     (p.ready, ((g.low, omega (arith, g.order, g.high)), room_keep a.content.now a.entries.now a.text.now a.new.now a.x a.c _ p))
 
-cast-put-bytes : tie.Need-overflow-cast-put-bytes
+cast-put-bytes : tie.Need-overflow_cast-x-2
 cast-put-bytes c = search rules
 
-cast-put-bytes-2 : tie.Need-overflow-cast-put-bytes-2
+cast-put-bytes-2 : tie.Need-overflow_cast-x-3
 cast-put-bytes-2 c = search rules
 
-put-bytes-requires : tie.Need-put-bytes-requires
+put-bytes-requires : tie.Need-put_bytes-b-requires
 put-bytes-requires c κs =
     let q = c.before.before.before.before.before.before.before.before.before in
     let a = (start q).args in
     let p = (start q).requires in
-    let k = q.keep in
+    let k = q.keep-a in
     let g = is_good a.content.now a.entries.now a.text.now a.new.now a.x a.c _ p in
     let f = room_put a.content.now a.entries.now a.text.now a.new.now a.x a.c _ p _ k.ensures.0 in
     (g.part, g.within, bytes_room _ _ _ (part a.x.from a.x.to a.new.now) k.result _ (length_part a.x.from a.x.to a.new.now g.within) f)
 
-cast-skip : tie.Need-overflow-cast-skip
+cast-skip : tie.Need-overflow_cast-x-4
 cast-skip c = search rules
 
 skip-requires : tie.Need-skip-requires
@@ -56,8 +56,8 @@ skip-requires c κs =
     let q = c.before.before.before.before.before.before in
     let a = (start (kept q)).args in
     let p = (start (kept q)).requires in
-    let k = (kept q).keep in
-    let b = q.put-bytes in
+    let k = (kept q).keep-a in
+    let b = q.put_bytes-b in
     let g = is_good a.content.now a.entries.now a.text.now a.new.now a.x a.c _ p in
     let w = part_wrote _ _ _ _ a.new.now k.result b.result a.x.from a.x.to g.within b.ensures.1.0 b.ensures.0 in (
       ready_skip a.content.now a.entries.now a.text.now a.new.now a.x a.c _ p _ k.ensures.0 _ w k.result b.result b.ensures.0.0 b.ensures.0.1
@@ -69,36 +69,36 @@ skip-requires c κs =
       ),
     )
 
-same_length : tie.Need-same-length
+same_length : tie.Need-shape_of-bytes
 same_length c =
     let q = c.before.before.before.before.before.before.before.before.before.before.before.before.before in
-    c.before.before.before.before.before.before.skip.auto.0 ∙ q.put-bytes.auto.0 ∙ (kept q).keep.auto.0
+    c.before.before.before.before.before.before.skip.auto.0 ∙ q.put_bytes-b.auto.0 ∙ (kept q).keep-a.auto.0
 
-same-length-2 : tie.Need-same-length-2
+same-length-2 : tie.Need-shape_of-numbers
 same-length-2 c =
     let q = c.before.before.before.before.before.before.before.before.before.before.before.before.before in
-    c.before.before.before.before.before.before.skip.auto.1.0 ∙ (kept q).keep.auto.1.0
+    c.before.before.before.before.before.before.skip.auto.1.0 ∙ (kept q).keep-a.auto.1.0
 
-same-length-3 : tie.Need-same-length-3
+same-length-3 : tie.Need-shape_of-texts
 same-length-3 c =
     let q = c.before.before.before.before.before.before.before.before.before.before.before.before.before in
-    c.before.before.before.before.before.before.skip.auto.1.1.0 ∙ (kept q).keep.auto.1.1.0
+    c.before.before.before.before.before.before.skip.auto.1.1.0 ∙ (kept q).keep-a.auto.1.1.0
 
 returns : tie.Need-returns
 returns c =
     let q = c.before.before.before.before.before.before.before.before.before.before.before.before.before in
     let a = (start (kept q)).args in
     let p = (start (kept q)).requires in
-    let k = (kept q).keep in
-    let b = q.put-bytes in
+    let k = (kept q).keep-a in
+    let b = q.put_bytes-b in
     let s = c.before.before.before.before.before.before.skip in
     let g = is_good a.content.now a.entries.now a.text.now a.new.now a.x a.c _ p in
     let w = part_wrote _ _ _ _ a.new.now k.result b.result a.x.from a.x.to g.within b.ensures.1.0 b.ensures.0 in
     turned a.content.now a.entries.now a.text.now a.new.now a.x a.c _ p _ k.ensures.0 _ w k.result b.result b.ensures.0.0 b.ensures.0.1
     k.ensures.1.1.1 k.ensures.1.0 _ _ s.ensures.0 s.ensures.1.0 s.ensures.1.1.0 s.ensures.1.1.1
 
-pub write-step-spec : {M : Type 1} → statement M
-write-step-spec =
+pub write_step_spec : {M : Type 1} → statement M
+write_step_spec =
     tie.close
     (tie.spec
     cast-keep

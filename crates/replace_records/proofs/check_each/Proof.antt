@@ -153,7 +153,7 @@ module _ {M : Type 1} {𝓤 : Ura M} (𝓛 : Logic 𝓤) (mem : Memory → SProp
   abbrev Handed : Scan → List (Item 𝓤)
   Handed w = []
 
-  goes : (w : Scan) (e : Replacement) → GoodS w → Is R e (machR e ∷ []) → ent 𝓤 (⋆ 𝓛 (Handed w)) ((StepC 𝓛 mem run).pre (to w e))
+  goes : (w : Scan) (e : Replacement) → GoodS w → Is R e (machR e ∷ []) → ent 𝓤 (⋆ 𝓛 (Handed w)) ((StepC 𝓛 mem run).requires (to w e))
   goes w e gs ge =
       qed 𝓛 (Handed w) ∵
       nothing ! $ owned ! usize (Is usize) (uint_Makes 𝓛 w64) new (vint w64 new ∷ []) (refl, f-new) $ fjoin ! $ owned ! usize (Is usize) (uint_Makes 𝓛 w64) old (vint w64 old ∷ []) (refl, f-old) $ fjoin ! $
@@ -241,7 +241,7 @@ module _ {M : Type 1} {𝓤 : Ura M} (𝓛 : Logic 𝓤) (mem : Memory → SProp
         assigns ! (of_opd ! (load ! (from ! (stop !)) (look ! 6 refl))) (from ! (stop !)) (init ! 14 refl ((LL.lawful T.the_type T'.the_laws 𝓛).typed (get_or ys i none) (machR (get_or ys i none) ∷ []) ge).0) $
         elem_back ! R q' ys i none (machR (get_or ys i none) ∷ []) b0 o0 l $ shuts_slice ! tt R q' ys b0 o0 $ move ! (1 ∷ []) $ drop ! $
         -- the call
-        use0 𝓛 (raw ((StepC 𝓛 mem run).pre (to w (get_or ys i none)))) (goes w (get_or ys i none) gs ge) $
+        use0 𝓛 (raw ((StepC 𝓛 mem run).requires (to w (get_or ys i none)))) (goes w (get_or ys i none) gs ge) $
         calls_at ! fm (StepC 𝓛 mem run) known (to w (get_or ys i none)) (and_then ! (load ! (from ! (stop !)) (look ! 15 refl)) (and_then ! (load ! (from ! (fld ! refl (stop !))) (look_in ! 11 (sub ! 0 refl (whole !)))) (and_then ! (load ! (from ! (fld ! refl (stop !))) (look_in ! 11 (sub ! 1 refl (whole !)))) (and_then ! (load ! (from ! (fld ! refl (stop !))) (look_in ! 11 (sub ! 2 refl (whole !)))) (and_then ! (load ! (from ! (fld ! refl (stop !))) (look_in ! 11 (sub ! 3 refl (whole !)))) (and_then ! (load ! (from ! (stop !)) (look ! 19 refl)) (and_then ! (load ! (from ! (stop !)) (look ! 17 refl)) (no_more !)))))))) (λ u.
         use1 𝓛 (later (some (λ (r : Scan). ((‵ ftrue) ⊛ ‵ (RS.own r (u ∷ []))) ⊛ raw (ensured 𝓛 step.ended (step.clauses 𝓛 mem run) tt (argsC w (get_or ys i none)) tt r)))) (id⊢ 𝓤 _) $ await ! tt $ pick ! (λ r. split ! $
         move ! (1 ∷ []) $ use1 𝓛 (some (λ (zs : LastsC). ‵ (lasts step.ended tt (argsC w (get_or ys i none)) zs) ⊛ raw (fact 𝓤 (after r zs ≡ check_step old new (get_or ys i none) w)))) (id⊢ 𝓤 _) $ pick ! (λ zs. split ! $

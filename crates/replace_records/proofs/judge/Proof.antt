@@ -13,43 +13,43 @@ use Rattle.replace.proofs.capped_add.Reads as capped-add-reads
 use Rattle.share.proofs.own_size.Reads as own-size-reads
 use Rattle.writer.proofs.settle.Reads as settle-reads
 
-check-requires : tie.Need-check-requires
+check-requires : tie.Need-check-checked-requires
 check-requires c κs = search rules
 
-enum-known-checked : tie.Need-enum-known-checked
+enum-known-checked : tie.Need-enum_known-checked
 enum-known-checked c = search rules
 
-returns : tie.Need-returns
+returns : tie.Need-returns-in-Refused
 returns c =
     let a = c.before.before.before.before.before.before.before.args in
-    let k = c.before.before.before.check in
-    let g = c.before.checked.given in
+    let k = c.before.before.before.check-checked in
+    let g = c.before.checked-1.given in
     by_content a.content.now a.entries.now a.text.now a.s (room_of_state a.bytes a.numbers a.texts 0) k.result k.ensures.0 g.0.0 g.1
 
-enum-known-checked-2 : tie.Need-enum-known-checked-2
+enum-known-checked-2 : tie.Need-enum_known-checked-in-Fine-1
 enum-known-checked-2 c = search rules
 
-returns-2 : tie.Need-returns-2
+returns-2 : tie.Need-returns-then-s
 returns-2 c =
     let a = c.before.before.before.before.before.before.before.before.args in
-    let k = c.before.before.before.before.check in
-    let g = c.before.before.checked2.given in
-    by_records a.content.now a.entries.now a.text.now a.s (room_of_state a.bytes a.numbers a.texts 0) k.result k.ensures.0 g.0.0 g.1 c.if1.true
+    let k = c.before.before.before.before.check-checked in
+    let g = c.before.before.checked-in-Fine-1.given in
+    by_records a.content.now a.entries.now a.text.now a.s (room_of_state a.bytes a.numbers a.texts 0) k.result k.ensures.0 g.0.0 g.1 c.if-s.true
 
-cast-capped-add : tie.Need-overflow-cast-capped-add
+cast-capped-add : tie.Need-overflow_cast-s
 cast-capped-add c = search rules
 
-sub-capped-add : tie.Need-overflow-sub-capped-add
-sub-capped-add c = c.before.before.before.before.before.before.before.before.before.requires c.before.if1.false
+sub-capped-add : tie.Need-overflow_sub-content
+sub-capped-add c = c.before.before.before.before.before.before.before.before.before.requires c.before.if-s.false
 
-capped-add-requires : tie.Need-capped-add-requires
+capped-add-requires : tie.Need-capped_add-d-requires
 capped-add-requires c κs = search rules
 
-own-size-requires : tie.Need-own-size-requires
+own-size-requires : tie.Need-own_size-shared-requires
 own-size-requires c κs =
     let a = c.before.before.before.before.before.before.before.before.before.before.args in
-    let k = c.before.before.before.before.before.before.check in
-    let g = c.before.before.before.before.checked2.given in
+    let k = c.before.before.before.before.before.before.check-checked in
+    let g = c.before.before.before.before.checked-in-Fine-1.given in
     let f = content_fine a.content.now a.entries.now a.text.now a.s (room_of_state a.bytes a.numbers a.texts 0) k.result k.ensures.0 g.0.0 g.1
     k.ensures.1.0 k.ensures.1.1 in
     ((f.entries_short, f.own_short, f.parts), omega (arith, own_less a.content.now a.entries.now a.text.now f.passed, f.text_size_lem))
@@ -57,18 +57,18 @@ own-size-requires c κs =
 settle-requires : tie.Need-settle-requires
 settle-requires c κs = search rules
 
-returns-3 : tie.Need-returns-3
+returns-3 : tie.Need-returns
 returns-3 c =
     let a = c.before.before.before.before.before.before.before.before.before.before.before.before.args in
-    let k = c.before.before.before.before.before.before.before.before.check in
-    let g = c.before.before.before.before.before.before.checked2.given in
-    let d = c.before.before.capped-add in
-    let t = c.before.own-size in
+    let k = c.before.before.before.before.before.before.before.before.check-checked in
+    let g = c.before.before.before.before.before.before.checked-in-Fine-1.given in
+    let d = c.before.before.capped_add-d in
+    let t = c.before.own_size-shared in
     by_sizes a.content.now a.entries.now a.text.now a.s (room_of_state a.bytes a.numbers a.texts 0) k.result k.ensures.0 g.0.0 g.1
-    c.before.before.before.before.if1.false d.result d.ensures t.result t.ensures c.settle.result c.settle.ensures
+    c.before.before.before.before.if-s.false d.result d.ensures t.result t.ensures c.settle.result c.settle.ensures
 
-pub judge-spec : {M : Type 1} → statement M
-judge-spec =
+pub judge_spec : {M : Type 1} → statement M
+judge_spec =
     tie.close
     (tie.spec
     check-requires

@@ -229,7 +229,7 @@ module _ {M : Type 1} {𝓤 : Ura M} (𝓛 : Logic 𝓤) (mem : Memory → SProp
   abbrev Handed : World → ℕ → GName → ℕ → GName → ℕ → GName → List (Item 𝓤)
   Handed w ν5 δ5 ν6 δ6 ν7 δ7 = ‵ (flft κ1 q1) ∷ ‵ O1 ∷ ‵ (flft κ2 q2) ∷ ‵ O2 ∷ ‵ (flft κ3 q3) ∷ ‵ O3 ∷ ‵ (flft κ4 q4) ∷ ‵ O4 ∷ ‵ (flft (ν5 ∷ []) full_share) ∷ ‵ (N5 ν5 δ5 w.bytes) ∷ ‵ (flft (ν6 ∷ []) full_share) ∷ ‵ (N6 ν6 δ6 w.numbers) ∷ ‵ (flft (ν7 ∷ []) full_share) ∷ ‵ (N7 ν7 δ7 w.texts) ∷ []
 
-  goes : (w : World) (e : Replacement) (ν5 : ℕ) (δ5 : GName) (ν6 : ℕ) (δ6 : GName) (ν7 : ℕ) (δ7 : GName) → GoodS w.work → Is R e (machR e ∷ []) → MayTurn x1.now x2.now x3.now x4.now e w → ent 𝓤 (⋆ 𝓛 (Handed w ν5 δ5 ν6 δ6 ν7 δ7)) ((StepC 𝓛 mem run).pre (to w e ν5 δ5 ν6 δ6 ν7 δ7))
+  goes : (w : World) (e : Replacement) (ν5 : ℕ) (δ5 : GName) (ν6 : ℕ) (δ6 : GName) (ν7 : ℕ) (δ7 : GName) → GoodS w.work → Is R e (machR e ∷ []) → MayTurn x1.now x2.now x3.now x4.now e w → ent 𝓤 (⋆ 𝓛 (Handed w ν5 δ5 ν6 δ6 ν7 δ7)) ((StepC 𝓛 mem run).requires (to w e ν5 δ5 ν6 δ6 ν7 δ7))
   goes w e ν5 δ5 ν6 δ6 ν7 δ7 gs ge fit =
       qed 𝓛 (Handed w ν5 δ5 ν6 δ6 ν7 δ7) ∵
       says ! fit $ nothing ! $ move ! (13 ∷ 0 ∷ []) $ join ! $ move ! (11 ∷ 0 ∷ []) $ join ! $ move ! (9 ∷ 0 ∷ []) $ join ! $ move ! (7 ∷ 0 ∷ []) $ join ! $ move ! (5 ∷ 0 ∷ []) $ join ! $ move ! (3 ∷ 0 ∷ []) $ join ! $
@@ -343,7 +343,7 @@ module _ {M : Type 1} {𝓤 : Ura M} (𝓛 : Logic 𝓤) (mem : Memory → SProp
         -- the call
         move ! (10 ∷ 8 ∷ []) $ join ! $ move ! (10 ∷ 0 ∷ []) $ join ! $ move ! (11 ∷ 0 ∷ []) $ join ! $ move ! (11 ∷ 0 ∷ []) $ join ! $ move ! (12 ∷ 0 ∷ []) $ join ! $ move ! (1 ∷ 0 ∷ []) $ join ! $ move ! (60 ∷ 0 ∷ []) $ join ! $
         move ! (2 ∷ 0 ∷ []) $ join ! $ move ! (58 ∷ 0 ∷ []) $ join ! $ move ! (3 ∷ 0 ∷ []) $ join ! $ move ! (56 ∷ 0 ∷ []) $ join ! $ move ! (4 ∷ 0 ∷ []) $ join ! $ move ! (54 ∷ 0 ∷ []) $ join ! $
-        use1 𝓛 (raw ((StepC 𝓛 mem run).pre (to w (get_or ys i none) ν5 δ5 ν6 δ6 ν7 δ7))) (goes w (get_or ys i none) ν5 δ5 ν6 δ6 ν7 δ7 gs ge fit) $
+        use1 𝓛 (raw ((StepC 𝓛 mem run).requires (to w (get_or ys i none) ν5 δ5 ν6 δ6 ν7 δ7))) (goes w (get_or ys i none) ν5 δ5 ν6 δ6 ν7 δ7 gs ge fit) $
         calls_at ! fm (StepC 𝓛 mem run) known (to w (get_or ys i none) ν5 δ5 ν6 δ6 ν7 δ7) (and_then ! (load ! (from ! (stop !)) (look ! 32 refl)) (and_then ! (load ! (from ! (stop !)) (look ! 22 refl)) (and_then ! (load ! (from ! (stop !)) (look ! 46 refl)) (and_then ! (load ! (from ! (stop !)) (look ! 44 refl)) (and_then ! (load ! (from ! (stop !)) (look ! 42 refl)) (and_then ! (load ! (from ! (stop !)) (look ! 40 refl)) (and_then ! (load ! (from ! (stop !)) (look ! 18 refl)) (and_then ! (load ! (from ! (stop !)) (look ! 14 refl)) (and_then ! (load ! (from ! (stop !)) (look ! 10 refl)) (no_more !)))))))))) (λ u.
         use1 𝓛 (later (some (λ (r : Work). ((‵ (flft κ1 q1) ⊛ (‵ (flft κ2 q2) ⊛ (‵ (flft κ3 q3) ⊛ (‵ (flft κ4 q4) ⊛ (‵ (flft (ν5 ∷ []) full_share) ⊛ (‵ (flft (ν6 ∷ []) full_share) ⊛ (‵ (flft (ν7 ∷ []) full_share) ⊛ (‵ ftrue)))))))) ⊛ ‵ (RS.own r (u ∷ []))) ⊛ raw (ensured 𝓛 step.ended (step.clauses 𝓛 mem run) (κ1, (κ2, (κ3, (κ4, (ν5 ∷ [], (ν6 ∷ [], (ν7 ∷ [], tt))))))) (argsC w (get_or ys i none) ν5 δ5 ν6 δ6 ν7 δ7) tt r)))) (id⊢ 𝓤 _) $ await ! tt $ pick ! (λ r.
         split ! $ move ! (1 ∷ []) $

@@ -268,7 +268,7 @@ module _ {M : Type 1} {𝓤 : Ura M} (𝓛 : Logic 𝓤) (mem : Memory → SProp
   abbrev to-1 : (room_content : Room u8 (length content)) (room-entries : Room u32 (length entries)) (room-text : Room u8 (length text)) (room-records : Room row-Replacement (length records)) (room-new : Room u8 (length new)) (room-bytes : Room u8 (length bytes0)) (room_numbers : Room u32 (length numbers0)) (room-texts : Room u8 (length texts0)) → (C-first 𝓛 mem run).Ghost
   to-1 room_content room-entries room-text room-records room-new room-bytes room_numbers room-texts = ((tt, tt, tt, tt, tt), tt)
 
-  goes-1 : (room_content : Room u8 (length content)) (room-entries : Room u32 (length entries)) (room-text : Room u8 (length text)) (room-records : Room row-Replacement (length records)) (room-new : Room u8 (length new)) (room-bytes : Room u8 (length bytes0)) (room_numbers : Room u32 (length numbers0)) (room-texts : Room u8 (length texts0)) → ent 𝓤 (⋆ 𝓛 ([])) ((C-first 𝓛 mem run).pre (to-1 room_content room-entries room-text room-records room-new room-bytes room_numbers room-texts))
+  goes-1 : (room_content : Room u8 (length content)) (room-entries : Room u32 (length entries)) (room-text : Room u8 (length text)) (room-records : Room row-Replacement (length records)) (room-new : Room u8 (length new)) (room-bytes : Room u8 (length bytes0)) (room_numbers : Room u32 (length numbers0)) (room-texts : Room u8 (length texts0)) → ent 𝓤 (⋆ 𝓛 ([])) ((C-first 𝓛 mem run).requires (to-1 room_content room-entries room-text room-records room-new room-bytes room_numbers room-texts))
   goes-1 room_content room-entries room-text room-records room-new room-bytes room_numbers room-texts =
       qed 𝓛 ([]) ∵
       nothing ! $ nothing ! $ join ! $ frame ! $ done !
@@ -277,7 +277,7 @@ module _ {M : Type 1} {𝓤 : Ura M} (𝓛 : Logic 𝓤) (mem : Memory → SProp
   abbrev to-2 : (room_content : Room u8 (length content)) (room-entries : Room u32 (length entries)) (room-text : Room u8 (length text)) (room-records : Room row-Replacement (length records)) (room-new : Room u8 (length new)) (room-bytes : Room u8 (length bytes0)) (room_numbers : Room u32 (length numbers0)) (room-texts : Room u8 (length texts0)) (z : Scan) (g-z : Is row-Scan z (mach-Scan z ∷ [])) (E-z : z ≡ scan false 0 0) → (C-check-each 𝓛 mem run).Ghost
   to-2 room_content room-entries room-text room-records room-new room-bytes room_numbers room-texts z g-z E-z = (((κ-records, tt), (q-records, tt), tt, (x-records, (z, (length content, (length new, tt)))), (v-records ∷ [], (mach-Scan z ∷ [], (vint w64 (length content) ∷ [], (vint w64 (length new) ∷ [], tt))))), tt)
 
-  goes-2 : (room_content : Room u8 (length content)) (room-entries : Room u32 (length entries)) (room-text : Room u8 (length text)) (room-records : Room row-Replacement (length records)) (room-new : Room u8 (length new)) (room-bytes : Room u8 (length bytes0)) (room_numbers : Room u32 (length numbers0)) (room-texts : Room u8 (length texts0)) (z : Scan) (g-z : Is row-Scan z (mach-Scan z ∷ [])) (E-z : z ≡ scan false 0 0) → ent 𝓤 (⋆ 𝓛 (‵ (flft κ-records q-records) ∷ ‵ O-records ∷ [])) ((C-check-each 𝓛 mem run).pre (to-2 room_content room-entries room-text room-records room-new room-bytes room_numbers room-texts z g-z E-z))
+  goes-2 : (room_content : Room u8 (length content)) (room-entries : Room u32 (length entries)) (room-text : Room u8 (length text)) (room-records : Room row-Replacement (length records)) (room-new : Room u8 (length new)) (room-bytes : Room u8 (length bytes0)) (room_numbers : Room u32 (length numbers0)) (room-texts : Room u8 (length texts0)) (z : Scan) (g-z : Is row-Scan z (mach-Scan z ∷ [])) (E-z : z ≡ scan false 0 0) → ent 𝓤 (⋆ 𝓛 (‵ (flft κ-records q-records) ∷ ‵ O-records ∷ [])) ((C-check-each 𝓛 mem run).requires (to-2 room_content room-entries room-text room-records room-new room-bytes room_numbers room-texts z g-z E-z))
   goes-2 room_content room-entries room-text room-records room-new room-bytes room_numbers room-texts z g-z E-z =
       qed 𝓛 (‵ (flft κ-records q-records) ∷ ‵ O-records ∷ []) ∵
       nothing ! $ owned ! usize (Is usize) (uint_Makes 𝓛 w64) ((length new)) (vint w64 ((length new)) ∷ []) (refl, room-new.0) $ fjoin ! $
@@ -288,7 +288,7 @@ module _ {M : Type 1} {𝓤 : Ura M} (𝓛 : Logic 𝓤) (mem : Memory → SProp
   abbrev to-3 : (room_content : Room u8 (length content)) (room-entries : Room u32 (length entries)) (room-text : Room u8 (length text)) (room-records : Room row-Replacement (length records)) (room-new : Room u8 (length new)) (room-bytes : Room u8 (length bytes0)) (room_numbers : Room u32 (length numbers0)) (room-texts : Room u8 (length texts0)) (z : Scan) (g-z : Is row-Scan z (mach-Scan z ∷ [])) (E-z : z ≡ scan false 0 0) (s : Scan) (g-s : Is row-Scan s (mach-Scan s ∷ [])) (E-s : s ≡ check_all (length content) (length new) records z) → (C-plan 𝓛 mem run).Ghost
   to-3 room_content room-entries room-text room-records room-new room-bytes room_numbers room-texts z g-z E-z s g-s E-s = (((κ-content, (κ-entries, (κ-text, tt))), (q-content, (q-entries, (q-text, tt))), tt, (s, (x-content, (x-entries, (x-text, (length bytes0, (length numbers0, (length texts0, tt))))))), (mach-Scan s ∷ [], (v-content ∷ [], (v-entries ∷ [], (v-text ∷ [], (vint w64 (length bytes0) ∷ [], (vint w64 (length numbers0) ∷ [], (vint w64 (length texts0) ∷ [], tt)))))))), tt)
 
-  goes-3 : (room_content : Room u8 (length content)) (room-entries : Room u32 (length entries)) (room-text : Room u8 (length text)) (room-records : Room row-Replacement (length records)) (room-new : Room u8 (length new)) (room-bytes : Room u8 (length bytes0)) (room_numbers : Room u32 (length numbers0)) (room-texts : Room u8 (length texts0)) (z : Scan) (g-z : Is row-Scan z (mach-Scan z ∷ [])) (E-z : z ≡ scan false 0 0) (s : Scan) (g-s : Is row-Scan s (mach-Scan s ∷ [])) (E-s : s ≡ check_all (length content) (length new) records z) → ent 𝓤 (⋆ 𝓛 (‵ (flft κ-content q-content) ∷ ‵ O-content ∷ ‵ (flft κ-entries q-entries) ∷ ‵ O-entries ∷ ‵ (flft κ-text q-text) ∷ ‵ O-text ∷ [])) ((C-plan 𝓛 mem run).pre (to-3 room_content room-entries room-text room-records room-new room-bytes room_numbers room-texts z g-z E-z s g-s E-s))
+  goes-3 : (room_content : Room u8 (length content)) (room-entries : Room u32 (length entries)) (room-text : Room u8 (length text)) (room-records : Room row-Replacement (length records)) (room-new : Room u8 (length new)) (room-bytes : Room u8 (length bytes0)) (room_numbers : Room u32 (length numbers0)) (room-texts : Room u8 (length texts0)) (z : Scan) (g-z : Is row-Scan z (mach-Scan z ∷ [])) (E-z : z ≡ scan false 0 0) (s : Scan) (g-s : Is row-Scan s (mach-Scan s ∷ [])) (E-s : s ≡ check_all (length content) (length new) records z) → ent 𝓤 (⋆ 𝓛 (‵ (flft κ-content q-content) ∷ ‵ O-content ∷ ‵ (flft κ-entries q-entries) ∷ ‵ O-entries ∷ ‵ (flft κ-text q-text) ∷ ‵ O-text ∷ [])) ((C-plan 𝓛 mem run).requires (to-3 room_content room-entries room-text room-records room-new room-bytes room_numbers room-texts z g-z E-z s g-s E-s))
   goes-3 room_content room-entries room-text room-records room-new room-bytes room_numbers room-texts z g-z E-z s g-s E-s =
       qed 𝓛 (‵ (flft κ-content q-content) ∷ ‵ O-content ∷ ‵ (flft κ-entries q-entries) ∷ ‵ O-entries ∷ ‵ (flft κ-text q-text) ∷ ‵ O-text ∷ []) ∵
       says ! (scan-within content entries text new bytes0 numbers0 texts0 records s (from_first content new records z s E-z E-s)) $ nothing ! $ move ! (5 ∷ 0 ∷ []) $ join ! $ move ! (3 ∷ 0 ∷ []) $ join ! $ move ! (1 ∷ 0 ∷ []) $
@@ -301,7 +301,7 @@ module _ {M : Type 1} {𝓤 : Ura M} (𝓛 : Logic 𝓤) (mem : Memory → SProp
   abbrev to-4 : (room_content : Room u8 (length content)) (room-entries : Room u32 (length entries)) (room-text : Room u8 (length text)) (room-records : Room row-Replacement (length records)) (room-new : Room u8 (length new)) (room-bytes : Room u8 (length bytes0)) (room_numbers : Room u32 (length numbers0)) (room-texts : Room u8 (length texts0)) (z : Scan) (g-z : Is row-Scan z (mach-Scan z ∷ [])) (E-z : z ≡ scan false 0 0) (s : Scan) (g-s : Is row-Scan s (mach-Scan s ∷ [])) (E-s : s ≡ check_all (length content) (length new) records z) (p : Work) (g-p : Is row-Work p (mach-Work p ∷ [])) (E-p : (settled_fault p.verdict ≡ plan_fault content entries text s (room_of_state (length bytes0) (length numbers0) (length texts0) 0)) × (p.cursor ≡ at_start)) (ν-bytes : ℕ) (δ-bytes : GName) (ν-numbers : ℕ) (δ-numbers : GName) (ν-texts : ℕ) (δ-texts : GName) → (C-write-each 𝓛 mem run).Ghost
   to-4 room_content room-entries room-text room-records room-new room-bytes room_numbers room-texts z g-z E-z s g-s E-s p g-p E-p ν-bytes δ-bytes ν-numbers δ-numbers ν-texts δ-texts = (((κ-records, (κ-content, (κ-entries, (κ-text, (κ-new, (ν-bytes ∷ [], (ν-numbers ∷ [], (ν-texts ∷ [], tt)))))))), (q-records, (q-content, (q-entries, (q-text, (q-new, (full_share, (full_share, (full_share, tt)))))))), tt, (x-records, (p, (x-content, (x-entries, (x-text, (x-new, (x-bytes δ-bytes bytes0, (x-numbers δ-numbers numbers0, (x-texts δ-texts texts0, tt))))))))), (v-records ∷ [], (mach-Work p ∷ [], (v-content ∷ [], (v-entries ∷ [], (v-text ∷ [], (v-new ∷ [], (v_bytes ∷ [], (v-numbers ∷ [], (v-texts ∷ [], tt)))))))))), tt)
 
-  goes-4 : (room_content : Room u8 (length content)) (room-entries : Room u32 (length entries)) (room-text : Room u8 (length text)) (room-records : Room row-Replacement (length records)) (room-new : Room u8 (length new)) (room-bytes : Room u8 (length bytes0)) (room_numbers : Room u32 (length numbers0)) (room-texts : Room u8 (length texts0)) (z : Scan) (g-z : Is row-Scan z (mach-Scan z ∷ [])) (E-z : z ≡ scan false 0 0) (s : Scan) (g-s : Is row-Scan s (mach-Scan s ∷ [])) (E-s : s ≡ check_all (length content) (length new) records z) (p : Work) (g-p : Is row-Work p (mach-Work p ∷ [])) (E-p : (settled_fault p.verdict ≡ plan_fault content entries text s (room_of_state (length bytes0) (length numbers0) (length texts0) 0)) × (p.cursor ≡ at_start)) (ν-bytes : ℕ) (δ-bytes : GName) (ν-numbers : ℕ) (δ-numbers : GName) (ν-texts : ℕ) (δ-texts : GName) → ent 𝓤 (⋆ 𝓛 (‵ (flft κ-records q-records) ∷ ‵ O-records ∷ ‵ (flft κ-content q-content) ∷ ‵ O-content ∷ ‵ (flft κ-entries q-entries) ∷ ‵ O-entries ∷ ‵ (flft κ-text q-text) ∷ ‵ O-text ∷ ‵ (flft κ-new q-new) ∷ ‵ O-new ∷ ‵ (flft (ν-bytes ∷ []) full_share) ∷ ‵ (N-bytes ν-bytes δ-bytes bytes0) ∷ ‵ (flft (ν-numbers ∷ []) full_share) ∷ ‵ (N-numbers ν-numbers δ-numbers numbers0) ∷ ‵ (flft (ν-texts ∷ []) full_share) ∷ ‵ (N-texts ν-texts δ-texts texts0) ∷ [])) ((C-write-each 𝓛 mem run).pre (to-4 room_content room-entries room-text room-records room-new room-bytes room_numbers room-texts z g-z E-z s g-s E-s p g-p E-p ν-bytes δ-bytes ν-numbers δ-numbers ν-texts δ-texts))
+  goes-4 : (room_content : Room u8 (length content)) (room-entries : Room u32 (length entries)) (room-text : Room u8 (length text)) (room-records : Room row-Replacement (length records)) (room-new : Room u8 (length new)) (room-bytes : Room u8 (length bytes0)) (room_numbers : Room u32 (length numbers0)) (room-texts : Room u8 (length texts0)) (z : Scan) (g-z : Is row-Scan z (mach-Scan z ∷ [])) (E-z : z ≡ scan false 0 0) (s : Scan) (g-s : Is row-Scan s (mach-Scan s ∷ [])) (E-s : s ≡ check_all (length content) (length new) records z) (p : Work) (g-p : Is row-Work p (mach-Work p ∷ [])) (E-p : (settled_fault p.verdict ≡ plan_fault content entries text s (room_of_state (length bytes0) (length numbers0) (length texts0) 0)) × (p.cursor ≡ at_start)) (ν-bytes : ℕ) (δ-bytes : GName) (ν-numbers : ℕ) (δ-numbers : GName) (ν-texts : ℕ) (δ-texts : GName) → ent 𝓤 (⋆ 𝓛 (‵ (flft κ-records q-records) ∷ ‵ O-records ∷ ‵ (flft κ-content q-content) ∷ ‵ O-content ∷ ‵ (flft κ-entries q-entries) ∷ ‵ O-entries ∷ ‵ (flft κ-text q-text) ∷ ‵ O-text ∷ ‵ (flft κ-new q-new) ∷ ‵ O-new ∷ ‵ (flft (ν-bytes ∷ []) full_share) ∷ ‵ (N-bytes ν-bytes δ-bytes bytes0) ∷ ‵ (flft (ν-numbers ∷ []) full_share) ∷ ‵ (N-numbers ν-numbers δ-numbers numbers0) ∷ ‵ (flft (ν-texts ∷ []) full_share) ∷ ‵ (N-texts ν-texts δ-texts texts0) ∷ [])) ((C-write-each 𝓛 mem run).requires (to-4 room_content room-entries room-text room-records room-new room-bytes room_numbers room-texts z g-z E-z s g-s E-s p g-p E-p ν-bytes δ-bytes ν-numbers δ-numbers ν-texts δ-texts))
   goes-4 room_content room-entries room-text room-records room-new room-bytes room_numbers room-texts z g-z E-z s g-s E-s p g-p E-p ν-bytes δ-bytes ν-numbers δ-numbers ν-texts δ-texts =
       qed 𝓛 (‵ (flft κ-records q-records) ∷ ‵ O-records ∷ ‵ (flft κ-content q-content) ∷ ‵ O-content ∷ ‵ (flft κ-entries q-entries) ∷ ‵ O-entries ∷ ‵ (flft κ-text q-text) ∷ ‵ O-text ∷ ‵ (flft κ-new q-new) ∷ ‵ O-new ∷ ‵ (flft (ν-bytes ∷ []) full_share) ∷ ‵ (N-bytes ν-bytes δ-bytes bytes0) ∷ ‵ (flft (ν-numbers ∷ []) full_share) ∷ ‵ (N-numbers ν-numbers δ-numbers numbers0) ∷ ‵ (flft (ν-texts ∷ []) full_share) ∷ ‵ (N-texts ν-texts δ-texts texts0) ∷ []) ∵
       says ! (may_write content entries text new bytes0 numbers0 texts0 records s (from_first content new records z s E-z E-s) p E-p) $ nothing ! $ move ! (15 ∷ 0 ∷ []) $ join ! $ move ! (13 ∷ 0 ∷ []) $ join ! $
@@ -313,7 +313,7 @@ module _ {M : Type 1} {𝓤 : Ura M} (𝓛 : Logic 𝓤) (mem : Memory → SProp
   abbrev to-5 : (room_content : Room u8 (length content)) (room-entries : Room u32 (length entries)) (room-text : Room u8 (length text)) (room-records : Room row-Replacement (length records)) (room-new : Room u8 (length new)) (room-bytes : Room u8 (length bytes0)) (room_numbers : Room u32 (length numbers0)) (room-texts : Room u8 (length texts0)) (z : Scan) (g-z : Is row-Scan z (mach-Scan z ∷ [])) (E-z : z ≡ scan false 0 0) (s : Scan) (g-s : Is row-Scan s (mach-Scan s ∷ [])) (E-s : s ≡ check_all (length content) (length new) records z) (p : Work) (g-p : Is row-Work p (mach-Work p ∷ [])) (E-p : (settled_fault p.verdict ≡ plan_fault content entries text s (room_of_state (length bytes0) (length numbers0) (length texts0) 0)) × (p.cursor ≡ at_start)) (w : Work) (bytes4 : List ℕ) (numbers4 : List ℕ) (texts4 : List ℕ) (g-w : Is row-Work w (mach-Work w ∷ [])) (len-bytes4 : length bytes4 ≡ length bytes0) (len-numbers4 : length numbers4 ≡ length numbers0) (len-texts4 : length texts4 ≡ length texts0) (E-w : Turns content entries text new records (world p bytes0 numbers0 texts0) (world w bytes4 numbers4 texts4)) (ν-bytes : ℕ) (δ-bytes : GName) (ν-numbers : ℕ) (δ-numbers : GName) (ν-texts : ℕ) (δ-texts : GName) → (C-finish 𝓛 mem run).Ghost
   to-5 room_content room-entries room-text room-records room-new room-bytes room_numbers room-texts z g-z E-z s g-s E-s p g-p E-p w bytes4 numbers4 texts4 g-w len-bytes4 len-numbers4 len-texts4 E-w ν-bytes δ-bytes ν-numbers δ-numbers ν-texts δ-texts = (((κ-content, (κ-entries, (κ-text, (ν-bytes ∷ [], (ν-numbers ∷ [], (ν-texts ∷ [], tt)))))), (q-content, (q-entries, (q-text, (full_share, (full_share, (full_share, tt)))))), tt, (w, (x-content, (x-entries, (x-text, (x-bytes δ-bytes bytes4, (x-numbers δ-numbers numbers4, (x-texts δ-texts texts4, tt))))))), (mach-Work w ∷ [], (v-content ∷ [], (v-entries ∷ [], (v-text ∷ [], (v_bytes ∷ [], (v-numbers ∷ [], (v-texts ∷ [], tt)))))))), tt)
 
-  goes-5 : (room_content : Room u8 (length content)) (room-entries : Room u32 (length entries)) (room-text : Room u8 (length text)) (room-records : Room row-Replacement (length records)) (room-new : Room u8 (length new)) (room-bytes : Room u8 (length bytes0)) (room_numbers : Room u32 (length numbers0)) (room-texts : Room u8 (length texts0)) (z : Scan) (g-z : Is row-Scan z (mach-Scan z ∷ [])) (E-z : z ≡ scan false 0 0) (s : Scan) (g-s : Is row-Scan s (mach-Scan s ∷ [])) (E-s : s ≡ check_all (length content) (length new) records z) (p : Work) (g-p : Is row-Work p (mach-Work p ∷ [])) (E-p : (settled_fault p.verdict ≡ plan_fault content entries text s (room_of_state (length bytes0) (length numbers0) (length texts0) 0)) × (p.cursor ≡ at_start)) (w : Work) (bytes4 : List ℕ) (numbers4 : List ℕ) (texts4 : List ℕ) (g-w : Is row-Work w (mach-Work w ∷ [])) (len-bytes4 : length bytes4 ≡ length bytes0) (len-numbers4 : length numbers4 ≡ length numbers0) (len-texts4 : length texts4 ≡ length texts0) (E-w : Turns content entries text new records (world p bytes0 numbers0 texts0) (world w bytes4 numbers4 texts4)) (ν-bytes : ℕ) (δ-bytes : GName) (ν-numbers : ℕ) (δ-numbers : GName) (ν-texts : ℕ) (δ-texts : GName) → ent 𝓤 (⋆ 𝓛 (‵ (flft κ-content q-content) ∷ ‵ O-content ∷ ‵ (flft κ-entries q-entries) ∷ ‵ O-entries ∷ ‵ (flft κ-text q-text) ∷ ‵ O-text ∷ ‵ (flft (ν-bytes ∷ []) full_share) ∷ ‵ (N-bytes ν-bytes δ-bytes bytes4) ∷ ‵ (flft (ν-numbers ∷ []) full_share) ∷ ‵ (N-numbers ν-numbers δ-numbers numbers4) ∷ ‵ (flft (ν-texts ∷ []) full_share) ∷ ‵ (N-texts ν-texts δ-texts texts4) ∷ [])) ((C-finish 𝓛 mem run).pre (to-5 room_content room-entries room-text room-records room-new room-bytes room_numbers room-texts z g-z E-z s g-s E-s p g-p E-p w bytes4 numbers4 texts4 g-w len-bytes4 len-numbers4 len-texts4 E-w ν-bytes δ-bytes ν-numbers δ-numbers ν-texts δ-texts))
+  goes-5 : (room_content : Room u8 (length content)) (room-entries : Room u32 (length entries)) (room-text : Room u8 (length text)) (room-records : Room row-Replacement (length records)) (room-new : Room u8 (length new)) (room-bytes : Room u8 (length bytes0)) (room_numbers : Room u32 (length numbers0)) (room-texts : Room u8 (length texts0)) (z : Scan) (g-z : Is row-Scan z (mach-Scan z ∷ [])) (E-z : z ≡ scan false 0 0) (s : Scan) (g-s : Is row-Scan s (mach-Scan s ∷ [])) (E-s : s ≡ check_all (length content) (length new) records z) (p : Work) (g-p : Is row-Work p (mach-Work p ∷ [])) (E-p : (settled_fault p.verdict ≡ plan_fault content entries text s (room_of_state (length bytes0) (length numbers0) (length texts0) 0)) × (p.cursor ≡ at_start)) (w : Work) (bytes4 : List ℕ) (numbers4 : List ℕ) (texts4 : List ℕ) (g-w : Is row-Work w (mach-Work w ∷ [])) (len-bytes4 : length bytes4 ≡ length bytes0) (len-numbers4 : length numbers4 ≡ length numbers0) (len-texts4 : length texts4 ≡ length texts0) (E-w : Turns content entries text new records (world p bytes0 numbers0 texts0) (world w bytes4 numbers4 texts4)) (ν-bytes : ℕ) (δ-bytes : GName) (ν-numbers : ℕ) (δ-numbers : GName) (ν-texts : ℕ) (δ-texts : GName) → ent 𝓤 (⋆ 𝓛 (‵ (flft κ-content q-content) ∷ ‵ O-content ∷ ‵ (flft κ-entries q-entries) ∷ ‵ O-entries ∷ ‵ (flft κ-text q-text) ∷ ‵ O-text ∷ ‵ (flft (ν-bytes ∷ []) full_share) ∷ ‵ (N-bytes ν-bytes δ-bytes bytes4) ∷ ‵ (flft (ν-numbers ∷ []) full_share) ∷ ‵ (N-numbers ν-numbers δ-numbers numbers4) ∷ ‵ (flft (ν-texts ∷ []) full_share) ∷ ‵ (N-texts ν-texts δ-texts texts4) ∷ [])) ((C-finish 𝓛 mem run).requires (to-5 room_content room-entries room-text room-records room-new room-bytes room_numbers room-texts z g-z E-z s g-s E-s p g-p E-p w bytes4 numbers4 texts4 g-w len-bytes4 len-numbers4 len-texts4 E-w ν-bytes δ-bytes ν-numbers δ-numbers ν-texts δ-texts))
   goes-5 room_content room-entries room-text room-records room-new room-bytes room_numbers room-texts z g-z E-z s g-s E-s p g-p E-p w bytes4 numbers4 texts4 g-w len-bytes4 len-numbers4 len-texts4 E-w ν-bytes δ-bytes ν-numbers δ-numbers ν-texts δ-texts =
       qed 𝓛 (‵ (flft κ-content q-content) ∷ ‵ O-content ∷ ‵ (flft κ-entries q-entries) ∷ ‵ O-entries ∷ ‵ (flft κ-text q-text) ∷ ‵ O-text ∷ ‵ (flft (ν-bytes ∷ []) full_share) ∷ ‵ (N-bytes ν-bytes δ-bytes bytes4) ∷ ‵ (flft (ν-numbers ∷ []) full_share) ∷ ‵ (N-numbers ν-numbers δ-numbers numbers4) ∷ ‵ (flft (ν-texts ∷ []) full_share) ∷ ‵ (N-texts ν-texts δ-texts texts4) ∷ []) ∵
       says ! (may_end content entries text new bytes0 numbers0 texts0 records s (from_first content new records z s E-z E-s) p E-p (world w bytes4 numbers4 texts4) E-w) $ nothing ! $ move ! (11 ∷ 0 ∷ []) $ join ! $
@@ -363,7 +363,7 @@ module _ {M : Type 1} {𝓤 : Ura M} (𝓛 : Logic 𝓤) (mem : Memory → SProp
         -- the call
         move ! (8 ∷ 6 ∷ []) $ join ! $ move ! (8 ∷ 0 ∷ []) $ join ! $ move ! (9 ∷ 0 ∷ []) $ join ! $ move ! (9 ∷ 0 ∷ []) $ join ! $ move ! (10 ∷ 0 ∷ []) $ join ! $ move ! (1 ∷ 0 ∷ []) $ join ! $ move ! (67 ∷ 0 ∷ []) $ join ! $
         move ! (2 ∷ 0 ∷ []) $ join ! $ move ! (65 ∷ 0 ∷ []) $ join ! $ move ! (3 ∷ 0 ∷ []) $ join ! $ move ! (63 ∷ 0 ∷ []) $ join ! $
-        use1 𝓛 (raw ((C-finish 𝓛 mem run).pre (to-5 room_content room-entries room-text room-records room-new room-bytes room_numbers room-texts z g-z E-z s g-s E-s p g-p E-p w bytes4 numbers4 texts4 g-w len-bytes4 len-numbers4 len-texts4 E-w ν-bytes δ-bytes ν-numbers δ-numbers ν-texts δ-texts))) (goes-5 room_content room-entries room-text room-records room-new room-bytes room_numbers room-texts z g-z E-z s g-s E-s p g-p E-p w bytes4 numbers4 texts4 g-w len-bytes4 len-numbers4 len-texts4 E-w ν-bytes δ-bytes ν-numbers δ-numbers ν-texts δ-texts) $
+        use1 𝓛 (raw ((C-finish 𝓛 mem run).requires (to-5 room_content room-entries room-text room-records room-new room-bytes room_numbers room-texts z g-z E-z s g-s E-s p g-p E-p w bytes4 numbers4 texts4 g-w len-bytes4 len-numbers4 len-texts4 E-w ν-bytes δ-bytes ν-numbers δ-numbers ν-texts δ-texts))) (goes-5 room_content room-entries room-text room-records room-new room-bytes room_numbers room-texts z g-z E-z s g-s E-s p g-p E-p w bytes4 numbers4 texts4 g-w len-bytes4 len-numbers4 len-texts4 E-w ν-bytes δ-bytes ν-numbers δ-numbers ν-texts δ-texts) $
         calls_at ! fm (C-finish 𝓛 mem run) known-finish (to-5 room_content room-entries room-text room-records room-new room-bytes room_numbers room-texts z g-z E-z s g-s E-s p g-p E-p w bytes4 numbers4 texts4 g-w len-bytes4 len-numbers4 len-texts4 E-w ν-bytes δ-bytes ν-numbers δ-numbers ν-texts δ-texts) (and_then ! (load ! (from ! (stop !)) (look ! 39 refl)) (and_then ! (load ! (from ! (stop !)) (look ! 59 refl)) (and_then ! (load ! (from ! (stop !)) (look ! 57 refl)) (and_then ! (load ! (from ! (stop !)) (look ! 55 refl)) (and_then ! (load ! (from ! (stop !)) (look ! 15 refl)) (and_then ! (load ! (from ! (stop !)) (look ! 11 refl)) (and_then ! (load ! (from ! (stop !)) (look ! 7 refl)) (no_more !)))))))) (λ u.
         use1 𝓛 (later (some (λ (r : Answer). ((‵ (flft κ-content q-content) ⊛ (‵ (flft κ-entries q-entries) ⊛ (‵ (flft κ-text q-text) ⊛ (‵ (flft (ν-bytes ∷ []) full_share) ⊛ (‵ (flft (ν-numbers ∷ []) full_share) ⊛ (‵ (flft (ν-texts ∷ []) full_share) ⊛ (‵ ftrue))))))) ⊛ ‵ (row-Answer.own r (u ∷ []))) ⊛ raw (ensured 𝓛 finish.ended (finish.clauses 𝓛 mem run) (κ-content, (κ-entries, (κ-text, (ν-bytes ∷ [], (ν-numbers ∷ [], (ν-texts ∷ [], tt)))))) (w, (x-content, (x-entries, (x-text, (x-bytes δ-bytes bytes4, (x-numbers δ-numbers numbers4, (x-texts δ-texts texts4, tt))))))) tt r)))) (id⊢ 𝓤 _) $ await ! tt $ pick ! (λ r.
         split ! $ move ! (1 ∷ []) $
@@ -436,7 +436,7 @@ module _ {M : Type 1} {𝓤 : Ura M} (𝓛 : Logic 𝓤) (mem : Memory → SProp
         move ! (12 ∷ 10 ∷ []) $ join ! $ move ! (12 ∷ 0 ∷ []) $ join ! $ move ! (13 ∷ 0 ∷ []) $ join ! $ move ! (13 ∷ 0 ∷ []) $ join ! $ move ! (14 ∷ 0 ∷ []) $ join ! $ move ! (1 ∷ 0 ∷ []) $ join ! $ move ! (73 ∷ 0 ∷ []) $
         join ! $ move ! (2 ∷ 0 ∷ []) $ join ! $ move ! (70 ∷ 0 ∷ []) $ join ! $ move ! (3 ∷ 0 ∷ []) $ join ! $ move ! (68 ∷ 0 ∷ []) $ join ! $ move ! (4 ∷ 0 ∷ []) $ join ! $ move ! (66 ∷ 0 ∷ []) $ join ! $ move ! (5 ∷ 0 ∷ []) $
         join ! $ move ! (65 ∷ 0 ∷ []) $ join ! $
-        use1 𝓛 (raw ((C-write-each 𝓛 mem run).pre (to-4 room_content room-entries room-text room-records room-new room-bytes room_numbers room-texts z g-z E-z s g-s E-s p g-p E-p ν-bytes δ-bytes ν-numbers δ-numbers ν-texts δ-texts))) (goes-4 room_content room-entries room-text room-records room-new room-bytes room_numbers room-texts z g-z E-z s g-s E-s p g-p E-p ν-bytes δ-bytes ν-numbers δ-numbers ν-texts δ-texts) $
+        use1 𝓛 (raw ((C-write-each 𝓛 mem run).requires (to-4 room_content room-entries room-text room-records room-new room-bytes room_numbers room-texts z g-z E-z s g-s E-s p g-p E-p ν-bytes δ-bytes ν-numbers δ-numbers ν-texts δ-texts))) (goes-4 room_content room-entries room-text room-records room-new room-bytes room_numbers room-texts z g-z E-z s g-s E-s p g-p E-p ν-bytes δ-bytes ν-numbers δ-numbers ν-texts δ-texts) $
         calls_at ! fm (C-write-each 𝓛 mem run) known-write-each (to-4 room_content room-entries room-text room-records room-new room-bytes room_numbers room-texts z g-z E-z s g-s E-s p g-p E-p ν-bytes δ-bytes ν-numbers δ-numbers ν-texts δ-texts) (and_then ! (load ! (from ! (stop !)) (look ! 55 refl)) (and_then ! (load ! (from ! (stop !)) (look ! 43 refl)) (and_then ! (load ! (from ! (stop !)) (look ! 61 refl)) (and_then ! (load ! (from ! (stop !)) (look ! 59 refl)) (and_then ! (load ! (from ! (stop !)) (look ! 57 refl)) (and_then ! (load ! (from ! (stop !)) (look ! 53 refl)) (and_then ! (load ! (from ! (stop !)) (look ! 29 refl)) (and_then ! (load ! (from ! (stop !)) (look ! 25 refl)) (and_then ! (load ! (from ! (stop !)) (look ! 21 refl)) (no_more !)))))))))) (λ u.
         use1 𝓛 (later (some (λ (w : Work). ((‵ (flft κ-records q-records) ⊛ (‵ (flft κ-content q-content) ⊛ (‵ (flft κ-entries q-entries) ⊛ (‵ (flft κ-text q-text) ⊛ (‵ (flft κ-new q-new) ⊛ (‵ (flft (ν-bytes ∷ []) full_share) ⊛ (‵ (flft (ν-numbers ∷ []) full_share) ⊛ (‵ (flft (ν-texts ∷ []) full_share) ⊛ (‵ ftrue))))))))) ⊛ ‵ (row-Work.own w (u ∷ []))) ⊛ raw (ensured 𝓛 write-each.ended (write-each.clauses 𝓛 mem run) (κ-records, (κ-content, (κ-entries, (κ-text, (κ-new, (ν-bytes ∷ [], (ν-numbers ∷ [], (ν-texts ∷ [], tt)))))))) (x-records, (p, (x-content, (x-entries, (x-text, (x-new, (x-bytes δ-bytes bytes0, (x-numbers δ-numbers numbers0, (x-texts δ-texts texts0, tt))))))))) tt w)))) (id⊢ 𝓤 _) $ await ! tt $ pick ! (λ w.
         split ! $ move ! (1 ∷ []) $
@@ -485,7 +485,7 @@ module _ {M : Type 1} {𝓤 : Ura M} (𝓛 : Logic 𝓤) (mem : Memory → SProp
         use1 𝓛 (‵ O-text ⊛ ‵ O-text) ((shr_slice_copy 𝓛 (named 2) κ-text u8).twice x-text (v-text ∷ [])) $ split ! $
         -- the call
         move ! (64 ∷ 0 ∷ []) $ join ! $ move ! (2 ∷ 0 ∷ []) $ join ! $ move ! (62 ∷ 0 ∷ []) $ join ! $ move ! (3 ∷ 0 ∷ []) $ join ! $ move ! (60 ∷ 0 ∷ []) $ join ! $
-        use1 𝓛 (raw ((C-plan 𝓛 mem run).pre (to-3 room_content room-entries room-text room-records room-new room-bytes room_numbers room-texts z g-z E-z s g-s E-s))) (goes-3 room_content room-entries room-text room-records room-new room-bytes room_numbers room-texts z g-z E-z s g-s E-s) $
+        use1 𝓛 (raw ((C-plan 𝓛 mem run).requires (to-3 room_content room-entries room-text room-records room-new room-bytes room_numbers room-texts z g-z E-z s g-s E-s))) (goes-3 room_content room-entries room-text room-records room-new room-bytes room_numbers room-texts z g-z E-z s g-s E-s) $
         calls_at ! fm (C-plan 𝓛 mem run) known-plan (to-3 room_content room-entries room-text room-records room-new room-bytes room_numbers room-texts z g-z E-z s g-s E-s) (and_then ! (load ! (from ! (stop !)) (look ! 40 refl)) (and_then ! (load ! (from ! (stop !)) (look ! 56 refl)) (and_then ! (load ! (from ! (stop !)) (look ! 54 refl)) (and_then ! (load ! (from ! (stop !)) (look ! 52 refl)) (and_then ! (load ! (from ! (stop !)) (look ! 32 refl)) (and_then ! (load ! (from ! (stop !)) (look ! 30 refl)) (and_then ! (load ! (from ! (stop !)) (look ! 28 refl)) (no_more !)))))))) (λ u.
         use1 𝓛 (later (some (λ (p : Work). ((‵ (flft κ-content q-content) ⊛ (‵ (flft κ-entries q-entries) ⊛ (‵ (flft κ-text q-text) ⊛ (‵ ftrue)))) ⊛ ‵ (row-Work.own p (u ∷ []))) ⊛ raw (ensured 𝓛 plan.ended (plan.clauses 𝓛 mem run) (κ-content, (κ-entries, (κ-text, tt))) (s, (x-content, (x-entries, (x-text, (length bytes0, (length numbers0, (length texts0, tt))))))) tt p)))) (id⊢ 𝓤 _) $ await ! tt $ pick ! (λ p.
         split ! $ move ! (1 ∷ []) $
@@ -517,7 +517,7 @@ module _ {M : Type 1} {𝓤 : Ura M} (𝓛 : Logic 𝓤) (mem : Memory → SProp
         use1 𝓛 (‵ O-records ⊛ ‵ O-records) ((shr_slice_copy 𝓛 (named 3) κ-records row-Replacement).twice x-records (v-records ∷ [])) $ split ! $
         -- the call
         move ! (64 ∷ 0 ∷ []) $ join ! $
-        use1 𝓛 (raw ((C-check-each 𝓛 mem run).pre (to-2 room_content room-entries room-text room-records room-new room-bytes room_numbers room-texts z g-z E-z))) (goes-2 room_content room-entries room-text room-records room-new room-bytes room_numbers room-texts z g-z E-z) $
+        use1 𝓛 (raw ((C-check-each 𝓛 mem run).requires (to-2 room_content room-entries room-text room-records room-new room-bytes room_numbers room-texts z g-z E-z))) (goes-2 room_content room-entries room-text room-records room-new room-bytes room_numbers room-texts z g-z E-z) $
         calls_at ! fm (C-check-each 𝓛 mem run) known-check-each (to-2 room_content room-entries room-text room-records room-new room-bytes room_numbers room-texts z g-z E-z) (and_then ! (load ! (from ! (stop !)) (look ! 48 refl)) (and_then ! (load ! (from ! (stop !)) (look ! 32 refl)) (and_then ! (load ! (from ! (stop !)) (look ! 30 refl)) (and_then ! (load ! (from ! (stop !)) (look ! 28 refl)) (no_more !))))) (λ u.
         use1 𝓛 (later (some (λ (s : Scan). ((‵ (flft κ-records q-records) ⊛ (‵ ftrue)) ⊛ ‵ (row-Scan.own s (u ∷ []))) ⊛ raw (ensured 𝓛 check-each.ended (check-each.clauses 𝓛 mem run) (κ-records, tt) (x-records, (z, (length content, (length new, tt)))) tt s)))) (id⊢ 𝓤 _) $ await ! tt $ pick ! (λ s.
         split ! $ move ! (1 ∷ []) $
@@ -545,7 +545,7 @@ module _ {M : Type 1} {𝓤 : Ura M} (𝓛 : Logic 𝓤) (mem : Memory → SProp
     part-1 =
         qed 𝓛 (At-1) ∵ exec ! 𝓣.C 𝓣.Λ En body.t-1 (at_ret En Post) $
         -- the call
-        use0 𝓛 (raw ((C-first 𝓛 mem run).pre (to-1 room_content room-entries room-text room-records room-new room-bytes room_numbers room-texts))) (goes-1 room_content room-entries room-text room-records room-new room-bytes room_numbers room-texts) $
+        use0 𝓛 (raw ((C-first 𝓛 mem run).requires (to-1 room_content room-entries room-text room-records room-new room-bytes room_numbers room-texts))) (goes-1 room_content room-entries room-text room-records room-new room-bytes room_numbers room-texts) $
         calls_at ! fm (C-first 𝓛 mem run) known-first (to-1 room_content room-entries room-text room-records room-new room-bytes room_numbers room-texts) (no_more !) (λ u.
         use1 𝓛 (later (some (λ (z : Scan). ((‵ ftrue) ⊛ ‵ (row-Scan.own z (u ∷ []))) ⊛ raw (ensured 𝓛 first.ended (first.clauses 𝓛 mem run) tt tt tt z)))) (id⊢ 𝓤 _) $ await ! tt $ pick ! (λ z. split ! $ move ! (1 ∷ []) $
         use1 𝓛 (some (λ (zs : Unit {0}). ‵ (lasts first.ended tt tt zs) ⊛ (raw (fact 𝓤 (z ≡ scan false 0 0))))) (id⊢ 𝓤 _) $ pick ! (λ zs. split ! $ move ! (1 ∷ []) $ heard ! (z ≡ scan false 0 0) (λ E-z. drop ! $ split ! $ drop ! $

@@ -8,40 +8,40 @@ use Rattle.replace_records.proofs.write_turn.Reads as reads
 use Rattle.replace_records.proofs.write_turn.Lts as lts
 use Rattle.replace.proofs.write_step.Reads as write-step-reads
 
-enum-known-v : tie.Need-enum-known-v
+enum-known-v : tie.Need-enum_known-v
 enum-known-v c = search rules
 
-returns : tie.Need-returns
+returns : tie.Need-returns-in-Refused
 returns c =
     let a = c.before.before.before.before.before.before.before.before.before.before.args in
-    let g = c.before.v.given in
-    turn_none a.content.now a.entries.now a.text.now a.new.now a.x (world a.w a.bytes.now a.numbers.now a.texts.now) g.0.0 g.1
+    let g = c.before.v-1.given in
+    turn_none a.content.now a.entries.now a.text.now a.new.now a.x (world a.w a.bytes-1.now a.numbers-1.now a.texts-1.now) g.0.0 g.1
 
-enum_told : tie.Need-enum-told
+enum_told : tie.Need-enum_told-1
 enum_told c = search rules
 
-write-step-requires : tie.Need-write-step-requires
+write-step-requires : tie.Need-write_step-c-requires
 unfolding MayTurn
-write-step-requires c κs = c.before.before.before.before.before.before.before.before.before.before.before.before.before.requires c.before.before.before.before.enum_told.given.1
+write-step-requires c κs = c.before.before.before.before.before.before.before.before.before.before.before.before.before.requires c.before.before.before.before.enum_told-1.given.1
 
-same_length : tie.Need-same-length
+same_length : tie.Need-shape_of-bytes
 same_length c = search rules
 
-same-length-2 : tie.Need-same-length-2
+same-length-2 : tie.Need-shape_of-numbers
 same-length-2 c = search rules
 
-same-length-3 : tie.Need-same-length-3
+same-length-3 : tie.Need-shape_of-texts
 same-length-3 c = search rules
 
-returns-2 : tie.Need-returns-2
+returns-2 : tie.Need-returns
 returns-2 c =
     let a = c.before.before.before.before.before.before.before.before.before.before.before.before.before.before.before.before.before.before.before.before.args in
-    let g = c.before.before.before.before.before.before.before.before.before.before.before.enum_told.given in
-    let k = c.before.before.before.before.before.before.write_step in
-    turn_made a.content.now a.entries.now a.text.now a.new.now a.x (world a.w a.bytes.now a.numbers.now a.texts.now) g.1 k.result _ _ _ k.ensures
+    let g = c.before.before.before.before.before.before.before.before.before.before.before.enum_told-1.given in
+    let k = c.before.before.before.before.before.before.write_step-c in
+    turn_made a.content.now a.entries.now a.text.now a.new.now a.x (world a.w a.bytes-1.now a.numbers-1.now a.texts-1.now) g.1 k.result _ _ _ k.ensures
 
-pub write-turn-spec : {M : Type 1} → statement M
-write-turn-spec =
+pub write_turn_spec : {M : Type 1} → statement M
+write_turn_spec =
     tie.close
     (tie.spec
     enum-known-v

@@ -265,7 +265,7 @@ module _ {M : Type 1} {𝓤 : Ura M} (𝓛 : Logic 𝓤) (mem : Memory → SProp
   abbrev to-1 : (g-a : Is row-Replacement a (mach-Replacement a ∷ [])) (g-b : Is row-Replacement b (mach-Replacement b ∷ [])) (room_content : Room u8 (length content)) (room-entries : Room u32 (length entries)) (room-text : Room u8 (length text)) (room-new : Room u8 (length new)) (room-bytes : Room u8 (length bytes0)) (room_numbers : Room u32 (length numbers0)) (room-texts : Room u8 (length texts0)) (ν-bytes : ℕ) (δ-bytes : GName) (ν-numbers : ℕ) (δ-numbers : GName) (ν-texts : ℕ) (δ-texts : GName) (ν-rs : ℕ) (δ-rs : GName) (at-rs : ℕ) → (C-write-replaced 𝓛 mem run).Ghost
   to-1 g-a g-b room_content room-entries room-text room-new room-bytes room_numbers room-texts ν-bytes δ-bytes ν-numbers δ-numbers ν-texts δ-texts ν-rs δ-rs at-rs = (((κ-content, (κ-entries, (κ-text, (ν-rs ∷ [], (κ-new, (ν-bytes ∷ [], (ν-numbers ∷ [], (ν-texts ∷ [], tt)))))))), (q-content, (q-entries, (q-text, (full_share, (q-new, (full_share, (full_share, (full_share, tt)))))))), tt, (x-content, (x-entries, (x-text, (x-rs at-rs δ-rs, (x-new, (x-bytes δ-bytes bytes0, (x-numbers δ-numbers numbers0, (x-texts δ-texts texts0, tt)))))))), (v-content ∷ [], (v-entries ∷ [], (v-text ∷ [], (v-rs at-rs ∷ [], (v-new ∷ [], (v_bytes ∷ [], (v-numbers ∷ [], (v-texts ∷ [], tt))))))))), tt)
 
-  goes-1 : (g-a : Is row-Replacement a (mach-Replacement a ∷ [])) (g-b : Is row-Replacement b (mach-Replacement b ∷ [])) (room_content : Room u8 (length content)) (room-entries : Room u32 (length entries)) (room-text : Room u8 (length text)) (room-new : Room u8 (length new)) (room-bytes : Room u8 (length bytes0)) (room_numbers : Room u32 (length numbers0)) (room-texts : Room u8 (length texts0)) (ν-bytes : ℕ) (δ-bytes : GName) (ν-numbers : ℕ) (δ-numbers : GName) (ν-texts : ℕ) (δ-texts : GName) (ν-rs : ℕ) (δ-rs : GName) (at-rs : ℕ) → ent 𝓤 (⋆ 𝓛 (‵ (flft κ-content q-content) ∷ ‵ O-content ∷ ‵ (flft κ-entries q-entries) ∷ ‵ O-entries ∷ ‵ (flft κ-text q-text) ∷ ‵ O-text ∷ ‵ (flft (ν-rs ∷ []) full_share) ∷ ‵ (N-rs at-rs ν-rs δ-rs) ∷ ‵ (flft κ-new q-new) ∷ ‵ O-new ∷ ‵ (flft (ν-bytes ∷ []) full_share) ∷ ‵ (N-bytes ν-bytes δ-bytes bytes0) ∷ ‵ (flft (ν-numbers ∷ []) full_share) ∷ ‵ (N-numbers ν-numbers δ-numbers numbers0) ∷ ‵ (flft (ν-texts ∷ []) full_share) ∷ ‵ (N-texts ν-texts δ-texts texts0) ∷ [])) ((C-write-replaced 𝓛 mem run).pre (to-1 g-a g-b room_content room-entries room-text room-new room-bytes room_numbers room-texts ν-bytes δ-bytes ν-numbers δ-numbers ν-texts δ-texts ν-rs δ-rs at-rs))
+  goes-1 : (g-a : Is row-Replacement a (mach-Replacement a ∷ [])) (g-b : Is row-Replacement b (mach-Replacement b ∷ [])) (room_content : Room u8 (length content)) (room-entries : Room u32 (length entries)) (room-text : Room u8 (length text)) (room-new : Room u8 (length new)) (room-bytes : Room u8 (length bytes0)) (room_numbers : Room u32 (length numbers0)) (room-texts : Room u8 (length texts0)) (ν-bytes : ℕ) (δ-bytes : GName) (ν-numbers : ℕ) (δ-numbers : GName) (ν-texts : ℕ) (δ-texts : GName) (ν-rs : ℕ) (δ-rs : GName) (at-rs : ℕ) → ent 𝓤 (⋆ 𝓛 (‵ (flft κ-content q-content) ∷ ‵ O-content ∷ ‵ (flft κ-entries q-entries) ∷ ‵ O-entries ∷ ‵ (flft κ-text q-text) ∷ ‵ O-text ∷ ‵ (flft (ν-rs ∷ []) full_share) ∷ ‵ (N-rs at-rs ν-rs δ-rs) ∷ ‵ (flft κ-new q-new) ∷ ‵ O-new ∷ ‵ (flft (ν-bytes ∷ []) full_share) ∷ ‵ (N-bytes ν-bytes δ-bytes bytes0) ∷ ‵ (flft (ν-numbers ∷ []) full_share) ∷ ‵ (N-numbers ν-numbers δ-numbers numbers0) ∷ ‵ (flft (ν-texts ∷ []) full_share) ∷ ‵ (N-texts ν-texts δ-texts texts0) ∷ [])) ((C-write-replaced 𝓛 mem run).requires (to-1 g-a g-b room_content room-entries room-text room-new room-bytes room_numbers room-texts ν-bytes δ-bytes ν-numbers δ-numbers ν-texts δ-texts ν-rs δ-rs at-rs))
   goes-1 g-a g-b room_content room-entries room-text room-new room-bytes room_numbers room-texts ν-bytes δ-bytes ν-numbers δ-numbers ν-texts δ-texts ν-rs δ-rs at-rs =
       qed 𝓛 (‵ (flft κ-content q-content) ∷ ‵ O-content ∷ ‵ (flft κ-entries q-entries) ∷ ‵ O-entries ∷ ‵ (flft κ-text q-text) ∷ ‵ O-text ∷ ‵ (flft (ν-rs ∷ []) full_share) ∷ ‵ (N-rs at-rs ν-rs δ-rs) ∷ ‵ (flft κ-new q-new) ∷ ‵ O-new ∷ ‵ (flft (ν-bytes ∷ []) full_share) ∷ ‵ (N-bytes ν-bytes δ-bytes bytes0) ∷ ‵ (flft (ν-numbers ∷ []) full_share) ∷ ‵ (N-numbers ν-numbers δ-numbers numbers0) ∷ ‵ (flft (ν-texts ∷ []) full_share) ∷ ‵ (N-texts ν-texts δ-texts texts0) ∷ []) ∵
       nothing ! $ move ! (16 ∷ 0 ∷ []) $ fjoin ! $ move ! (14 ∷ 0 ∷ []) $ fjoin ! $ move ! (12 ∷ 0 ∷ []) $ fjoin ! $ move ! (10 ∷ 0 ∷ []) $ fjoin ! $ move ! (8 ∷ 0 ∷ []) $ fjoin ! $ move ! (6 ∷ 0 ∷ []) $ fjoin ! $
@@ -320,7 +320,7 @@ module _ {M : Type 1} {𝓤 : Ura M} (𝓛 : Logic 𝓤) (mem : Memory → SProp
         move ! (13 ∷ 11 ∷ []) $ join ! $ move ! (13 ∷ 0 ∷ []) $ join ! $ move ! (14 ∷ 0 ∷ []) $ join ! $ move ! (14 ∷ 0 ∷ []) $ join ! $ move ! (15 ∷ 0 ∷ []) $ join ! $ move ! (1 ∷ 0 ∷ []) $ join ! $ move ! (54 ∷ 0 ∷ []) $
         join ! $ move ! (8 ∷ 0 ∷ []) $ join ! $ move ! (9 ∷ 0 ∷ []) $ join ! $ move ! (2 ∷ 0 ∷ []) $ join ! $ move ! (50 ∷ 0 ∷ []) $ join ! $ move ! (3 ∷ 0 ∷ []) $ join ! $ move ! (48 ∷ 0 ∷ []) $ join ! $ move ! (4 ∷ 0 ∷ []) $
         join ! $ move ! (46 ∷ 0 ∷ []) $ join ! $
-        use1 𝓛 (raw ((C-write-replaced 𝓛 mem run).pre (to-1 g-a g-b room_content room-entries room-text room-new room-bytes room_numbers room-texts ν-bytes δ-bytes ν-numbers δ-numbers ν-texts δ-texts ν-rs δ-rs l10))) (goes-1 g-a g-b room_content room-entries room-text room-new room-bytes room_numbers room-texts ν-bytes δ-bytes ν-numbers δ-numbers ν-texts δ-texts ν-rs δ-rs l10) $
+        use1 𝓛 (raw ((C-write-replaced 𝓛 mem run).requires (to-1 g-a g-b room_content room-entries room-text room-new room-bytes room_numbers room-texts ν-bytes δ-bytes ν-numbers δ-numbers ν-texts δ-texts ν-rs δ-rs l10))) (goes-1 g-a g-b room_content room-entries room-text room-new room-bytes room_numbers room-texts ν-bytes δ-bytes ν-numbers δ-numbers ν-texts δ-texts ν-rs δ-rs l10) $
         calls_at ! fm (C-write-replaced 𝓛 mem run) known-write-replaced (to-1 g-a g-b room_content room-entries room-text room-new room-bytes room_numbers room-texts ν-bytes δ-bytes ν-numbers δ-numbers ν-texts δ-texts ν-rs δ-rs l10) (and_then ! (load ! (from ! (stop !)) (look ! 38 refl)) (and_then ! (load ! (from ! (stop !)) (look ! 36 refl)) (and_then ! (load ! (from ! (stop !)) (look ! 34 refl)) (and_then ! (load ! (from ! (stop !)) (look ! 21 refl)) (and_then ! (load ! (from ! (stop !)) (look ! 32 refl)) (and_then ! (load ! (from ! (stop !)) (look ! 17 refl)) (and_then ! (load ! (from ! (stop !)) (look ! 13 refl)) (and_then ! (load ! (from ! (stop !)) (look ! 9 refl)) (no_more !))))))))) (λ u.
         use1 𝓛 (later (some (λ (r : Answer). ((‵ (flft κ-content q-content) ⊛ (‵ (flft κ-entries q-entries) ⊛ (‵ (flft κ-text q-text) ⊛ (‵ (flft (ν-rs ∷ []) full_share) ⊛ (‵ (flft κ-new q-new) ⊛ (‵ (flft (ν-bytes ∷ []) full_share) ⊛ (‵ (flft (ν-numbers ∷ []) full_share) ⊛ (‵ (flft (ν-texts ∷ []) full_share) ⊛ (‵ ftrue))))))))) ⊛ ‵ (row-Answer.own r (u ∷ []))) ⊛ raw (ensured 𝓛 write-replaced.ended (write-replaced.clauses 𝓛 mem run) (κ-content, (κ-entries, (κ-text, (ν-rs ∷ [], (κ-new, (ν-bytes ∷ [], (ν-numbers ∷ [], (ν-texts ∷ [], tt)))))))) (x-content, (x-entries, (x-text, (x-rs l10 δ-rs, (x-new, (x-bytes δ-bytes bytes0, (x-numbers δ-numbers numbers0, (x-texts δ-texts texts0, tt)))))))) tt r)))) (id⊢ 𝓤 _) $ await ! tt $ pick ! (λ r.
         split ! $ move ! (1 ∷ []) $

@@ -15,66 +15,66 @@ use Rattle.requests.proofs.all_fit.Lts as lts
 use Rattle.requests.proofs.fits.Reads as fits-reads
 use Rattle.requests.proofs.request_at.Reads as request-at-reads
 
-abbrev invariant-loop : tie.invariant-loop
+abbrev invariant-loop : tie.invariant-loop-k
 invariant-loop calls p q k₀ k =
     (k ≤ length calls / 8) × (all_fit_in p q (rest (length calls / 8) k calls) ≡ all_fit_in p q (requests_of (length calls / 8) calls))
 
-abbrev decreases-loop : tie.decreases-loop
+abbrev decreases-loop : tie.decreases-loop-k
 decreases-loop calls p q k₀ k =
     length calls / 8 - k
 
-loop-holds : tie.Need-loop-init invariant-loop decreases-loop
+loop-holds : tie.Need-loop-k-init invariant-loop decreases-loop
 loop-holds c =
     let s = c.before in
     (omega arith, ap (all_fit_in s.args.p s.args.q) (rest_all (length s.args.calls.now / 8) s.args.calls.now))
 
-mul-request-at : tie.Need-overflow-mul-request-at invariant-loop decreases-loop
+mul-request-at : tie.Need-overflow_mul-k invariant-loop decreases-loop
 mul-request-at c = search rules
 
-request-at-requires : tie.Need-request-at-requires invariant-loop decreases-loop
+request-at-requires : tie.Need-request_at-requires invariant-loop decreases-loop
 request-at-requires c κs = search rules
 
 fits-requires : tie.Need-fits-requires invariant-loop decreases-loop
 fits-requires c κs = search rules
 
-returns : tie.Need-returns invariant-loop decreases-loop
+returns : tie.Need-returns-then-not-fits invariant-loop decreases-loop
 returns c =
     let w = c.before.fits2 in
-    let q = c.before.before.request-at in
+    let q = c.before.before.request_at in
     let t = c.before.before.before in
-    let l = t.before.loop in
+    let l = t.before.loop-k in
     let s = t.before.before.before in
     let n = length s.args.calls.now / 8 in
-    sym (one_bad s.args.p s.args.q n l.k s.args.calls.now t.loop-test.true q.result w.result q.ensures w.ensures
-    (not-true w.result c.if1.true)) ∙ l.invariant.1
+    sym (one_bad s.args.p s.args.q n l.k s.args.calls.now t.loop-k-test.true q.result w.result q.ensures w.ensures
+    c.if-not-fits.true) ∙ l.invariant.1
 
-add-k : tie.Need-overflow-add-k invariant-loop decreases-loop
+add-k : tie.Need-overflow_add-k invariant-loop decreases-loop
 add-k c = search rules
 
-loop-less : tie.Need-loop-smaller invariant-loop decreases-loop
+loop-less : tie.Need-loop-k-smaller invariant-loop decreases-loop
 loop-less c = search rules
 
-loop-again : tie.Need-loop-preserved invariant-loop decreases-loop
+loop-again : tie.Need-loop-k-preserved invariant-loop decreases-loop
 loop-again c =
     let w = c.before.fits2 in
-    let q = c.before.before.request-at in
+    let q = c.before.before.request_at in
     let t = c.before.before.before in
-    let l = t.before.loop in
+    let l = t.before.loop-k in
     let s = t.before.before.before in
     let n = length s.args.calls.now / 8 in (
       search rules,
-      sym (one_good s.args.p s.args.q n l.k s.args.calls.now t.loop-test.true q.result w.result q.ensures w.ensures
-          (not_false w.result c.if1.false)) ∙ l.invariant.1,
+      sym (one_good s.args.p s.args.q n l.k s.args.calls.now t.loop-k-test.true q.result w.result q.ensures w.ensures
+          c.if-not-fits.false) ∙ l.invariant.1,
     )
 
-returns-2 : tie.Need-returns-2 invariant-loop decreases-loop
+returns-2 : tie.Need-returns invariant-loop decreases-loop
 returns-2 c =
     let s = c.before.before.before in
-    let l = c.before.loop in
-    sym (ap (all_fit_in s.args.p s.args.q) (none (length s.args.calls.now / 8) l.k s.args.calls.now c.loop-test.false)) ∙ l.invariant.1
+    let l = c.before.loop-k in
+    sym (ap (all_fit_in s.args.p s.args.q) (none (length s.args.calls.now / 8) l.k s.args.calls.now c.loop-k-test.false)) ∙ l.invariant.1
 
-pub all-fit-spec : {M : Type 1} → statement M
-all-fit-spec =
+pub all_fit_spec : {M : Type 1} → statement M
+all_fit_spec =
     tie.close
     (tie.spec
     invariant-loop

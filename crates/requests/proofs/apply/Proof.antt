@@ -29,7 +29,7 @@ use Rattle.wrap.proofs.write_wrapped.Reads as write-wrapped-reads
 
 -- ── what the call was given
 -- before the kinds are tried
-abbrev start : tie.After-slice-known4 → tie.Start
+abbrev start : tie.After-slice_known-4-1 → tie.Start
 start c = c.before.before.before.before.before.before.before.before.before.before
 
 abbrev content : tie.Start → Recording
@@ -49,148 +49,148 @@ no_lines s j e n od oe ot a p =
     unlined (job s) j (content s) s.args.bytes.now s.args.numbers.now s.args.texts.now s.args.lines.now od oe ot a e n p
 
 -- ── what is asked on the way
-write-truncated-start-requires : tie.Need-write-truncated-start-requires
+write-truncated-start-requires : tie.Need-write_truncated_start-requires
 write-truncated-start-requires c κs = search rules
 
-same_length : tie.Need-same-length
+same_length : tie.Need-shape_of-bytes-then-kind-eq0
 same_length c = search rules
 
-same-length-2 : tie.Need-same-length-2
+same-length-2 : tie.Need-shape_of-numbers-then-kind-eq0
 same-length-2 c = search rules
 
-same-length-3 : tie.Need-same-length-3
+same-length-3 : tie.Need-shape_of-texts-then-kind-eq0
 same-length-3 c = search rules
 
-returns : tie.Need-returns
+returns : tie.Need-returns-then-kind-eq0
 unfolding lines_left
 returns c =
     let w = c.before.before.before.before.before.before in
     let t = w.before.before.before.before in
     let s = start t.before in
     no_lines s (truncate_start s.args.width (second s))
-    (job_start s.args.kind s.args.width (second s) t.if1.true) refl _ _ _ w.write-truncated-start.result w.write-truncated-start.ensures
+    (job_start s.args.kind s.args.width (second s) t.if-kind-eq0.true) refl _ _ _ w.write_truncated_start.result w.write_truncated_start.ensures
 
-write-truncated-end-requires : tie.Need-write-truncated-end-requires
+write-truncated-end-requires : tie.Need-write_truncated_end-requires
 write-truncated-end-requires c κs = search rules
 
-same-length-4 : tie.Need-same-length-4
+same-length-4 : tie.Need-shape_of-bytes-then-kind-eq1
 same-length-4 c = search rules
 
-same-length-5 : tie.Need-same-length-5
+same-length-5 : tie.Need-shape_of-numbers-then-kind-eq1
 same-length-5 c = search rules
 
-same-length-6 : tie.Need-same-length-6
+same-length-6 : tie.Need-shape_of-texts-then-kind-eq1
 same-length-6 c = search rules
 
-returns-2 : tie.Need-returns-2
+returns-2 : tie.Need-returns-then-kind-eq1
 unfolding lines_left
 returns-2 c =
     let w = c.before.before.before.before.before.before in
     let t = w.before.before.before.before in
     let s = start t.before.before in
     no_lines s (truncate_end s.args.width (second s))
-    (job_end s.args.kind s.args.width (second s) t.if2.true) refl _ _ _ w.write-truncated-end.result w.write-truncated-end.ensures
+    (job_end s.args.kind s.args.width (second s) t.if-kind-eq1.true) refl _ _ _ w.write_truncated_end.result w.write_truncated_end.ensures
 
-write-padded-start-requires : tie.Need-write-padded-start-requires
+write-padded-start-requires : tie.Need-write_padded_start-requires
 write-padded-start-requires c κs = search rules
 
-same-length-7 : tie.Need-same-length-7
+same-length-7 : tie.Need-shape_of-bytes-then-kind-eq2
 same-length-7 c = search rules
 
-same-length-8 : tie.Need-same-length-8
+same-length-8 : tie.Need-shape_of-numbers-then-kind-eq2
 same-length-8 c = search rules
 
-same-length-9 : tie.Need-same-length-9
+same-length-9 : tie.Need-shape_of-texts-then-kind-eq2
 same-length-9 c = search rules
 
-returns-3 : tie.Need-returns-3
+returns-3 : tie.Need-returns-then-kind-eq2
 unfolding lines_left
 returns-3 c =
     let w = c.before.before.before.before.before.before in
     let t = w.before.before.before.before in
     let s = start t.before.before.before in
     no_lines s (pad_start s.args.width (second s))
-    (job_pad_start s.args.kind s.args.width (second s) t.if3.true) refl _ _ _ w.write-padded-start.result w.write-padded-start.ensures
+    (job_pad_start s.args.kind s.args.width (second s) t.if-kind-eq2.true) refl _ _ _ w.write_padded_start.result w.write_padded_start.ensures
 
-write-padded-end-requires : tie.Need-write-padded-end-requires
+write-padded-end-requires : tie.Need-write_padded_end-requires
 write-padded-end-requires c κs = search rules
 
-same-length-10 : tie.Need-same-length-10
+same-length-10 : tie.Need-shape_of-bytes-then-kind-eq3
 same-length-10 c = search rules
 
-same-length-11 : tie.Need-same-length-11
+same-length-11 : tie.Need-shape_of-numbers-then-kind-eq3
 same-length-11 c = search rules
 
-same-length-12 : tie.Need-same-length-12
+same-length-12 : tie.Need-shape_of-texts-then-kind-eq3
 same-length-12 c = search rules
 
-returns-4 : tie.Need-returns-4
+returns-4 : tie.Need-returns-then-kind-eq3
 unfolding lines_left
 returns-4 c =
     let w = c.before.before.before.before.before.before in
     let t = w.before.before.before.before in
     let s = start t.before.before.before.before in
     no_lines s (pad_end s.args.width (second s))
-    (job_pad_end s.args.kind s.args.width (second s) t.if4.true) refl _ _ _ w.write-padded-end.result w.write-padded-end.ensures
+    (job_pad_end s.args.kind s.args.width (second s) t.if-kind-eq3.true) refl _ _ _ w.write_padded_end.result w.write_padded_end.ensures
 
-write-padded-centered-requires : tie.Need-write-padded-centered-requires
+write-padded-centered-requires : tie.Need-write_padded_centered-requires
 write-padded-centered-requires c κs = search rules
 
-same-length-13 : tie.Need-same-length-13
+same-length-13 : tie.Need-shape_of-bytes-then-kind-eq4
 same-length-13 c = search rules
 
-same-length-14 : tie.Need-same-length-14
+same-length-14 : tie.Need-shape_of-numbers-then-kind-eq4
 same-length-14 c = search rules
 
-same-length-15 : tie.Need-same-length-15
+same-length-15 : tie.Need-shape_of-texts-then-kind-eq4
 same-length-15 c = search rules
 
-returns-5 : tie.Need-returns-5
+returns-5 : tie.Need-returns-then-kind-eq4
 unfolding lines_left
 returns-5 c =
     let w = c.before.before.before.before.before.before in
     let t = w.before.before.before.before in
     let s = start t.before.before.before.before.before in
     no_lines s (pad_centered s.args.width (second s))
-    (job_pad_centered s.args.kind s.args.width (second s) t.if5.true) refl _ _ _ w.write-padded-centered.result w.write-padded-centered.ensures
+    (job_pad_centered s.args.kind s.args.width (second s) t.if-kind-eq4.true) refl _ _ _ w.write_padded_centered.result w.write_padded_centered.ensures
 
-write-indented-requires : tie.Need-write-indented-requires
+write-indented-requires : tie.Need-write_indented-requires
 write-indented-requires c κs = search rules
 
-same-length-16 : tie.Need-same-length-16
+same-length-16 : tie.Need-shape_of-bytes-then-kind-eq5
 same-length-16 c = search rules
 
-same-length-17 : tie.Need-same-length-17
+same-length-17 : tie.Need-shape_of-numbers-then-kind-eq5
 same-length-17 c = search rules
 
-same-length-18 : tie.Need-same-length-18
+same-length-18 : tie.Need-shape_of-texts-then-kind-eq5
 same-length-18 c = search rules
 
-returns-6 : tie.Need-returns-6
+returns-6 : tie.Need-returns-then-kind-eq5
 unfolding lines_left
 returns-6 c =
     let w = c.before.before.before.before.before.before in
     let t = w.before.before.before.before in
     let s = start t.before.before.before.before.before.before in
     no_lines s (indent (second s))
-    (job_indent s.args.kind s.args.width (second s) t.if6.true) refl _ _ _ w.write-indented.result w.write-indented.ensures
+    (job_indent s.args.kind s.args.width (second s) t.if-kind-eq5.true) refl _ _ _ w.write_indented.result w.write_indented.ensures
 
-write-wrapped-requires : tie.Need-write-wrapped-requires
+write-wrapped-requires : tie.Need-write_wrapped-requires
 write-wrapped-requires c κs = search rules
 
-same-length-19 : tie.Need-same-length-19
+same-length-19 : tie.Need-shape_of-bytes-then-kind-lt8
 same-length-19 c = search rules
 
-same-length-20 : tie.Need-same-length-20
+same-length-20 : tie.Need-shape_of-numbers-then-kind-lt8
 same-length-20 c = search rules
 
-same-length-21 : tie.Need-same-length-21
+same-length-21 : tie.Need-shape_of-texts-then-kind-lt8
 same-length-21 c = search rules
 
-same-length-22 : tie.Need-same-length-22
+same-length-22 : tie.Need-shape_of-lines-then-kind-lt8
 same-length-22 c = search rules
 
-returns-7 : tie.Need-returns-7
+returns-7 : tie.Need-returns-then-kind-lt8
 returns-7 c =
     let w = c.before.before.before.before.before.before.before.before in
     let e7 = w.before.before.before.before.before in
@@ -202,64 +202,64 @@ returns-7 c =
     let e1 = e2.before in
     let s = start e1.before in
     lined (job s) (wrap s.args.width (eqb s.args.kind 7)) (content s) s.args.bytes.now s.args.numbers.now s.args.texts.now s.args.lines.now _ _ _ _
-    w.write-wrapped.result (job_wrap s.args.kind s.args.width (second s)
-    (omega (arith, e1.if1.false, e2.if2.false, e3.if3.false, e4.if4.false, e5.if5.false, e6.if6.false)) e7.if7.true) w.write-wrapped.ensures
+    w.write_wrapped.result (job_wrap s.args.kind s.args.width (second s)
+    (omega (arith, e1.if-kind-eq0.false, e2.if-kind-eq1.false, e3.if-kind-eq2.false, e4.if-kind-eq3.false, e5.if-kind-eq4.false, e6.if-kind-eq5.false)) e7.if-kind-lt8.true) w.write_wrapped.ensures
 
-write-replaced-flat-requires : tie.Need-write-replaced-flat-requires
+write-replaced-flat-requires : tie.Need-write_replaced_flat-requires
 write-replaced-flat-requires c κs = search rules
 
-same-length-23 : tie.Need-same-length-23
+same-length-23 : tie.Need-shape_of-bytes-then-kind-eq8
 same-length-23 c = search rules
 
-same-length-24 : tie.Need-same-length-24
+same-length-24 : tie.Need-shape_of-numbers-then-kind-eq8
 same-length-24 c = search rules
 
-same-length-25 : tie.Need-same-length-25
+same-length-25 : tie.Need-shape_of-texts-then-kind-eq8
 same-length-25 c = search rules
 
-returns-8 : tie.Need-returns-8
+returns-8 : tie.Need-returns-then-kind-eq8
 unfolding lines_left
 returns-8 c =
     let w = c.before.before.before.before.before.before in
     let t = w.before.before.before.before in
     let s = start t.before.before.before.before.before.before.before.before in
     no_lines s (replace (records_of (second s).entry_numbers) (second s).data_bytes)
-    (job_replace s.args.kind s.args.width (second s) t.if8.true) refl _ _ _ w.write-replaced-flat.result w.write-replaced-flat.ensures
+    (job_replace s.args.kind s.args.width (second s) t.if-kind-eq8.true) refl _ _ _ w.write_replaced_flat.result w.write_replaced_flat.ensures
 
-write-tabs-expanded-requires : tie.Need-write-tabs-expanded-requires
+write-tabs-expanded-requires : tie.Need-write_tabs_expanded-requires
 write-tabs-expanded-requires c κs = search rules
 
-same-length-26 : tie.Need-same-length-26
+same-length-26 : tie.Need-shape_of-bytes-then-kind-eq9
 same-length-26 c = search rules
 
-same-length-27 : tie.Need-same-length-27
+same-length-27 : tie.Need-shape_of-numbers-then-kind-eq9
 same-length-27 c = search rules
 
-same-length-28 : tie.Need-same-length-28
+same-length-28 : tie.Need-shape_of-texts-then-kind-eq9
 same-length-28 c = search rules
 
-returns-9 : tie.Need-returns-9
+returns-9 : tie.Need-returns-then-kind-eq9
 unfolding lines_left
 returns-9 c =
     let w = c.before.before.before.before.before.before in
     let t = w.before.before.before.before in
     let s = start t.before.before.before.before.before.before.before.before.before in
     no_lines s (expand_tabs s.args.width)
-    (job_tabs s.args.kind s.args.width (second s) t.if9.true) refl _ _ _ w.write-tabs-expanded.result w.write-tabs-expanded.ensures
+    (job_tabs s.args.kind s.args.width (second s) t.if-kind-eq9.true) refl _ _ _ w.write_tabs_expanded.result w.write_tabs_expanded.ensures
 
-write-unindented-requires : tie.Need-write-unindented-requires
+write-unindented-requires : tie.Need-write_unindented-requires
 write-unindented-requires c κs = search rules
 
-same-length-29 : tie.Need-same-length-29
+same-length-29 : tie.Need-shape_of-bytes
 same-length-29 c = search rules
 
-same-length-30 : tie.Need-same-length-30
+same-length-30 : tie.Need-shape_of-numbers
 same-length-30 c = search rules
 
-same-length-31 : tie.Need-same-length-31
+same-length-31 : tie.Need-shape_of-texts
 same-length-31 c = search rules
 
-returns-10 : tie.Need-returns-10
+returns-10 : tie.Need-returns
 unfolding lines_left
 returns-10 c =
     let w = c.before.before.before.before.before.before in
@@ -268,10 +268,10 @@ returns-10 c =
     let e7 = e8.before in
     let s = start e7.before.before.before.before.before.before.before in
     no_lines s (unindent (second s))
-    (job_unindent s.args.kind s.args.width (second s) (omega (arith, e7.if7.false, e8.if8.false, e9.if9.false))) refl _ _ _ w.write-unindented.result w.write-unindented.ensures
+    (job_unindent s.args.kind s.args.width (second s) (omega (arith, e7.if-kind-lt8.false, e8.if-kind-eq8.false, e9.if-kind-eq9.false))) refl _ _ _ w.write_unindented.result w.write_unindented.ensures
 
-pub apply-spec : {M : Type 1} → statement M
-apply-spec =
+pub apply_spec : {M : Type 1} → statement M
+apply_spec =
     tie.close
     (tie.spec
     write-truncated-start-requires

@@ -9,48 +9,48 @@ use Rattle.requests.proofs.fits.Reads as reads
 use Rattle.requests.proofs.fits.Lts as lts
 use Rattle.requests.proofs.range_fits.Reads as range-fits-reads
 
-returns : tie.Need-returns
+returns : tie.Need-returns-then-x-gt-LAST_KIND
 unfolding fits_in
-returns c = rw (lt-leb _ _ c.if1.true)
+returns c = rw (lt-leb _ _ c.if-x-gt-LAST_KIND.true)
 
-range-fits-requires : tie.Need-range-fits-requires
+range-fits-requires : tie.Need-range_fits-requires
 range-fits-requires c κs = search rules
 
-returns-2 : tie.Need-returns-2
+returns-2 : tie.Need-returns-then-not-range_fits
 unfolding fits_in
 returns-2 c =
-    let a = c.before.range-fits in
-    rw (le-leb _ _ c.before.before.if1.false, sym a.ensures, not-true a.result c.if2.true)
+    let a = c.before.range_fits in
+    rw (le-leb _ _ c.before.before.if-x-gt-LAST_KIND.false, sym a.ensures, c.if-not-range_fits.true)
 
-range-fits-requires-2 : tie.Need-range-fits-requires-2
+range-fits-requires-2 : tie.Need-range_fits-requires-2
 range-fits-requires-2 c κs = search rules
 
-returns-3 : tie.Need-returns-3
+returns-3 : tie.Need-returns-then-not-range_fits-2
 unfolding fits_in
 returns-3 c =
-    let a = c.before.before.before.range-fits in
-    let b = c.before.range-fits2 in
-    rw (le-leb _ _ c.before.before.before.before.if1.false, sym a.ensures, not_false a.result c.before.before.if2.false, sym b.ensures, not-true b.result c.if3.true)
+    let a = c.before.before.before.range_fits in
+    let b = c.before.range_fits-2 in
+    rw (le-leb _ _ c.before.before.before.before.if-x-gt-LAST_KIND.false, sym a.ensures, c.before.before.if-not-range_fits.false, sym b.ensures, c.if-not-range_fits-2.true)
 
-range-fits-requires-3 : tie.Need-range-fits-requires-3
+range-fits-requires-3 : tie.Need-range_fits-requires-3
 range-fits-requires-3 c κs = search rules
 
-returns-4 : tie.Need-returns-4
+returns-4 : tie.Need-returns
 unfolding fits_in
 returns-4 c =
-    let a = c.before.before.before.before.range-fits in
-    let b = c.before.before.range-fits2 in
+    let a = c.before.before.before.before.range_fits in
+    let b = c.before.before.range_fits-2 in
     rw (
-      le-leb _ _ c.before.before.before.before.before.if1.false,
+      le-leb _ _ c.before.before.before.before.before.if-x-gt-LAST_KIND.false,
       sym a.ensures,
-      not_false a.result c.before.before.before.if2.false,
+      c.before.before.before.if-not-range_fits.false,
       sym b.ensures,
-      not_false b.result c.before.if3.false,
-      c.range-fits3.ensures,
+      c.before.if-not-range_fits-2.false,
+      c.range_fits-3.ensures,
     )
 
-pub fits-spec : {M : Type 1} → statement M
-fits-spec =
+pub fits_spec : {M : Type 1} → statement M
+fits_spec =
     tie.close
     (tie.spec
     returns

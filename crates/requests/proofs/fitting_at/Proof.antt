@@ -7,11 +7,11 @@ use Rattle.requests.proofs.fitting_at.Reads as reads
 use Rattle.requests.proofs.fitting_at.Lts as lts
 use Rattle.requests.proofs.request_at.Reads as request-at-reads
 
-request-at-requires : tie.Need-request-at-requires
+request-at-requires : tie.Need-request_at-requires
 request-at-requires c κs = search rules
 
 returns : tie.Need-returns
-returns c = let s = c.before.before in (c.request-at.ensures, fit s.args.p s.args.q _ _ c.request-at.ensures s.requires.1)
+returns c = let s = c.before.before in (c.request_at.ensures, fit s.args.p s.args.q _ _ c.request_at.ensures s.requires.1)
 
-pub fitting-at-spec : {M : Type 1} → statement M
-fitting-at-spec = tie.close (tie.spec request-at-requires returns)
+pub fitting_at_spec : {M : Type 1} → statement M
+fitting_at_spec = tie.close (tie.spec request-at-requires returns)

@@ -12,52 +12,52 @@ use Rattle.requests.proofs.make_call.Lts as lts
 use Rattle.requests.proofs.apply.Reads as apply-reads
 use Rattle.requests.proofs.fitting_at.Reads as fitting-at-reads
 
-fitting-at-requires : tie.Need-fitting-at-requires
+fitting-at-requires : tie.Need-fitting_at-x-requires
 fitting-at-requires c κs = search rules
 
-sub_apply : tie.Need-overflow-sub-apply
+sub_apply : tie.Need-slice_bounds-apply-count
 sub_apply c = search rules
 
-part-apply-start : tie.Need-slice-bounds-apply-start
+part-apply-start : tie.Need-slice_bounds-apply-start
 part-apply-start c = search rules
 
-part-apply-end : tie.Need-slice-bounds-apply-end
+part-apply-end : tie.Need-slice_bounds-apply-end
 part-apply-end c = search rules
 
-mul_apply : tie.Need-overflow-mul-apply
+mul_apply : tie.Need-offset_bounds-pool_numbers-first
 mul_apply c = search rules
 
-sub-apply-2 : tie.Need-overflow-sub-apply-2
+sub-apply-2 : tie.Need-slice_bounds-apply-count-2
 sub-apply-2 c = search rules
 
-part-apply-start-2 : tie.Need-slice-bounds-apply-start-2
+part-apply-start-2 : tie.Need-slice_bounds-apply-start-2
 part-apply-start-2 c = search rules
 
-part-apply-end-2 : tie.Need-slice-bounds-apply-end-2
+part-apply-end-2 : tie.Need-slice_bounds-apply-end-2
 part-apply-end-2 c = search rules
 
-sub-apply-3 : tie.Need-overflow-sub-apply-3
+sub-apply-3 : tie.Need-slice_bounds-apply-count-3
 sub-apply-3 c = search rules
 
-part-apply-start-3 : tie.Need-slice-bounds-apply-start-3
+part-apply-start-3 : tie.Need-slice_bounds-apply-start-3
 part-apply-start-3 c = search rules
 
-part-apply-end-3 : tie.Need-slice-bounds-apply-end-3
+part-apply-end-3 : tie.Need-slice_bounds-apply-end-3
 part-apply-end-3 c = search rules
 
 apply-requires : tie.Need-apply-requires
 apply-requires c κs = search rules
 
-same_length : tie.Need-same-length
+same_length : tie.Need-shape_of-bytes
 same_length c = search rules
 
-same-length-2 : tie.Need-same-length-2
+same-length-2 : tie.Need-shape_of-numbers
 same-length-2 c = search rules
 
-same-length-3 : tie.Need-same-length-3
+same-length-3 : tie.Need-shape_of-texts
 same-length-3 c = search rules
 
-same-length-4 : tie.Need-same-length-4
+same-length-4 : tie.Need-shape_of-lines
 same-length-4 c = search rules
 
 returns : tie.Need-returns
@@ -68,12 +68,12 @@ returns c =
     let s = x.before.before.before.before.before.before.before.before.before.before.before in
     let ps = s.args.pool.now in
     let ns = s.args.pool-numbers.now in
-    lined (job_in ps ns (request_in (drop s.args.i s.args.calls.now))) (job_in ps ns x.fitting-at.result)
+    lined (job_in ps ns (request_in (drop s.args.i s.args.calls.now))) (job_in ps ns x.fitting_at-x.result)
     (recording s.args.content.now s.args.entries.now s.args.text.now) s.args.bytes.now s.args.numbers.now s.args.texts.now s.args.lines.now _ _ _ _
-    w.apply.result (ap (job_in ps ns) (sym x.fitting-at.ensures.0)) w.apply.ensures
+    w.apply.result (ap (job_in ps ns) (sym x.fitting_at-x.ensures.0)) w.apply.ensures
 
-pub make-call-spec : {M : Type 1} → statement M
-make-call-spec =
+pub make_call_spec : {M : Type 1} → statement M
+make_call_spec =
     tie.close
     (tie.spec
     fitting-at-requires

@@ -5,11 +5,11 @@ use Rattle.requests.proofs.range_fits.Tie as tie
 use Rattle.requests.proofs.range_fits.Reads as reads
 use Rattle.requests.proofs.range_fits.Lts as lts
 
-returns : tie.Need-returns
-returns c = rw (lt-leb _ _ c.if1.true)
+returns : tie.Need-returns-then-to-from
+returns c = rw (lt-leb _ _ c.if-to-from.true)
 
-returns-2 : tie.Need-returns-2
-returns-2 c = rw (le-leb _ _ c.if1.false)
+returns-2 : tie.Need-returns
+returns-2 c = rw (le-leb _ _ c.if-to-from.false)
 
-pub range-fits-spec : {M : Type 1} → statement M
-range-fits-spec = tie.close (tie.spec returns returns-2)
+pub range_fits_spec : {M : Type 1} → statement M
+range_fits_spec = tie.close (tie.spec returns returns-2)

@@ -16,13 +16,13 @@ use Rattle.call_lists.proofs.moved.Reads as moved-reads
 use Rattle.call_lists.proofs.put_answer.Reads as put-answer-reads
 use Rattle.runs.proofs.turn.Reads as turn-reads
 
-abbrev invariant-loop : tie.invariant-loop
+abbrev invariant-loop : tie.invariant-loop-k
 invariant-loop calls pool nums bytes₀ numbers₀ texts₀ other-bytes₀ other-numbers₀ other-texts₀ lines₀ answers₀ held₀ k₀ bytes numbers texts other-bytes other_numbers other_texts lines answers held k =
     Running pool nums calls (state held₀ (lent_of bytes₀ numbers₀ texts₀) (lent_of other-bytes₀ other-numbers₀ other-texts₀) lines₀ []) answers₀
     held k (lent_of bytes numbers texts) (lent_of other-bytes other_numbers other_texts) lines answers
     × Same bytes₀ numbers₀ texts₀ other-bytes₀ other-numbers₀ other-texts₀ lines₀ bytes numbers texts other-bytes other_numbers other_texts lines
 
-abbrev decreases-loop : tie.decreases-loop
+abbrev decreases-loop : tie.decreases-loop-k
 decreases-loop calls pool nums bytes₀ numbers₀ texts₀ other-bytes₀ other-numbers₀ other-texts₀ lines₀ answers₀ held₀ k₀ bytes numbers texts other-bytes other_numbers other_texts lines answers held k =
     length calls / 8 - k
 
@@ -37,21 +37,21 @@ abbrev at-start : tie.Start invariant-loop decreases-loop → State
 at-start s = state s.args.s (first s) (other s) s.args.lines.now []
 
 -- ── the places on the way
-abbrev start : tie.At-loop invariant-loop decreases-loop → tie.Start invariant-loop decreases-loop
+abbrev start : tie.At-loop-k invariant-loop decreases-loop → tie.Start invariant-loop decreases-loop
 start c = c.before.before.before.before.before.before.before.before.before.before.before.before
 
 -- where the loop stands before a turn and after it
-abbrev before-turn : tie.After-turn-arg7 invariant-loop decreases-loop → tie.In-loop invariant-loop decreases-loop
+abbrev before-turn : tie.After-turn-arg-in-loop-k-6-1 invariant-loop decreases-loop → tie.In-loop-k invariant-loop decreases-loop
 before-turn c = c.before.before.before.before.before.before.before
 
-abbrev after_turn : tie.After-put-answer-arg invariant-loop decreases-loop → tie.After-turn invariant-loop decreases-loop
+abbrev after_turn : tie.After-put_answer-arg-1 invariant-loop decreases-loop → tie.After-turn-a invariant-loop decreases-loop
 after_turn c = c.before.before.before.before.before.before.before.before.before.before.before.before.before.before.before
 
-abbrev turn-of : tie.After-moved invariant-loop decreases-loop → tie.After-turn invariant-loop decreases-loop
+abbrev turn-of : tie.After-moved-held invariant-loop decreases-loop → tie.After-turn-a invariant-loop decreases-loop
 turn-of c = after_turn c.before.before.before.before
 
 -- ── what is asked on the way
-loop-holds : tie.Need-loop-init invariant-loop decreases-loop
+loop-holds : tie.Need-loop-k-init invariant-loop decreases-loop
 loop-holds c =
     let s = c.before.before.before.before.before.before.before.before.before.before.before in
     let p = s.requires in (
@@ -60,93 +60,93 @@ loop-holds c =
       record { bytes = refl; numbers = refl; texts = refl; other-bytes = refl; other_numbers = refl; other_texts = refl; lines = refl },
     )
 
-mul-turn : tie.Need-overflow-mul-turn invariant-loop decreases-loop
-mul-turn c = omega (arith, c.loop-test.true, (start c.before).good)
+mul-turn : tie.Need-overflow_mul-k invariant-loop decreases-loop
+mul-turn c = omega (arith, c.loop-k-test.true, (start c.before).good)
 
-turn-requires : tie.Need-turn-requires invariant-loop decreases-loop
+turn-requires : tie.Need-turn-a-requires invariant-loop decreases-loop
 turn-requires c κs =
     let t = before-turn c in
-    let l = t.before.loop in
+    let l = t.before.loop-k in
     let s = start t.before in (
-      omega (arith, t.loop-test.taken),
+      omega (arith, t.loop-k-test.true),
       (
         head_fits s.args.pool.now s.args.pool-numbers.now s.args.calls.now (at-start s) s.args.answers.now
-            l.held l.k l.bytes l.numbers l.texts l.other-bytes l.other_numbers l.other_texts l.lines l.answers l.inv.0 t.loop-test.taken,
-        l.inv.0.sound,
+            l.held l.k l.bytes-1 l.numbers-1 l.texts-1 l.other_bytes-1 l.other_numbers-1 l.other_texts-1 l.lines-1 l.answers-1 l.invariant.0 t.loop-k-test.true,
+        l.invariant.0.sound,
       ),
     )
 
-mul-put-answer : tie.Need-overflow-mul-put-answer invariant-loop decreases-loop
-mul-put-answer c = let t = before-turn (after_turn c).before in omega (arith, t.loop-test.taken, (start t.before).good)
+mul-put-answer : tie.Need-overflow_mul-k-in-loop-k invariant-loop decreases-loop
+mul-put-answer c = let t = before-turn (after_turn c).before in omega (arith, t.loop-k-test.true, (start t.before).good)
 
-put-answer-requires : tie.Need-put-answer-requires invariant-loop decreases-loop
-put-answer-requires c κs = let t = before-turn (after_turn c).before in omega (arith, t.loop-test.taken, (start t.before).pre.0.1, t.before.loop.inv.0.long)
+put-answer-requires : tie.Need-put_answer-requires invariant-loop decreases-loop
+put-answer-requires c κs = let t = before-turn (after_turn c).before in omega (arith, t.loop-k-test.true, (start t.before).requires.0.1, t.before.loop-k.invariant.0.long)
 
-moved-requires : tie.Need-moved-requires invariant-loop decreases-loop
-moved-requires c κs = let t = before-turn (after_turn c.before.before.before).before in omega (arith, t.loop-test.taken, t.before.loop.inv.0.made, (start t.before).good)
+moved-requires : tie.Need-moved-held-requires invariant-loop decreases-loop
+moved-requires c κs = let t = before-turn (after_turn c.before.before.before).before in omega (arith, t.loop-k-test.true, t.before.loop-k.invariant.0.made, (start t.before).good)
 
-add-k : tie.Need-overflow-add-k invariant-loop decreases-loop
-add-k c = let t = before-turn (turn-of c).before in omega (arith, t.loop-test.taken, (start t.before).good)
+add-k : tie.Need-overflow_add-k invariant-loop decreases-loop
+add-k c = let t = before-turn (turn-of c).before in omega (arith, t.loop-k-test.true, (start t.before).good)
 
-loop-less : tie.Need-loop-smaller invariant-loop decreases-loop
-loop-less c = let t = before-turn (turn-of c).before in omega (arith, t.loop-test.taken)
+loop-less : tie.Need-loop-k-smaller invariant-loop decreases-loop
+loop-less c = let t = before-turn (turn-of c).before in omega (arith, t.loop-k-test.true)
 
-loop-again : tie.Need-loop-preserved invariant-loop decreases-loop
+loop-again : tie.Need-loop-k-preserved invariant-loop decreases-loop
 loop-again c =
     let u = turn-of c in
     let t = before-turn u.before in
-    let l = t.before.loop in
+    let l = t.before.loop-k in
     let s = start t.before in
-    let w = c.before.before.before.put-answer in
-    let k = u.turn.kept.1.1.1.1.1 in
-    let v = l.inv.1 in (
+    let w = c.before.before.before.put_answer in
+    let k = u.turn-a.kept.1.1.1.1.1 in
+    let v = l.invariant.1 in (
       again s.args.pool.now s.args.pool-numbers.now s.args.calls.now (at-start s) s.args.answers.now
-          l.held l.k l.bytes l.numbers l.texts l.other-bytes l.other_numbers l.other_texts l.lines l.answers l.inv.0
-          s.pre.0.1 t.loop-test.taken u.turn.result _ _ _ _ _ _ _ _ u.turn.ensures w.ensures w.auto.0 c.moved.result c.moved.ensures,
+          l.held l.k l.bytes-1 l.numbers-1 l.texts-1 l.other_bytes-1 l.other_numbers-1 l.other_texts-1 l.lines-1 l.answers-1 l.invariant.0
+          s.requires.0.1 t.loop-k-test.true u.turn-a.result _ _ _ _ _ _ _ _ u.turn-a.ensures w.ensures w.auto.0 c.moved-held.result c.moved-held.ensures,
       record {
-        bytes = k.0 ∙ v.bytes;
-        numbers = k.1.0 ∙ v.numbers;
-        texts = k.1.1.0 ∙ v.texts;
-        other-bytes = k.1.1.1.0 ∙ v.other-bytes;
-        other_numbers = k.1.1.1.1.0 ∙ v.other_numbers;
-        other_texts = k.1.1.1.1.1.0 ∙ v.other_texts;
-        lines = k.1.1.1.1.1.1.0 ∙ v.lines;
+        bytes = k.0 ∙ v.bytes-1;
+        numbers = k.1.0 ∙ v.numbers-1;
+        texts = k.1.1.0 ∙ v.texts-1;
+        other-bytes = k.1.1.1.0 ∙ v.other_bytes-1;
+        other_numbers = k.1.1.1.1.0 ∙ v.other_numbers-1;
+        other_texts = k.1.1.1.1.1.0 ∙ v.other_texts-1;
+        lines = k.1.1.1.1.1.1.0 ∙ v.lines-1;
       },
     )
 
-same_length : tie.Need-same-length invariant-loop decreases-loop
-same_length c = c.before.loop.invariant.1.bytes
+same_length : tie.Need-shape_of-bytes invariant-loop decreases-loop
+same_length c = c.before.loop-k.invariant.1.bytes-1
 
-same-length-2 : tie.Need-same-length-2 invariant-loop decreases-loop
-same-length-2 c = c.before.loop.invariant.1.numbers
+same-length-2 : tie.Need-shape_of-numbers invariant-loop decreases-loop
+same-length-2 c = c.before.loop-k.invariant.1.numbers-1
 
-same-length-3 : tie.Need-same-length-3 invariant-loop decreases-loop
-same-length-3 c = c.before.loop.invariant.1.texts
+same-length-3 : tie.Need-shape_of-texts invariant-loop decreases-loop
+same-length-3 c = c.before.loop-k.invariant.1.texts-1
 
-same-length-4 : tie.Need-same-length-4 invariant-loop decreases-loop
-same-length-4 c = c.before.loop.invariant.1.other-bytes
+same-length-4 : tie.Need-shape_of-other_bytes invariant-loop decreases-loop
+same-length-4 c = c.before.loop-k.invariant.1.other_bytes-1
 
-same-length-5 : tie.Need-same-length-5 invariant-loop decreases-loop
-same-length-5 c = c.before.loop.invariant.1.other_numbers
+same-length-5 : tie.Need-shape_of-other_numbers invariant-loop decreases-loop
+same-length-5 c = c.before.loop-k.invariant.1.other_numbers-1
 
-same-length-6 : tie.Need-same-length-6 invariant-loop decreases-loop
-same-length-6 c = c.before.loop.invariant.1.other_texts
+same-length-6 : tie.Need-shape_of-other_texts invariant-loop decreases-loop
+same-length-6 c = c.before.loop-k.invariant.1.other_texts-1
 
-same-length-7 : tie.Need-same-length-7 invariant-loop decreases-loop
-same-length-7 c = c.before.loop.invariant.1.lines
+same-length-7 : tie.Need-shape_of-lines invariant-loop decreases-loop
+same-length-7 c = c.before.loop-k.invariant.1.lines-1
 
-same-length-8 : tie.Need-same-length-8 invariant-loop decreases-loop
-same-length-8 c = c.before.loop.invariant.0.long
+same-length-8 : tie.Need-shape_of-answers invariant-loop decreases-loop
+same-length-8 c = c.before.loop-k.invariant.0.long
 
 returns : tie.Need-returns invariant-loop decreases-loop
 returns c =
-    let l = c.before.loop in
+    let l = c.before.loop-k in
     let s = start c.before in
     ran s.args.pool.now s.args.pool-numbers.now s.args.calls.now (at-start s) s.args.answers.now
-    l.held l.k l.bytes l.numbers l.texts l.other-bytes l.other_numbers l.other_texts l.lines l.answers l.invariant.0 s.pre.0.1 c.loop-test.false
+    l.held l.k l.bytes-1 l.numbers-1 l.texts-1 l.other_bytes-1 l.other_numbers-1 l.other_texts-1 l.lines-1 l.answers-1 l.invariant.0 s.requires.0.1 c.loop-k-test.false
 
-pub run-all-spec : {M : Type 1} → statement M
-run-all-spec =
+pub run_all_spec : {M : Type 1} → statement M
+run_all_spec =
     tie.close
     (tie.spec
     invariant-loop

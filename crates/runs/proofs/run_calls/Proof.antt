@@ -23,91 +23,91 @@ given-of s = let a = s.args in given a.calls.now a.pool.now a.pool-numbers.now a
 abbrev lent-of : tie.Start → Buffers
 lent-of s =
     let a = s.args in
-    buffers (lent_of a.bytes.now a.numbers.now a.texts.now) (lent_of a.other-bytes.now a.other_numbers.now a.other_texts.now) a.lines.now a.answers.now
+    buffers (lent_of a.bytes-1.now a.numbers-1.now a.texts-1.now) (lent_of a.other_bytes-1.now a.other_numbers-1.now a.other_texts-1.now) a.lines-1.now a.answers-1.now
 
 -- once the input is checked
-abbrev start : tie.After-check-input → tie.Start
+abbrev start : tie.After-check_input-checked → tie.Start
 start c = c.before.before.before.before.before.before.before.before.before.before.before.before.before.before
 
-fault : (c : tie.After-check-input) → settled_fault c.check-input.result ≡ run_fault (given-of (start c)) (lent-of (start c))
+fault : (c : tie.After-check_input-checked) → settled_fault c.check_input-checked.result ≡ run_fault (given-of (start c)) (lent-of (start c))
 fault c =
-    input_fault_lem (given-of (start c)) (lent-of (start c)) c.before.before.too_long.result c.before.alike.result c.check-input.result
-    c.before.before.too_long.ensures c.before.alike.ensures c.check-input.ensures
+    input_fault_lem (given-of (start c)) (lent-of (start c)) c.before.before.too_long-long.result c.before.alike-same.result c.check_input-checked.result
+    c.before.before.too_long-long.ensures c.before.alike-same.ensures c.check_input-checked.ensures
 
 -- once nothing is refused
-abbrev begun : tie.After-enum-told → tie.Start
+abbrev begun : tie.In-Room → tie.Start
 begun c = start c.before.before
 
-none : (c : tie.After-enum-told) → run_fault (given-of (begun c)) (lent-of (begun c)) ≡ 0
-none c = is_room (run_fault (given-of (begun c)) (lent-of (begun c))) c.before.before.check-input.result c.enum_told.given.1 (fault c.before.before)
+none : (c : tie.In-Room) → run_fault (given-of (begun c)) (lent-of (begun c)) ≡ 0
+none c = is_room (run_fault (given-of (begun c)) (lent-of (begun c))) c.before.before.check_input-checked.result c.enum_told-1.given.1 (fault c.before.before)
 
 -- once all calls are made
-abbrev ran : tie.After-bring-back-arg6 → tie.After-run-all
+abbrev ran : tie.After-bring-back-arg6 → tie.After-run_all-end
 ran c = c.before.before.before.before.before.before.before.before.before.before.before.before.before.before.before.before.before.before.before.before.before.before
 
 -- ── what is asked on the way
-too-long-requires : tie.Need-too-long-requires
+too-long-requires : tie.Need-too_long-long-requires
 too-long-requires c κs = search rules
 
-alike-requires : tie.Need-alike-requires
+alike-requires : tie.Need-alike-same-requires
 alike-requires c κs = search rules
 
-check-input-requires : tie.Need-check-input-requires
+check-input-requires : tie.Need-check_input-checked-requires
 check-input-requires c κs = search rules
 
-enum-known-checked : tie.Need-enum-known-checked
+enum-known-checked : tie.Need-enum_known-checked
 enum-known-checked c = search rules
 
-returns : tie.Need-returns
+returns : tie.Need-returns-in-Refused
 returns c =
     let k = c.before.before.before in
-    refuses (given-of (start k)) (lent-of (start k)) c.before.checked.given.0.0 k.check-input.result c.before.checked.given.1 (fault k)
+    refuses (given-of (start k)) (lent-of (start k)) c.before.checked-1.given.0.0 k.check_input-checked.result c.before.checked-1.given.1 (fault k)
 
-enum_told : tie.Need-enum-told
+enum_told : tie.Need-enum_told-1
 enum_told c = search rules
 
-run-all-requires : tie.Need-run-all-requires
+run-all-requires : tie.Need-run_all-end-requires
 run-all-requires c κs =
     let e = c.before.before.before.before.before.before.before.before in
     let k = accepted (given-of (begun e)) (lent-of (begun e)) (none e) in
     ((refl, k.room), (k.fit, k.sound))
 
-bring-back-requires : tie.Need-bring-back-requires
-bring-back-requires c κs = (ran c).run-all.ensures.sound
+bring-back-requires : tie.Need-bring_back-requires
+bring-back-requires c κs = (ran c).run_all-end.ensures.sound
 
-same_length : tie.Need-same-length
+same_length : tie.Need-shape_of-bytes
 same_length c = search rules
 
-same-length-2 : tie.Need-same-length-2
+same-length-2 : tie.Need-shape_of-numbers
 same-length-2 c = search rules
 
-same-length-3 : tie.Need-same-length-3
+same-length-3 : tie.Need-shape_of-texts
 same-length-3 c = search rules
 
-same-length-4 : tie.Need-same-length-4
+same-length-4 : tie.Need-shape_of-other_bytes
 same-length-4 c = search rules
 
-same-length-5 : tie.Need-same-length-5
+same-length-5 : tie.Need-shape_of-other_numbers
 same-length-5 c = search rules
 
-same-length-6 : tie.Need-same-length-6
+same-length-6 : tie.Need-shape_of-other_texts
 same-length-6 c = search rules
 
-same-length-7 : tie.Need-same-length-7
+same-length-7 : tie.Need-shape_of-lines
 same-length-7 c = search rules
 
-same-length-8 : tie.Need-same-length-8
+same-length-8 : tie.Need-shape_of-answers
 same-length-8 c = search rules
 
-returns-2 : tie.Need-returns-2
+returns-2 : tie.Need-returns
 returns-2 c =
     let d = c.before.before.before.before.before.before in
     let k = ran d.before in
     let e = k.before.before.before.before.before.before.before.before.before in
-    finishes (given-of (begun e)) (lent-of (begun e)) (none e) k.run-all.result _ _ _ _ _ _ _ _ _ _ _ _ k.run-all.ensures d.bring-back.ensures
+    finishes (given-of (begun e)) (lent-of (begun e)) (none e) k.run_all-end.result _ _ _ _ _ _ _ _ _ _ _ _ k.run_all-end.ensures d.bring_back.ensures
 
-pub run-calls-spec : {M : Type 1} → statement M
-run-calls-spec =
+pub run_calls_spec : {M : Type 1} → statement M
+run_calls_spec =
     tie.close
     (tie.spec
     too-long-requires

@@ -15,7 +15,7 @@ use Rattle.requests.proofs.make_call.Reads as make-call-reads
 
 -- ── what the call was given
 -- before the sets are told apart
-abbrev start : tie.After-slice-known7 → tie.Start
+abbrev start : tie.After-slice_known-7-1 → tie.Start
 start c = c.before.before.before.before.before.before.before.before.before.before
 
 abbrev job : tie.Start → Job
@@ -28,103 +28,103 @@ abbrev other : tie.Start → Lent
 other s = lent_of s.args.other-bytes.now s.args.other_numbers.now s.args.other_texts.now
 
 -- ── what is asked on the way
-slice-reshare-prefix-make-call : tie.Need-slice-reshare-prefix-make-call
+slice-reshare-prefix-make-call : tie.Need-slice_bounds-make_call-end
 slice-reshare-prefix-make-call c = search rules
 
-slice-aggregate-make-call : tie.Need-slice-aggregate-make-call
-slice-aggregate-make-call c = let k = (start c.before.before).requires.1.1 in simp length-take (omega (arith, k.bytes, k.like_bytes))
+slice-aggregate-make-call : tie.Need-slice_bounds-make_call-end-then-s
+slice-aggregate-make-call c = let k = (start c.before.before).requires.1.1 in simp length-take (omega (arith, k.bytes-1, k.like_bytes))
 
-slice-reshare-prefix-make-call-2 : tie.Need-slice-reshare-prefix-make-call-2
+slice-reshare-prefix-make-call-2 : tie.Need-slice_bounds-make_call-end-then-s-2
 slice-reshare-prefix-make-call-2 c = search rules
 
-slice-aggregate-make-call-2 : tie.Need-slice-aggregate-make-call-2
-slice-aggregate-make-call-2 c = let k = (start c.before.before.before).requires.1.1 in simp length-take (omega (arith, k.numbers, k.like_numbers))
+slice-aggregate-make-call-2 : tie.Need-slice_bounds-make_call-end-then-s-3
+slice-aggregate-make-call-2 c = let k = (start c.before.before.before).requires.1.1 in simp length-take (omega (arith, k.numbers-1, k.like_numbers))
 
-slice-reshare-prefix-make-call-3 : tie.Need-slice-reshare-prefix-make-call-3
+slice-reshare-prefix-make-call-3 : tie.Need-slice_bounds-make_call-end-then-s-4
 slice-reshare-prefix-make-call-3 c = search rules
 
-slice-aggregate-make-call-3 : tie.Need-slice-aggregate-make-call-3
-slice-aggregate-make-call-3 c = let k = (start c.before.before.before.before).requires.1.1 in simp length-take (omega (arith, k.texts, k.like_texts))
+slice-aggregate-make-call-3 : tie.Need-slice_bounds-make_call-end-then-s-5
+slice-aggregate-make-call-3 c = let k = (start c.before.before.before.before).requires.1.1 in simp length-take (omega (arith, k.texts-1, k.like_texts))
 
-make-call-requires : tie.Need-make-call-requires
-make-call-requires c κs = let s = start c.before.before.before.before.before.before.before.before in (s.pre.0, s.pre.1.0)
+make-call-requires : tie.Need-make_call-requires
+make-call-requires c κs = let s = start c.before.before.before.before.before.before.before.before in (s.requires.0, s.requires.1.0)
 
-same_length : tie.Need-same-length
+same_length : tie.Need-shape_of-bytes-then-s
 same_length c = search rules
 
-same-length-2 : tie.Need-same-length-2
+same-length-2 : tie.Need-shape_of-numbers-then-s
 same-length-2 c = search rules
 
-same-length-3 : tie.Need-same-length-3
+same-length-3 : tie.Need-shape_of-texts-then-s
 same-length-3 c = search rules
 
-same-length-4 : tie.Need-same-length-4
+same-length-4 : tie.Need-shape_of-other_bytes-then-s
 same-length-4 c = search rules
 
-same-length-5 : tie.Need-same-length-5
+same-length-5 : tie.Need-shape_of-other_numbers-then-s
 same-length-5 c = search rules
 
-same-length-6 : tie.Need-same-length-6
+same-length-6 : tie.Need-shape_of-other_texts-then-s
 same-length-6 c = search rules
 
-same-length-7 : tie.Need-same-length-7
+same-length-7 : tie.Need-shape_of-lines-then-s
 same-length-7 c = search rules
 
-returns : tie.Need-returns
+returns : tie.Need-returns-then-s
 returns c =
     let w = c.before.before.before.before.before.before.before.before in
     let t = w.before.before.before.before.before.before.before.before in
     let s = start t.before in
-    to_other (job s) s.args.s (first s) (other s) _ s.args.lines.now _ w.make-call.result t.if1.true w.make-call.ensures
+    to_other (job s) s.args.s (first s) (other s) _ s.args.lines.now _ w.make_call.result t.if-s.true w.make_call.ensures
 
-slice-reshare-prefix-make-call-4 : tie.Need-slice-reshare-prefix-make-call-4
+slice-reshare-prefix-make-call-4 : tie.Need-slice_bounds-make_call-end-2
 slice-reshare-prefix-make-call-4 c = search rules
 
-slice-aggregate-make-call-4 : tie.Need-slice-aggregate-make-call-4
-slice-aggregate-make-call-4 c = let k = (start c.before.before).requires.1.1 in simp length-take (omega (arith, k.bytes, k.like_bytes))
+slice-aggregate-make-call-4 : tie.Need-slice_bounds-make_call-end-3
+slice-aggregate-make-call-4 c = let k = (start c.before.before).requires.1.1 in simp length-take (omega (arith, k.bytes-1, k.like_bytes))
 
-slice-reshare-prefix-make-call-5 : tie.Need-slice-reshare-prefix-make-call-5
+slice-reshare-prefix-make-call-5 : tie.Need-slice_bounds-make_call-end-4
 slice-reshare-prefix-make-call-5 c = search rules
 
-slice-aggregate-make-call-5 : tie.Need-slice-aggregate-make-call-5
-slice-aggregate-make-call-5 c = let k = (start c.before.before.before).requires.1.1 in simp length-take (omega (arith, k.numbers, k.like_numbers))
+slice-aggregate-make-call-5 : tie.Need-slice_bounds-make_call-end-5
+slice-aggregate-make-call-5 c = let k = (start c.before.before.before).requires.1.1 in simp length-take (omega (arith, k.numbers-1, k.like_numbers))
 
-slice-reshare-prefix-make-call-6 : tie.Need-slice-reshare-prefix-make-call-6
+slice-reshare-prefix-make-call-6 : tie.Need-slice_bounds-make_call-end-6
 slice-reshare-prefix-make-call-6 c = search rules
 
-slice-aggregate-make-call-6 : tie.Need-slice-aggregate-make-call-6
-slice-aggregate-make-call-6 c = let k = (start c.before.before.before.before).requires.1.1 in simp length-take (omega (arith, k.texts, k.like_texts))
+slice-aggregate-make-call-6 : tie.Need-slice_bounds-make_call-end-7
+slice-aggregate-make-call-6 c = let k = (start c.before.before.before.before).requires.1.1 in simp length-take (omega (arith, k.texts-1, k.like_texts))
 
-make-call-requires-2 : tie.Need-make-call-requires-2
-make-call-requires-2 c κs = let s = start c.before.before.before.before.before.before.before.before in (s.pre.0, s.pre.1.0)
+make-call-requires-2 : tie.Need-make_call-requires-2
+make-call-requires-2 c κs = let s = start c.before.before.before.before.before.before.before.before in (s.requires.0, s.requires.1.0)
 
-same-length-8 : tie.Need-same-length-8
+same-length-8 : tie.Need-shape_of-bytes
 same-length-8 c = search rules
 
-same-length-9 : tie.Need-same-length-9
+same-length-9 : tie.Need-shape_of-numbers
 same-length-9 c = search rules
 
-same-length-10 : tie.Need-same-length-10
+same-length-10 : tie.Need-shape_of-texts
 same-length-10 c = search rules
 
-same-length-11 : tie.Need-same-length-11
+same-length-11 : tie.Need-shape_of-other_bytes
 same-length-11 c = search rules
 
-same-length-12 : tie.Need-same-length-12
+same-length-12 : tie.Need-shape_of-other_numbers
 same-length-12 c = search rules
 
-same-length-13 : tie.Need-same-length-13
+same-length-13 : tie.Need-shape_of-other_texts
 same-length-13 c = search rules
 
-same-length-14 : tie.Need-same-length-14
+same-length-14 : tie.Need-shape_of-lines
 same-length-14 c = search rules
 
-returns-2 : tie.Need-returns-2
+returns-2 : tie.Need-returns
 returns-2 c =
     let w = c.before.before.before.before.before.before.before.before in
     let t = w.before.before.before.before.before.before.before.before in
     let s = start t.before in
-    to_first (job s) s.args.s (other s) (first s) _ s.args.lines.now _ w.make-call2.result t.if1.false w.make-call2.ensures
+    to_first (job s) s.args.s (other s) (first s) _ s.args.lines.now _ w.make_call-2.result t.if-s.false w.make_call-2.ensures
 
 pub turn_spec : {M : Type 1} → statement M
 turn_spec =

@@ -11,80 +11,80 @@ use Rattle.runs_test.proofs.refused_lists.Lts as lts
 use Rattle.runs_test.proofs.refused_list.Reads as refused-list-reads
 use Rattle.runs_test.proofs.row_at.Reads as row-at-reads
 
-abbrev invariant-loop : tie.invariant-loop
+abbrev invariant-loop : tie.invariant-loop-i
 invariant-loop rs bs ps ns d₀ e₀ t₀ d'₀ e'₀ t'₀ l₀ a₀ i₀ d e t d' e' t' l a i =
     (length d ≡ length d₀) × (length e ≡ length e₀) × (length t ≡ length t₀)
     × (length d' ≡ length d'₀) × (length e' ≡ length e'₀) × (length t' ≡ length t'₀) × (length l ≡ length l₀) × (length a ≡ length a₀)
 
-abbrev decreases-loop : tie.decreases-loop
+abbrev decreases-loop : tie.decreases-loop-i
 decreases-loop rs bs ps ns d₀ e₀ t₀ d'₀ e'₀ t'₀ l₀ a₀ i₀ d e t d' e' t' l a i =
     length rs / 5 - i
 
 -- ── the places on the way
-abbrev start : tie.At-loop invariant-loop decreases-loop → tie.Start invariant-loop decreases-loop
+abbrev start : tie.At-loop-i invariant-loop decreases-loop → tie.Start invariant-loop decreases-loop
 start c = c.before.before.before.before.before.before.before.before.before.before.before.before.before
 
 -- a turn of the loop, from its end: the call, and the test before it
-abbrev made : tie.After-slice-known16 invariant-loop decreases-loop → tie.After-refused-list invariant-loop decreases-loop
+abbrev made : tie.After-slice_known-in-loop-i-8-1 invariant-loop decreases-loop → tie.After-refused_list invariant-loop decreases-loop
 made c = c.before.before.before.before.before.before.before.before.before.before.before.before.before.before.before.before
 
-abbrev tested : tie.After-refused-list invariant-loop decreases-loop → tie.In-loop invariant-loop decreases-loop
+abbrev tested : tie.After-refused_list invariant-loop decreases-loop → tie.In-loop-i invariant-loop decreases-loop
 tested c = c.before.before.before.before.before.before.before.before.before.before
 
 -- ── what is asked on the way
-loop-holds : tie.Need-loop-init invariant-loop decreases-loop
+loop-holds : tie.Need-loop-i-init invariant-loop decreases-loop
 loop-holds c = (refl, refl, refl, refl, refl, refl, refl, refl)
 
-mul-row-at : tie.Need-overflow-mul-row-at invariant-loop decreases-loop
-mul-row-at c = omega (arith, c.loop-test.true, (start c.before).good)
+mul-row-at : tie.Need-overflow_mul-i invariant-loop decreases-loop
+mul-row-at c = omega (arith, c.loop-i-test.true, (start c.before).good)
 
-row-at-requires : tie.Need-row-at-requires invariant-loop decreases-loop
-row-at-requires c κs = omega (arith, c.loop-test.true)
+row-at-requires : tie.Need-row_at-row-requires invariant-loop decreases-loop
+row-at-requires c κs = omega (arith, c.loop-i-test.true)
 
-refused-list-requires : tie.Need-refused-list-requires invariant-loop decreases-loop
+refused-list-requires : tie.Need-refused_list-requires invariant-loop decreases-loop
 refused-list-requires c κs = search rules
 
-add-i : tie.Need-overflow-add-i invariant-loop decreases-loop
-add-i c = let t = tested (made c) in omega (arith, t.loop-test.taken, (start t.before).good)
+add-i : tie.Need-overflow_add-i invariant-loop decreases-loop
+add-i c = let t = tested (made c) in omega (arith, t.loop-i-test.true, (start t.before).good)
 
-loop-less : tie.Need-loop-smaller invariant-loop decreases-loop
-loop-less c = omega (arith, (tested (made c)).loop-test.taken)
+loop-less : tie.Need-loop-i-smaller invariant-loop decreases-loop
+loop-less c = omega (arith, (tested (made c)).loop-i-test.true)
 
-loop-again : tie.Need-loop-preserved invariant-loop decreases-loop
+loop-again : tie.Need-loop-i-preserved invariant-loop decreases-loop
 loop-again c =
-    let k = (made c).refused-list.auto.1.1.1.1 in
-    let v = (tested (made c)).before.loop.inv in
+    let k = (made c).refused_list.auto.1.1.1.1 in
+    let v = (tested (made c)).before.loop-i.invariant in
     (k.0 ∙ v.0, k.1.0 ∙ v.1, k.1.1.0 ∙ v.2, k.1.1.1.0 ∙ v.3, k.1.1.1.1.0 ∙ v.4, k.1.1.1.1.1.0 ∙ v.5, k.1.1.1.1.1.1.0 ∙ v.6, k.1.1.1.1.1.1.1.0 ∙ v.7)
 
-same_length : tie.Need-same-length invariant-loop decreases-loop
-same_length c = c.before.loop.invariant.0
+same_length : tie.Need-shape_of-bytes invariant-loop decreases-loop
+same_length c = c.before.loop-i.invariant.0
 
-same-length-2 : tie.Need-same-length-2 invariant-loop decreases-loop
-same-length-2 c = c.before.loop.invariant.1
+same-length-2 : tie.Need-shape_of-numbers invariant-loop decreases-loop
+same-length-2 c = c.before.loop-i.invariant.1
 
-same-length-3 : tie.Need-same-length-3 invariant-loop decreases-loop
-same-length-3 c = c.before.loop.invariant.2
+same-length-3 : tie.Need-shape_of-texts invariant-loop decreases-loop
+same-length-3 c = c.before.loop-i.invariant.2
 
-same-length-4 : tie.Need-same-length-4 invariant-loop decreases-loop
-same-length-4 c = c.before.loop.invariant.3
+same-length-4 : tie.Need-shape_of-other_bytes invariant-loop decreases-loop
+same-length-4 c = c.before.loop-i.invariant.3
 
-same-length-5 : tie.Need-same-length-5 invariant-loop decreases-loop
-same-length-5 c = c.before.loop.invariant.4
+same-length-5 : tie.Need-shape_of-other_numbers invariant-loop decreases-loop
+same-length-5 c = c.before.loop-i.invariant.4
 
-same-length-6 : tie.Need-same-length-6 invariant-loop decreases-loop
-same-length-6 c = c.before.loop.invariant.5
+same-length-6 : tie.Need-shape_of-other_texts invariant-loop decreases-loop
+same-length-6 c = c.before.loop-i.invariant.5
 
-same-length-7 : tie.Need-same-length-7 invariant-loop decreases-loop
-same-length-7 c = c.before.loop.invariant.6
+same-length-7 : tie.Need-shape_of-lines invariant-loop decreases-loop
+same-length-7 c = c.before.loop-i.invariant.6
 
-same-length-8 : tie.Need-same-length-8 invariant-loop decreases-loop
-same-length-8 c = c.before.loop.invariant.7
+same-length-8 : tie.Need-shape_of-answers invariant-loop decreases-loop
+same-length-8 c = c.before.loop-i.invariant.7
 
 returns : tie.Need-returns invariant-loop decreases-loop
 returns c = search rules
 
-pub refused-lists-spec : {M : Type 1} → statement M
-refused-lists-spec =
+pub refused_lists_spec : {M : Type 1} → statement M
+refused_lists_spec =
     tie.close
     (tie.spec
     invariant-loop

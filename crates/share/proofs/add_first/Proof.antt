@@ -11,48 +11,48 @@ use Rattle.share.proofs.add_first.Lts as lts
 use Rattle.share.proofs.label_more.Reads as label-more-reads
 use Rattle.share.proofs.set_entry.Reads as set-entry-reads
 
-sub-label-more : tie.Need-overflow-sub-label-more
+sub-label-more : tie.Need-slice_bounds-label_more-count
 sub-label-more c = search rules
 
-part-label-more-start : tie.Need-slice-bounds-label-more-start
+part-label-more-start : tie.Need-slice_bounds-label_more-start
 part-label-more-start c = search rules
 
-part-label-more-end : tie.Need-slice-bounds-label-more-end
+part-label-more-end : tie.Need-slice_bounds-label_more-end
 part-label-more-end c = search rules
 
-label-more-requires : tie.Need-label-more-requires
+label-more-requires : tie.Need-label_more-add-requires
 label-more-requires c κs = search rules
 
-same_length : tie.Need-same-length
+same_length : tie.Need-shape_of-firsts-then-add-eq0
 same_length c = search rules
 
-returns : tie.Need-returns
+returns : tie.Need-returns-then-add-eq0
 returns c =
     let a = c.before.before.before.before.before.before.before.before.args in
-    let b = brought a.text.now (entries_of a.entries.now) a.own.now a.firsts.now a.f.end a.e _ c.before.label-more.ensures.0 in
-    (omega (arith, b, c.if1.true), ((c.before.before.before.before.before.before.before.before.requires.1.1, omega arith, omega arith), not_kept a.text.now (entries_of a.entries.now) a.own.now a.firsts.now a.f.end a.e (sym b ∙ c.if1.true)))
+    let b = brought a.text.now (entries_of a.entries.now) a.own.now a.firsts-1.now a.f.end a.e _ c.before.label_more-add.ensures.0 in
+    (omega (arith, b, c.if-add-eq0.true), ((c.before.before.before.before.before.before.before.before.requires.1.1, omega arith, omega arith), not_kept a.text.now (entries_of a.entries.now) a.own.now a.firsts-1.now a.f.end a.e (sym b ∙ c.if-add-eq0.true)))
 
-set-entry-requires : tie.Need-set-entry-requires
+set-entry-requires : tie.Need-set_entry-requires
 set-entry-requires c κs = search rules
 
-add-t10 : tie.Need-overflow-add-t10
+add-t10 : tie.Need-overflow_add-result
 add-t10 c = search rules
 
-add-t17 : tie.Need-overflow-add-t17
+add-t17 : tie.Need-overflow_add-result-2
 add-t17 c = search rules
 
-same-length-2 : tie.Need-same-length-2
+same-length-2 : tie.Need-shape_of-firsts
 same-length-2 c = search rules
 
-returns-2 : tie.Need-returns-2
+returns-2 : tie.Need-returns
 returns-2 c =
     let a = c.before.before.before.before.before.before.before.before.before.before.before.before.before.args in
     let pre = c.before.before.before.before.before.before.before.before.before.before.before.before.before.requires in
-    let b = brought a.text.now (entries_of a.entries.now) a.own.now a.firsts.now a.f.end a.e _ c.before.before.before.before.before.before.label-more.ensures.0 in
-    (omega (arith, b), ((omega (arith, pre.1.1), omega arith, omega (arith, c.before.before.before.before.before.before.label-more.ensures.1)), kept a.text.now (entries_of a.entries.now) a.own.now a.firsts.now a.f.end a.e _ (λ z. c.before.before.before.before.before.if1.false (b ∙ z)) pre.1.1 pre.1.0 c.before.before.before.set-entry.ensures))
+    let b = brought a.text.now (entries_of a.entries.now) a.own.now a.firsts-1.now a.f.end a.e _ c.before.before.before.before.before.before.label_more-add.ensures.0 in
+    (omega (arith, b), ((omega (arith, pre.1.1), omega arith, omega (arith, c.before.before.before.before.before.before.label_more-add.ensures.1)), kept a.text.now (entries_of a.entries.now) a.own.now a.firsts-1.now a.f.end a.e _ (λ z. c.before.before.before.before.before.if-add-eq0.false (b ∙ z)) pre.1.1 pre.1.0 c.before.before.before.set_entry.ensures))
 
-pub add-first-spec : {M : Type 1} → statement M
-add-first-spec =
+pub add_first_spec : {M : Type 1} → statement M
+add_first_spec =
     tie.close
     (tie.spec
     sub-label-more

@@ -15,101 +15,101 @@ use Rattle.share.proofs.raw_size.Reads as raw-size-reads
 
 -- ── the places on the way
 -- once the raw sequences are measured
-abbrev start : tie.After-raw-size2 → tie.Start
+abbrev start : tie.After-raw_size-2 → tie.Start
 start c = c.before.before.before.before.before.before
 
 -- once the labels of the first recording are counted
-abbrev measured : tie.After-more-labels → tie.After-raw-size2
+abbrev measured : tie.After-more_labels-one → tie.After-raw_size-2
 measured c = c.before.before.before.before.before
 
-raw-size-requires : tie.Need-raw-size-requires
+raw-size-requires : tie.Need-raw_size-requires
 raw-size-requires c κs = search rules
 
-sub-raws : tie.Need-overflow-sub-raws
-sub-raws c = omega (arith, c.raw-size.ensures.0, c.before.before.before.before.before.requires.0.3)
+sub-raws : tie.Need-overflow_sub-raws
+sub-raws c = omega (arith, c.raw_size.ensures.0, c.before.before.before.before.before.requires.0.3)
 
-raw-size-requires-2 : tie.Need-raw-size-requires-2
+raw-size-requires-2 : tie.Need-raw_size-requires-2
 raw-size-requires-2 c κs = search rules
 
-mul-raws : tie.Need-overflow-mul-raws
+mul-raws : tie.Need-overflow_mul-raws
 mul-raws c =
-    omega (arith, product_small _ _ (start c).requires.1.3 c.raw-size2.ensures.1, c.before.raw-size.ensures.1)
+    omega (arith, product_small _ _ (start c).requires.1.3 c.raw_size-2.ensures.1, c.before.raw_size.ensures.1)
 
-add-raws : tie.Need-overflow-add-raws
+add-raws : tie.Need-overflow_add-raws
 add-raws c =
-    omega (arith, product_small _ _ (start c).requires.1.3 c.raw-size2.ensures.1, c.before.raw-size.ensures.1)
+    omega (arith, product_small _ _ (start c).requires.1.3 c.raw_size-2.ensures.1, c.before.raw_size.ensures.1)
 
-returns : tie.Need-returns
+returns : tie.Need-returns-then-raws-gt65536
 returns c =
     let m = c.before in
     let a = (start m).args in
-    size_raws a.text.now (entries_of a.entries.now) a.own.now (entries_of a.second.now) a.n a.gone _ _ (ap (λ (k : ℕ). k - a.gone) m.before.raw-size.ensures.0) m.raw-size2.ensures.0 c.if1.true
+    size_raws a.text.now (entries_of a.entries.now) a.own.now (entries_of a.second.now) a.n a.gone _ _ (ap (λ (k : ℕ). k - a.gone) m.before.raw_size.ensures.0) m.raw_size-2.ensures.0 c.if-raws-gt65536.true
 
-sub-more-labels : tie.Need-overflow-sub-more-labels
+sub-more-labels : tie.Need-slice_bounds-more_labels-count
 sub-more-labels c = search rules
 
-part-more-labels-start : tie.Need-slice-bounds-more-labels-start
+part-more-labels-start : tie.Need-slice_bounds-more_labels-start
 part-more-labels-start c = search rules
 
-part-more-labels-end : tie.Need-slice-bounds-more-labels-end
+part-more-labels-end : tie.Need-slice_bounds-more_labels-end
 part-more-labels-end c = search rules
 
-sub-more-labels-2 : tie.Need-overflow-sub-more-labels-2
+sub-more-labels-2 : tie.Need-slice_bounds-more_labels-count-2
 sub-more-labels-2 c = search rules
 
-part-more-labels-start-2 : tie.Need-slice-bounds-more-labels-start-2
+part-more-labels-start-2 : tie.Need-slice_bounds-more_labels-start-2
 part-more-labels-start-2 c = search rules
 
-part-more-labels-end-2 : tie.Need-slice-bounds-more-labels-end-2
+part-more-labels-end-2 : tie.Need-slice_bounds-more_labels-end-2
 part-more-labels-end-2 c = search rules
 
-slice-aggregate-more-labels : tie.Need-slice-aggregate-more-labels
+slice-aggregate-more-labels : tie.Need-slice_bounds-more_labels-end-3
 slice-aggregate-more-labels c = search rules
 
-more-labels-requires : tie.Need-more-labels-requires
+more-labels-requires : tie.Need-more_labels-one-requires
 more-labels-requires c κs = search rules
 
-returns-2 : tie.Need-returns-2
+returns-2 : tie.Need-returns-then-n-eq0
 returns-2 c =
     let l = c.before.before in
     let m = measured l in
     let a = (start m).args in
-    size_alone a.text.now (entries_of a.entries.now) a.own.now (entries_of a.second.now) a.n a.gone _ _ (ap (λ (k : ℕ). k - a.gone) m.before.raw-size.ensures.0) m.raw-size2.ensures.0 _ l.more-labels.ensures.0 c.if2.true
+    size_alone a.text.now (entries_of a.entries.now) a.own.now (entries_of a.second.now) a.n a.gone _ _ (ap (λ (k : ℕ). k - a.gone) m.before.raw_size.ensures.0) m.raw_size-2.ensures.0 _ l.more_labels-one.ensures.0 c.if-n-eq0.true
 
-returns-3 : tie.Need-returns-3
+returns-3 : tie.Need-returns-then-one-gt65536
 returns-3 c =
     let l = c.before.before.before.before in
     let m = measured l in
     let a = (start m).args in
-    size_over a.text.now (entries_of a.entries.now) a.own.now (entries_of a.second.now) a.n a.gone _ _ (ap (λ (k : ℕ). k - a.gone) m.before.raw-size.ensures.0) m.raw-size2.ensures.0 _ l.more-labels.ensures.0 c.if3.true
+    size_over a.text.now (entries_of a.entries.now) a.own.now (entries_of a.second.now) a.n a.gone _ _ (ap (λ (k : ℕ). k - a.gone) m.before.raw_size.ensures.0) m.raw_size-2.ensures.0 _ l.more_labels-one.ensures.0 c.if-one-gt65536.true
 
-sub-more-labels-3 : tie.Need-overflow-sub-more-labels-3
+sub-more-labels-3 : tie.Need-slice_bounds-more_labels-count-3
 sub-more-labels-3 c = search rules
 
-part-more-labels-start-3 : tie.Need-slice-bounds-more-labels-start-3
+part-more-labels-start-3 : tie.Need-slice_bounds-more_labels-start-3
 part-more-labels-start-3 c = search rules
 
-part-more-labels-end-3 : tie.Need-slice-bounds-more-labels-end-3
+part-more-labels-end-3 : tie.Need-slice_bounds-more_labels-end-4
 part-more-labels-end-3 c = search rules
 
-slice-aggregate-more-labels-2 : tie.Need-slice-aggregate-more-labels-2
+slice-aggregate-more-labels-2 : tie.Need-slice_bounds-more_labels-end-5
 slice-aggregate-more-labels-2 c = search rules
 
-more-labels-requires-2 : tie.Need-more-labels-requires-2
+more-labels-requires-2 : tie.Need-more_labels-requires
 more-labels-requires-2 c κs = search rules
 
-returns-4 : tie.Need-returns-4
+returns-4 : tie.Need-returns
 returns-4 c =
     let o = c.before.before.before.before.before in
     let t = o.before.before in
     let l = t.before.before in
     let m = measured l in
     let a = (start m).args in
-    size_both a.text.now (entries_of a.entries.now) a.own.now (entries_of a.second.now) a.n a.gone _ _ (ap (λ (k : ℕ). k - a.gone) m.before.raw-size.ensures.0) m.raw-size2.ensures.0 _ l.more-labels.ensures.0 t.if2.false o.if3.false
-    l.more-labels.new.1.1.1.1.1.0 l.more-labels.result.end l.more-labels.ensures.1.1 _ c.before.more-labels2.ensures.0
+    size_both a.text.now (entries_of a.entries.now) a.own.now (entries_of a.second.now) a.n a.gone _ _ (ap (λ (k : ℕ). k - a.gone) m.before.raw_size.ensures.0) m.raw_size-2.ensures.0 _ l.more_labels-one.ensures.0 t.if-n-eq0.false o.if-one-gt65536.false
+    l.more_labels-one.new.1.1.1.1.1.0 l.more_labels-one.result.end l.more_labels-one.ensures.1.1 _ c.before.more_labels.ensures.0
 
-pub exact-size-spec : {M : Type 1} → statement M
-exact-size-spec =
+pub exact_size_spec : {M : Type 1} → statement M
+exact_size_spec =
     tie.close
     (tie.spec
     raw-size-requires

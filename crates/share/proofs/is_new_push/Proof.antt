@@ -6,21 +6,21 @@ use Rattle.share.proofs.is_new_push.Reads as reads
 use Rattle.share.proofs.is_new_push.Lts as lts
 use Rattle.share.proofs.is_push.Reads as is-push-reads
 
-cast-if1 : tie.Need-overflow-cast-if1
+cast-if1 : tie.Need-overflow_cast-e
 cast-if1 c = search rules
 
-returns : tie.Need-returns
+returns : tie.Need-returns-then-e-top
 returns c =
     let a = c.before.before.before.before.args in
-    not_new a.label.now a.texts.now a.e a.top c.if1.true
+    not_new a.label.now a.texts.now a.e a.top c.if-e-top.true
 
-is-push-requires : tie.Need-is-push-requires
+is-push-requires : tie.Need-is_push-requires
 is-push-requires c κs = search rules
 
-returns-2 : tie.Need-returns-2
+returns-2 : tie.Need-returns
 returns-2 c =
     let a = c.before.before.before.before.before.args in
-    new_push a.label.now a.texts.now a.e a.top _ c.before.if1.false c.is-push.ensures
+    new_push a.label.now a.texts.now a.e a.top _ c.before.if-e-top.false c.is_push.ensures
 
-pub is-new-push-spec : {M : Type 1} → statement M
-is-new-push-spec = tie.close (tie.spec cast-if1 returns is-push-requires returns-2)
+pub is_new_push_spec : {M : Type 1} → statement M
+is_new_push_spec = tie.close (tie.spec cast-if1 returns is-push-requires returns-2)

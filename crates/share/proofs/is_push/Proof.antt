@@ -8,52 +8,52 @@ use Rattle.share.proofs.is_push.Reads as reads
 use Rattle.share.proofs.is_push.Lts as lts
 use Rattle.share.proofs.same_text.Reads as same-text-reads
 
-returns : tie.Need-returns
+returns : tie.Need-returns-then-e-ne0
 returns c =
     let g = c.before.before.before.before.args in
-    sym (other_kind g.label.now g.texts.now g.e c.if1.true)
+    sym (other_kind g.label.now g.texts.now g.e c.if-e-ne0.true)
 
-cast-if2 : tie.Need-overflow-cast-if2
+cast-if2 : tie.Need-overflow_cast-e
 cast-if2 c = search rules
 
-returns-2 : tie.Need-returns-2
+returns-2 : tie.Need-returns-then-e-label
 returns-2 c =
     let g = c.before.before.before.before.before.before.args in
-    sym (other_length g.label.now g.texts.now g.e c.before.before.if1.false c.if2.true)
+    sym (other_length g.label.now g.texts.now g.e c.before.before.if-e-ne0.false c.if-e-label.true)
 
-cast-start : tie.Need-overflow-cast-start
+cast-start : tie.Need-overflow_cast-start
 cast-start c = search rules
 
-cast-end : tie.Need-overflow-cast-end
+cast-end : tie.Need-overflow_cast-end
 cast-end c = search rules
 
-add-end : tie.Need-overflow-add-end
+add-end : tie.Need-overflow_add-end
 add-end c = search rules
 
-returns-3 : tie.Need-returns-3
+returns-3 : tie.Need-returns-then-texts-end
 returns-3 c =
     let g = c.before.before.before.before.before.before.before.before.before.before.args in
-    sticks_out g.label.now g.texts.now g.e c.before.before.before.before.before.before.if1.false c.before.before.before.before.if2.false c.before.if3.true
+    sticks_out g.label.now g.texts.now g.e c.before.before.before.before.before.before.if-e-ne0.false c.before.before.before.before.if-e-label.false c.before.if-texts-end.true
 
-sub-same-text : tie.Need-overflow-sub-same-text
+sub-same-text : tie.Need-slice_bounds-same_text-count
 sub-same-text c = search rules
 
-part-same-text-start : tie.Need-slice-bounds-same-text-start
+part-same-text-start : tie.Need-slice_bounds-same_text-start
 part-same-text-start c = search rules
 
-part-same-text-end : tie.Need-slice-bounds-same-text-end
+part-same-text-end : tie.Need-slice_bounds-same_text-end
 part-same-text-end c = search rules
 
-same-text-requires : tie.Need-same-text-requires
+same-text-requires : tie.Need-same_text-requires
 same-text-requires c κs = search rules
 
-returns-4 : tie.Need-returns-4
+returns-4 : tie.Need-returns
 returns-4 c =
     let g = c.before.before.before.before.before.before.before.before.before.before.before.args in
-    compared g.label.now g.texts.now g.e c.before.before.before.before.before.before.before.if1.false c.before.before.before.before.before.if2.false _ c.same_text.ensures
+    compared g.label.now g.texts.now g.e c.before.before.before.before.before.before.before.if-e-ne0.false c.before.before.before.before.before.if-e-label.false _ c.same_text.ensures
 
-pub is-push-spec : {M : Type 1} → statement M
-is-push-spec =
+pub is_push_spec : {M : Type 1} → statement M
+is_push_spec =
     tie.close
     (tie.spec
     returns

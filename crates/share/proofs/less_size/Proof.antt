@@ -8,38 +8,38 @@ use Rattle.share.proofs.less_size.Reads as reads
 use Rattle.share.proofs.less_size.Lts as lts
 use Rattle.share.proofs.exact_size.Reads as exact-size-reads
 
-returns : tie.Need-returns
+returns : tie.Need-returns-then-plain-room
 returns c =
-    roomy _ _ _ c.before.before.before.before.requires.1.1 c.before.if1.true c.if2.true
+    roomy _ _ _ c.before.before.before.before.requires.1.1 c.before.if-plain-le65536.true c.if-plain-room.true
 
-sub-exact-size : tie.Need-overflow-sub-exact-size
+sub-exact-size : tie.Need-slice_bounds-exact_size-count
 sub-exact-size c = search rules
 
-part-exact-size-start : tie.Need-slice-bounds-exact-size-start
+part-exact-size-start : tie.Need-slice_bounds-exact_size-start
 part-exact-size-start c = search rules
 
-part-exact-size-end : tie.Need-slice-bounds-exact-size-end
+part-exact-size-end : tie.Need-slice_bounds-exact_size-end
 part-exact-size-end c = search rules
 
-sub-exact-size-2 : tie.Need-overflow-sub-exact-size-2
+sub-exact-size-2 : tie.Need-slice_bounds-exact_size-count-2
 sub-exact-size-2 c = search rules
 
-part-exact-size-start-2 : tie.Need-slice-bounds-exact-size-start-2
+part-exact-size-start-2 : tie.Need-slice_bounds-exact_size-start-2
 part-exact-size-start-2 c = search rules
 
-part-exact-size-end-2 : tie.Need-slice-bounds-exact-size-end-2
+part-exact-size-end-2 : tie.Need-slice_bounds-exact_size-end-2
 part-exact-size-end-2 c = search rules
 
-exact-size-requires : tie.Need-exact-size-requires
+exact-size-requires : tie.Need-exact_size-requires
 unfolding Inside
 exact-size-requires c κs = search rules
 
-returns-2 : tie.Need-returns-2
+returns-2 : tie.Need-returns
 returns-2 c =
-    exact _ _ _ c.exact-size.ensures
+    exact _ _ _ c.exact_size.ensures
 
-pub less-size-spec : {M : Type 1} → statement M
-less-size-spec =
+pub less_size_spec : {M : Type 1} → statement M
+less_size_spec =
     tie.close
     (tie.spec
     returns

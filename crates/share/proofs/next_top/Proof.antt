@@ -5,22 +5,22 @@ use Rattle.share.proofs.next_top.Tie as tie
 use Rattle.share.proofs.next_top.Reads as reads
 use Rattle.share.proofs.next_top.Lts as lts
 
-cast-start : tie.Need-overflow-cast-start
+cast-start : tie.Need-overflow_cast-start
 cast-start c = search rules
 
-returns : tie.Need-returns
+returns : tie.Need-returns-then-start-top
 returns c =
-    (top_same _ c.before.before.args.e c.if1.true, c.before.before.requires)
+    (top_same _ c.before.before.args.e c.if-start-top.true, c.before.before.requires)
 
-cast-result : tie.Need-overflow-cast-result
+cast-result : tie.Need-overflow_cast-result
 cast-result c = search rules
 
-add-result : tie.Need-overflow-add-result
+add-result : tie.Need-overflow_add-result
 add-result c = search rules
 
-returns-2 : tie.Need-returns-2
+returns-2 : tie.Need-returns
 returns-2 c =
-    (top_more _ c.before.before.before.args.e c.before.if1.false, search rules)
+    (top_more _ c.before.before.before.args.e c.before.if-start-top.false, search rules)
 
-pub next-top-spec : {M : Type 1} → statement M
-next-top-spec = tie.close (tie.spec cast-start returns cast-result add-result returns-2)
+pub next_top_spec : {M : Type 1} → statement M
+next_top_spec = tie.close (tie.spec cast-start returns cast-result add-result returns-2)

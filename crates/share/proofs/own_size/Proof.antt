@@ -11,7 +11,7 @@ use Rattle.share.proofs.own_size.Reads as reads
 use Rattle.share.proofs.own_size.Lts as lts
 use Rattle.share.proofs.text_size.Reads as text-size-reads
 
-text-size-requires : tie.Need-text-size-requires
+text-size-requires : tie.Need-text_size-requires
 text-size-requires c κs =
     let s = c.before.before in
     let a = s.args in
@@ -20,10 +20,10 @@ text-size-requires c κs =
 returns : tie.Need-returns
 returns c =
     let a = c.before.before.before.args in
-    subst (λ (k : ℕ). Stands a.room k c.text-size.result) (none_more a.text.now (entries_of a.entries.now) a.text.now (entries_of a.entries.now)) c.text-size.ensures
+    subst (λ (k : ℕ). Stands a.room k c.text_size.result) (none_more a.text.now (entries_of a.entries.now) a.text.now (entries_of a.entries.now)) c.text_size.ensures
 
-pub own-size-spec : {M : Type 1} → statement M
-own-size-spec =
+pub own_size_spec : {M : Type 1} → statement M
+own_size_spec =
     tie.close
     (tie.spec
     text-size-requires

@@ -12,53 +12,53 @@ use Rattle.share.proofs.place_label.Lts as lts
 use Rattle.recording.proofs.entry_at.Reads as entry-at-reads
 use Rattle.share.proofs.is_push.Reads as is-push-reads
 
-abbrev invariant-loop : tie.invariant-loop
+abbrev invariant-loop : tie.invariant-loop-at
 invariant-loop numbers texts label at₀ at = Passed label texts numbers at
 
-abbrev decreases-loop : tie.decreases-loop
+abbrev decreases-loop : tie.decreases-loop-at
 decreases-loop numbers texts label at₀ at = length numbers - at
 
-loop-holds : tie.Need-loop-init invariant-loop decreases-loop
+loop-holds : tie.Need-loop-at-init invariant-loop decreases-loop
 loop-holds c =
     passed_none _ _ _
 
-sub-loop : tie.Need-overflow-sub-loop invariant-loop decreases-loop
+sub-loop : tie.Need-overflow_sub-numbers invariant-loop decreases-loop
 sub-loop c = search rules
 
-entry-at-requires : tie.Need-entry-at-requires invariant-loop decreases-loop
+entry-at-requires : tie.Need-entry_at-e-requires invariant-loop decreases-loop
 entry-at-requires c κs = search rules
 
-is-push-requires : tie.Need-is-push-requires invariant-loop decreases-loop
+is-push-requires : tie.Need-is_push-requires invariant-loop decreases-loop
 is-push-requires c κs = search rules
 
-returns : tie.Need-returns invariant-loop decreases-loop
+returns : tie.Need-returns-then-is_push invariant-loop decreases-loop
 returns c =
     let g = c.before.before.before.before.before.before.before.before.args in
-    let f = found g.label.now g.texts.now g.numbers.now _ c.before.before.before.before.loop.invariant _ c.before.before.entry_at.ensures (sym c.before.is-push.ensures ∙ c.if1.true) in
+    let f = found g.label.now g.texts.now g.numbers.now _ c.before.before.before.before.loop-at.invariant _ c.before.before.entry_at-e.ensures (sym c.before.is_push.ensures ∙ c.if-is_push.true) in
     (f.0, f.1)
 
-add_at : tie.Need-overflow-add-at invariant-loop decreases-loop
+add_at : tie.Need-overflow_add-at invariant-loop decreases-loop
 add_at c = search rules
 
-loop-less : tie.Need-loop-smaller invariant-loop decreases-loop
+loop-less : tie.Need-loop-at-smaller invariant-loop decreases-loop
 loop-less c = search rules
 
-loop-again : tie.Need-loop-preserved invariant-loop decreases-loop
+loop-again : tie.Need-loop-at-preserved invariant-loop decreases-loop
 loop-again c =
     let g = c.before.before.before.before.before.before.before.before.args in
-    passed_one g.label.now g.texts.now g.numbers.now _ c.before.before.before.before.loop.invariant _ c.before.before.entry_at.ensures (omega (arith, c.before.before.before.loop-test.true, c.before.before.before.before.loop.invariant.within)) (sym c.before.is-push.ensures ∙ c.if1.false)
+    passed_one g.label.now g.texts.now g.numbers.now _ c.before.before.before.before.loop-at.invariant _ c.before.before.entry_at-e.ensures (omega (arith, c.before.before.before.loop-at-test.true, c.before.before.before.before.loop-at.invariant.within)) (sym c.before.is_push.ensures ∙ c.if-is_push.false)
 
-cast-t11 : tie.Need-overflow-cast-t11 invariant-loop decreases-loop
+cast-t11 : tie.Need-overflow_cast-result invariant-loop decreases-loop
 cast-t11 c = search rules
 
-returns-2 : tie.Need-returns-2 invariant-loop decreases-loop
+returns-2 : tie.Need-returns invariant-loop decreases-loop
 returns-2 c =
     let g = c.before.before.before.before.before.args in
-    let f = passed_all g.label.now g.texts.now g.numbers.now _ c.before.loop.invariant c.loop-test.false in
+    let f = passed_all g.label.now g.texts.now g.numbers.now _ c.before.loop-at.invariant c.loop-at-test.false in
     (f.0, f.1)
 
-pub place-label-spec : {M : Type 1} → statement M
-place-label-spec =
+pub place_label_spec : {M : Type 1} → statement M
+place_label_spec =
     tie.close
     (tie.spec
     invariant-loop

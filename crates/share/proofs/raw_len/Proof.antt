@@ -5,16 +5,16 @@ use Rattle.share.proofs.raw_len.Tie as tie
 use Rattle.share.proofs.raw_len.Reads as reads
 use Rattle.share.proofs.raw_len.Lts as lts
 
-cast-result : tie.Need-overflow-cast-result
+cast-result : tie.Need-overflow_cast-result
 cast-result c = search rules
 
-returns : tie.Need-returns
+returns : tie.Need-returns-then-e-eq2
 returns c =
-    raw_len_lem c.before.before.before.args.e c.before.if1.true
+    raw_len_lem c.before.before.before.args.e c.before.if-e-eq2.true
 
-returns-2 : tie.Need-returns-2
+returns-2 : tie.Need-returns
 returns-2 c =
-    no_raw c.before.before.args.e c.if1.false
+    no_raw c.before.before.args.e c.if-e-eq2.false
 
-pub raw-len-spec : {M : Type 1} → statement M
-raw-len-spec = tie.close (tie.spec cast-result returns returns-2)
+pub raw_len_spec : {M : Type 1} → statement M
+raw_len_spec = tie.close (tie.spec cast-result returns returns-2)

@@ -10,45 +10,45 @@ use Rattle.share.proofs.raw_size.Lts as lts
 use Rattle.recording.proofs.entry_at.Reads as entry-at-reads
 use Rattle.share.proofs.raw_len.Reads as raw-len-reads
 
-abbrev invariant-loop : tie.invariant-loop
+abbrev invariant-loop : tie.invariant-loop-k
 invariant-loop entries text k₀ size₀ k size = Raws entries text k size
 
-abbrev decreases-loop : tie.decreases-loop
+abbrev decreases-loop : tie.decreases-loop-k
 decreases-loop entries text k₀ size₀ k size = length entries - k
 
-loop-holds : tie.Need-loop-init invariant-loop decreases-loop
+loop-holds : tie.Need-loop-k-init invariant-loop decreases-loop
 loop-holds c =
     raws_first _ _ c.before.before.requires.2
 
-sub-loop : tie.Need-overflow-sub-loop invariant-loop decreases-loop
+sub-loop : tie.Need-overflow_sub-entries invariant-loop decreases-loop
 sub-loop c = search rules
 
-entry-at-requires : tie.Need-entry-at-requires invariant-loop decreases-loop
+entry-at-requires : tie.Need-entry_at-e-requires invariant-loop decreases-loop
 entry-at-requires c κs = search rules
 
-raw-len-requires : tie.Need-raw-len-requires invariant-loop decreases-loop
+raw-len-requires : tie.Need-raw_len-size-requires invariant-loop decreases-loop
 raw-len-requires c κs = search rules
 
-add-size : tie.Need-overflow-add-size invariant-loop decreases-loop
+add-size : tie.Need-overflow_add-size invariant-loop decreases-loop
 add-size c =
-    omega (arith, raws_small _ _ _ _ c.before.before.before.loop.invariant c.before.before.loop-test.true _ c.before.entry_at.ensures _ c.raw-len.ensures c.before.before.before.before.before.before.requires.1, c.before.before.before.before.before.before.requires.0, c.before.before.loop-test.true)
+    omega (arith, raws_small _ _ _ _ c.before.before.before.loop-k.invariant c.before.before.loop-k-test.true _ c.before.entry_at-e.ensures _ c.raw_len-size.ensures c.before.before.before.before.before.before.requires.1, c.before.before.before.before.before.before.requires.0, c.before.before.loop-k-test.true)
 
-add-k : tie.Need-overflow-add-k invariant-loop decreases-loop
+add-k : tie.Need-overflow_add-k invariant-loop decreases-loop
 add-k c = search rules
 
-loop-less : tie.Need-loop-smaller invariant-loop decreases-loop
+loop-less : tie.Need-loop-k-smaller invariant-loop decreases-loop
 loop-less c = search rules
 
-loop-again : tie.Need-loop-preserved invariant-loop decreases-loop
+loop-again : tie.Need-loop-k-preserved invariant-loop decreases-loop
 loop-again c =
-    raws_next _ _ _ _ c.before.before.before.loop.invariant c.before.before.loop-test.true _ c.before.entry_at.ensures _ c.raw-len.ensures c.before.before.before.before.before.before.requires.1
+    raws_next _ _ _ _ c.before.before.before.loop-k.invariant c.before.before.loop-k-test.true _ c.before.entry_at-e.ensures _ c.raw_len-size.ensures c.before.before.before.before.before.before.requires.1
 
 returns : tie.Need-returns invariant-loop decreases-loop
 returns c =
-    (raws_last _ _ _ _ c.before.loop.invariant c.loop-test.false, omega (arith, c.before.loop.invariant.small, c.before.loop.invariant.within, c.before.before.before.before.requires.0))
+    (raws_last _ _ _ _ c.before.loop-k.invariant c.loop-k-test.false, omega (arith, c.before.loop-k.invariant.small, c.before.loop-k.invariant.within, c.before.before.before.before.requires.0))
 
-pub raw-size-spec : {M : Type 1} → statement M
-raw-size-spec =
+pub raw_size_spec : {M : Type 1} → statement M
+raw_size_spec =
     tie.close
     (tie.spec
     invariant-loop

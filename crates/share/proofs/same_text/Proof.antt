@@ -9,49 +9,49 @@ use Rattle.share.proofs.same_text.Tie as tie
 use Rattle.share.proofs.same_text.Reads as reads
 use Rattle.share.proofs.same_text.Lts as lts
 
-abbrev invariant-loop : tie.invariant-loop
+abbrev invariant-loop : tie.invariant-loop-i
 invariant-loop a b i₀ i = Tail a b i
 
-abbrev decreases-loop : tie.decreases-loop
+abbrev decreases-loop : tie.decreases-loop-i
 decreases-loop a b i₀ i = i
 
-returns : tie.Need-returns invariant-loop decreases-loop
+returns : tie.Need-returns-then-a-b invariant-loop decreases-loop
 returns c =
     let g = c.before.args in
-    sym (differ g.a.now g.b.now (λ e. c.if1.true (ap length e)))
+    sym (differ g.a.now g.b.now (λ e. c.if-a-b.true (ap length e)))
 
-loop-holds : tie.Need-loop-init invariant-loop decreases-loop
+loop-holds : tie.Need-loop-i-init invariant-loop decreases-loop
 loop-holds c =
-    tail_end _ _ c.if1.false
+    tail_end _ _ c.if-a-b.false
 
-sub-i : tie.Need-overflow-sub-i invariant-loop decreases-loop
+sub-i : tie.Need-overflow_sub-i invariant-loop decreases-loop
 sub-i c = search rules
 
-shared-slice-read-if2 : tie.Need-shared-slice-read-if2 invariant-loop decreases-loop
+shared-slice-read-if2 : tie.Need-bounds-a-i invariant-loop decreases-loop
 shared-slice-read-if2 c = search rules
 
-shared-slice-read-if2-2 : tie.Need-shared-slice-read-if2-2 invariant-loop decreases-loop
+shared-slice-read-if2-2 : tie.Need-bounds-b-i invariant-loop decreases-loop
 shared-slice-read-if2-2 c = search rules
 
-returns-2 : tie.Need-returns-2 invariant-loop decreases-loop
+returns-2 : tie.Need-returns-then-a-i invariant-loop decreases-loop
 returns-2 c =
     let g = c.before.before.before.before.before.before.args in
-    sym (differ g.a.now g.b.now (λ e. c.if2.true (ap (λ (x : List ℕ). get_or x (c.before.before.before.before.loop.i - 1) 0) e)))
+    sym (differ g.a.now g.b.now (λ e. c.if-a-i.true (ap (λ (x : List ℕ). get_or x (c.before.before.before.before.loop-i.i - 1) 0) e)))
 
-loop-less : tie.Need-loop-smaller invariant-loop decreases-loop
+loop-less : tie.Need-loop-i-smaller invariant-loop decreases-loop
 loop-less c = search rules
 
-loop-again : tie.Need-loop-preserved invariant-loop decreases-loop
+loop-again : tie.Need-loop-i-preserved invariant-loop decreases-loop
 loop-again c =
-    tail_more _ _ _ c.before.before.before.before.loop.invariant c.before.before.before.loop-test.true c.if2.false
+    tail_more _ _ _ c.before.before.before.before.loop-i.invariant c.before.before.before.loop-i-test.true c.if-a-i.false
 
-returns-3 : tie.Need-returns-3 invariant-loop decreases-loop
+returns-3 : tie.Need-returns invariant-loop decreases-loop
 returns-3 c =
     let g = c.before.before.before.args in
-    sym (alike g.a.now g.b.now (tail_all _ _ _ c.before.loop.invariant c.loop-test.false))
+    sym (alike g.a.now g.b.now (tail_all _ _ _ c.before.loop-i.invariant c.loop-i-test.false))
 
-pub same-text-spec : {M : Type 1} → statement M
-same-text-spec =
+pub same_text_spec : {M : Type 1} → statement M
+same_text_spec =
     tie.close
     (tie.spec
     invariant-loop

@@ -12,20 +12,20 @@ use Rattle.share.proofs.text_size.Reads as reads
 use Rattle.share.proofs.text_size.Lts as lts
 use Rattle.share.proofs.exact_size.Reads as exact-size-reads
 
-returns : tie.Need-returns
+returns : tie.Need-returns-then-plain-room
 returns c =
-    roomy _ _ _ c.before.before.before.before.before.before.requires.1.1 c.before.if1.true c.if2.true
+    roomy _ _ _ c.before.before.before.before.before.before.requires.1.1 c.before.if-plain-le65536.true c.if-plain-room.true
 
-exact-size-requires : tie.Need-exact-size-requires
+exact-size-requires : tie.Need-exact_size-requires
 exact-size-requires c κs =
     let p = c.before.before.before.before.before.requires in
     ((p.0.0, p.0.1, p.0.2, omega arith), p.1.0)
 
-returns-2 : tie.Need-returns-2
+returns-2 : tie.Need-returns
 returns-2 c =
     let a = c.before.before.before.before.before.before.args in
     exact _ _ _
-    (subst (λ (k : ℕ). Counts k c.exact-size.result) (less_none a.text.now a.own.now (entries_of a.entries.now) (entries_of a.second.now) a.n) c.exact-size.ensures)
+    (subst (λ (k : ℕ). Counts k c.exact_size.result) (less_none a.text.now a.own.now (entries_of a.entries.now) (entries_of a.second.now) a.n) c.exact_size.ensures)
 
-pub text-size-spec : {M : Type 1} → statement M
-text-size-spec = tie.close (tie.spec returns exact-size-requires returns-2)
+pub text_size_spec : {M : Type 1} → statement M
+text_size_spec = tie.close (tie.spec returns exact-size-requires returns-2)

@@ -13,42 +13,42 @@ use Rattle.sheet.proofs.after_space.Reads as reads
 use Rattle.sheet.proofs.after_space.Lts as lts
 use Rattle.sheet.proofs.find.Reads as find-reads
 
-find-requires : tie.Need-find-requires
+find-requires : tie.Need-find-e-requires
 find-requires c κs = search rules
 
-sub-result : tie.Need-overflow-sub-result
+sub-result : tie.Need-slice_bounds-result-count
 sub-result c = search rules
 
-part-result-start : tie.Need-slice-bounds-result-start
+part-result-start : tie.Need-slice_bounds-result-start
 part-result-start c = search rules
 
-part-result-end : tie.Need-slice-bounds-result-end
+part-result-end : tie.Need-slice_bounds-result-end
 part-result-end c = search rules
 
-returns : tie.Need-returns
-returns c = let s = c.before.before.before.before.args.s.now in let f = c.before.before.find in
-    part_to_end s f.result ∙ rest_none s f.result (omega (arith, c.before.if1.true)) ∙ sym
-    (rest_none s (suc (length (up_to 0x20 s))) (omega (arith, f.ensures.0, c.before.if1.true))) ∙ after_drop 0x20 s
+returns : tie.Need-returns-then-e-s
+returns c = let s = c.before.before.before.before.args.s.now in let f = c.before.before.find-e in
+    part_to_end s f.result ∙ rest_none s f.result (omega (arith, c.before.if-e-s.true)) ∙ sym
+    (rest_none s (suc (length (up_to 0x20 s))) (omega (arith, f.ensures.0, c.before.if-e-s.true))) ∙ after_drop 0x20 s
 
-add-result : tie.Need-overflow-add-result
+add-result : tie.Need-overflow_add-result
 add-result c = search rules
 
-sub-result-2 : tie.Need-overflow-sub-result-2
+sub-result-2 : tie.Need-slice_bounds-result-count-2
 sub-result-2 c = search rules
 
-part-result-start-2 : tie.Need-slice-bounds-result-start-2
+part-result-start-2 : tie.Need-slice_bounds-result-start-2
 part-result-start-2 c = search rules
 
-part-result-end-2 : tie.Need-slice-bounds-result-end-2
+part-result-end-2 : tie.Need-slice_bounds-result-end-2
 part-result-end-2 c = search rules
 
-returns-2 : tie.Need-returns-2
-returns-2 c = let s = c.before.before.before.before.args.s.now in let f = c.before.before.find in
+returns-2 : tie.Need-returns
+returns-2 c = let s = c.before.before.before.before.args.s.now in let f = c.before.before.find-e in
     let e : f.result + 1 ≡ suc (length (up_to 0x20 s)) = omega (arith, f.ensures.0) in
     part_to_end s (f.result + 1) ∙ ap (λ (n : ℕ). drop n s) e ∙ after_drop 0x20 s
 
-pub after-space-spec : {M : Type 1} → statement M
-after-space-spec =
+pub after_space_spec : {M : Type 1} → statement M
+after_space_spec =
     tie.close
     (tie.spec
     find-requires

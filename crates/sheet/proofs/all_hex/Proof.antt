@@ -13,45 +13,45 @@ use Rattle.sheet.proofs.all_hex.Reads as reads
 use Rattle.sheet.proofs.all_hex.Lts as lts
 use Rattle.sheet.proofs.is_hex.Reads as is-hex-reads
 
-abbrev invariant-loop : tie.invariant-loop
+abbrev invariant-loop : tie.invariant-loop-i
 invariant-loop s i₀ i = (i ≤ length s) × (all_hex_of (drop i s) ≡ all_hex_of s)
 
-abbrev decreases-loop : tie.decreases-loop
+abbrev decreases-loop : tie.decreases-loop-i
 decreases-loop s i₀ i = length s - i
 
-loop-holds : tie.Need-loop-init invariant-loop decreases-loop
+loop-holds : tie.Need-loop-i-init invariant-loop decreases-loop
 loop-holds c = search rules
 
-shared-slice-read-is-hex : tie.Need-shared-slice-read-is-hex invariant-loop decreases-loop
+shared-slice-read-is-hex : tie.Need-bounds-s-i invariant-loop decreases-loop
 shared-slice-read-is-hex c = search rules
 
-is-hex-requires : tie.Need-is-hex-requires invariant-loop decreases-loop
+is-hex-requires : tie.Need-is_hex-requires invariant-loop decreases-loop
 is-hex-requires c κs = search rules
 
-returns : tie.Need-returns invariant-loop decreases-loop
+returns : tie.Need-returns-then-not-is_hex invariant-loop decreases-loop
 returns c = let l = c.before.before.before.before in let s = l.before.before.args.s.now in sym
-    (sym l.loop.invariant.1 ∙ hex_next s l.loop.i c.before.before.before.loop-test.true c.before.is-hex.result c.before.is-hex.ensures
-    ∙ simp (not-true c.before.is-hex.result c.if1.true))
+    (sym l.loop-i.invariant.1 ∙ hex_next s l.loop-i.i c.before.before.before.loop-i-test.true c.before.is_hex.result c.before.is_hex.ensures
+    ∙ simp c.if-not-is_hex.true)
 
-add-i : tie.Need-overflow-add-i invariant-loop decreases-loop
+add-i : tie.Need-overflow_add-i invariant-loop decreases-loop
 add-i c = search rules
 
-loop-less : tie.Need-loop-smaller invariant-loop decreases-loop
+loop-less : tie.Need-loop-i-smaller invariant-loop decreases-loop
 loop-less c = search rules
 
-loop-again : tie.Need-loop-preserved invariant-loop decreases-loop
+loop-again : tie.Need-loop-i-preserved invariant-loop decreases-loop
 loop-again c = let l = c.before.before.before.before in let s = l.before.before.args.s.now in (
-  omega (arith, c.before.before.before.loop-test.true),
+  omega (arith, c.before.before.before.loop-i-test.true),
   sym
-      (hex_next s l.loop.i c.before.before.before.loop-test.true c.before.is-hex.result c.before.is-hex.ensures
-      ∙ simp (not_false c.before.is-hex.result c.if1.false)) ∙ l.loop.invariant.1,
+      (hex_next s l.loop-i.i c.before.before.before.loop-i-test.true c.before.is_hex.result c.before.is_hex.ensures
+      ∙ simp c.if-not-is_hex.false) ∙ l.loop-i.invariant.1,
 )
 
-returns-2 : tie.Need-returns-2 invariant-loop decreases-loop
-returns-2 c = let l = c.before in let s = l.before.before.args.s.now in sym (ap all_hex_of (rest_none s l.loop.i c.loop-test.false)) ∙ l.loop.invariant.1
+returns-2 : tie.Need-returns invariant-loop decreases-loop
+returns-2 c = let l = c.before in let s = l.before.before.args.s.now in sym (ap all_hex_of (rest_none s l.loop-i.i c.loop-i-test.false)) ∙ l.loop-i.invariant.1
 
-pub all-hex-spec : {M : Type 1} → statement M
-all-hex-spec =
+pub all_hex_spec : {M : Type 1} → statement M
+all_hex_spec =
     tie.close
     (tie.spec
     invariant-loop

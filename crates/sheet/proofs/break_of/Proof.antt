@@ -9,15 +9,15 @@ use Rattle.sheet.proofs.break_of.Tie as tie
 use Rattle.sheet.proofs.break_of.Reads as reads
 use Rattle.sheet.proofs.break_of.Lts as lts
 
-returns : tie.Need-returns
-returns c = sym (break_none c.before.args.s.now c.if1.true)
+returns : tie.Need-returns-then-s-eq0
+returns c = sym (break_none c.before.args.s.now c.if-s-eq0.true)
 
-shared-slice-read-result : tie.Need-shared-slice-read-result
+shared-slice-read-result : tie.Need-bounds-s-0
 shared-slice-read-result c = search rules
 
-returns-2 : tie.Need-returns-2
+returns-2 : tie.Need-returns
 unfolding break_of_text
 returns-2 c = refl
 
-pub break-of-spec : {M : Type 1} → statement M
-break-of-spec = tie.close (tie.spec returns shared-slice-read-result returns-2)
+pub break_of_spec : {M : Type 1} → statement M
+break_of_spec = tie.close (tie.spec returns shared-slice-read-result returns-2)

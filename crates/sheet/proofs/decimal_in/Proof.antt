@@ -11,19 +11,19 @@ use Rattle.sheet.proofs.decimal_in.Lts as lts
 use Rattle.sheet.proofs.digits.Reads as digits-reads
 use Rattle.sheet.proofs.no_leading_zero.Reads as no-leading-zero-reads
 
-no-leading-zero-requires : tie.Need-no-leading-zero-requires
+no-leading-zero-requires : tie.Need-no_leading_zero-requires
 no-leading-zero-requires c κs = search rules
 
-returns : tie.Need-returns
+returns : tie.Need-returns-then-not-no_leading_zero
 unfolding decimal_or is_decimal
-returns c = (simp (← c.before.no-leading-zero.ensures, not-true c.before.no-leading-zero.result c.if1.true), omega arith)
+returns c = (simp (← c.before.no_leading_zero.ensures, c.if-not-no_leading_zero.true), omega arith)
 
 digits-requires : tie.Need-digits-requires
 digits-requires c κs = search rules
 
-returns-2 : tie.Need-returns-2
+returns-2 : tie.Need-returns
 unfolding decimal_or is_decimal
-returns-2 c = (simp (← c.before.before.no-leading-zero.ensures, not_false c.before.before.no-leading-zero.result c.before.if1.false) c.digits.ensures.0, c.digits.ensures.1)
+returns-2 c = (simp (← c.before.before.no_leading_zero.ensures, c.before.if-not-no_leading_zero.false) c.digits.ensures.0, c.digits.ensures.1)
 
-pub decimal-in-spec : {M : Type 1} → statement M
-decimal-in-spec = tie.close (tie.spec no-leading-zero-requires returns digits-requires returns-2)
+pub decimal_in_spec : {M : Type 1} → statement M
+decimal_in_spec = tie.close (tie.spec no-leading-zero-requires returns digits-requires returns-2)

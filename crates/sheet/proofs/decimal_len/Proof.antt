@@ -15,34 +15,34 @@ record So-far (n k m : ℕ) : Type 0 where
   small : m ≤ n
   count : k + length (decimal m) ≡ suc (length (decimal n))
 
-abbrev invariant-loop : tie.invariant-loop
+abbrev invariant-loop : tie.invariant-loop-m
 invariant-loop n k₀ m₀ k m = So-far n k m
 
-abbrev decreases-loop : tie.decreases-loop
+abbrev decreases-loop : tie.decreases-loop-m
 decreases-loop n k₀ m₀ k m = m
 
-loop-holds : tie.Need-loop-init invariant-loop decreases-loop
+loop-holds : tie.Need-loop-m-init invariant-loop decreases-loop
 loop-holds c = record { some = omega arith; small = omega arith; count = omega arith }
 
-add-k : tie.Need-overflow-add-k invariant-loop decreases-loop
-add-k c = omega (arith, c.before.loop.invariant.count, decimal_short c.before.before.args.n)
+add-k : tie.Need-overflow_add-k invariant-loop decreases-loop
+add-k c = omega (arith, c.before.loop-m.invariant.count, decimal_short c.before.before.args.n)
 
-loop-less : tie.Need-loop-smaller invariant-loop decreases-loop
+loop-less : tie.Need-loop-m-smaller invariant-loop decreases-loop
 loop-less c = omega arith
 
-loop-again : tie.Need-loop-preserved invariant-loop decreases-loop
+loop-again : tie.Need-loop-m-preserved invariant-loop decreases-loop
 loop-again c =
-    let l = c.before.loop in
-    let less = decimal-length l.m c.loop-test.true (omega (arith, l.invariant.small, c.before.before.ranges.n)) in
+    let l = c.before.loop-m in
+    let less = decimal-length l.m c.loop-m-test.true (omega (arith, l.invariant.small, c.before.before.ranges.n)) in
     record { some = omega arith; small = omega arith; count = omega (arith, less, l.invariant.count) }
 
 returns : tie.Need-returns invariant-loop decreases-loop
 returns c =
-    let l = c.before.loop in
+    let l = c.before.loop-m in
     let n = c.before.before.args.n in
-    let e : l.k ≡ length (decimal n) = omega (arith, l.invariant.count, ap length (decimal_one l.m c.loop-test.false)) in
+    let e : l.k ≡ length (decimal n) = omega (arith, l.invariant.count, ap length (decimal_one l.m c.loop-m-test.false)) in
     (e, (l.invariant.some, omega (arith, e, decimal_short n)))
 
-pub decimal-len-spec : {M : Type 1} → statement M
-decimal-len-spec =
+pub decimal_len_spec : {M : Type 1} → statement M
+decimal_len_spec =
     tie.close (tie.spec invariant-loop decreases-loop loop-holds add-k loop-less loop-again returns)

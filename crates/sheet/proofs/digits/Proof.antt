@@ -21,78 +21,78 @@ record So-far (s : List ℕ) (i n : ℕ) : Type 0 where
   value : value_from n (drop i s) ≡ value_from 0 s
   good : all_digits (drop i s) ≡ all_digits s
 
-abbrev invariant-loop : tie.invariant-loop
+abbrev invariant-loop : tie.invariant-loop-i
 invariant-loop s i₀ n₀ i n = So-far s i n
 
-abbrev decreases-loop : tie.decreases-loop
+abbrev decreases-loop : tie.decreases-loop-i
 decreases-loop s i₀ n₀ i n = length s - i
 
-loop-holds : tie.Need-loop-init invariant-loop decreases-loop
+loop-holds : tie.Need-loop-i-init invariant-loop decreases-loop
 loop-holds c = record { within = omega arith; small = omega arith; value = refl; good = refl }
 
-shared-slice-read-b : tie.Need-shared-slice-read-b invariant-loop decreases-loop
+shared-slice-read-b : tie.Need-bounds-s-i invariant-loop decreases-loop
 shared-slice-read-b c = search rules
 
-returns : tie.Need-returns invariant-loop decreases-loop
+returns : tie.Need-returns-then-b-lt48 invariant-loop decreases-loop
 returns c =
     let l = c.before.before.before in
     let s = l.before.args.s.now in
-    (not_digits s (sym l.loop.invariant.good ∙ digit_bad s l.loop.i c.before.before.loop-test.true (below 0x30 0x39 (get_or s l.loop.i 0) c.if1.true)), omega arith)
+    (not_digits s (sym l.loop-i.invariant.good ∙ digit_bad s l.loop-i.i c.before.before.loop-i-test.true (below 0x30 0x39 (get_or s l.loop-i.i 0) c.if-b-lt48.true)), omega arith)
 
-returns-2 : tie.Need-returns-2 invariant-loop decreases-loop
+returns-2 : tie.Need-returns-then-b-gt57 invariant-loop decreases-loop
 returns-2 c =
     let l = c.before.before.before.before in
     let s = l.before.args.s.now in
-    (not_digits s (sym l.loop.invariant.good ∙ digit_bad s l.loop.i c.before.before.before.loop-test.true (above 0x30 0x39 (get_or s l.loop.i 0) c.if2.true)), omega arith)
+    (not_digits s (sym l.loop-i.invariant.good ∙ digit_bad s l.loop-i.i c.before.before.before.loop-i-test.true (above 0x30 0x39 (get_or s l.loop-i.i 0) c.if-b-gt57.true)), omega arith)
 
-mul-n : tie.Need-overflow-mul-n invariant-loop decreases-loop
+mul-n : tie.Need-overflow_mul-n invariant-loop decreases-loop
 mul-n c = search rules
 
-cast-n : tie.Need-overflow-cast-n invariant-loop decreases-loop
+cast-n : tie.Need-overflow_cast-n invariant-loop decreases-loop
 cast-n c = search rules
 
-add-n : tie.Need-overflow-add-n invariant-loop decreases-loop
+add-n : tie.Need-overflow_add-n invariant-loop decreases-loop
 add-n c = search rules
 
-returns-3 : tie.Need-returns-3 invariant-loop decreases-loop
+returns-3 : tie.Need-returns-then-n-gt4294967295 invariant-loop decreases-loop
 returns-3 c =
     let l = c.before.before.before.before.before in
     let s = l.before.args.s.now in
-    let more = c.before.before.before.before.loop-test.true in
-    (not_small s (ap (λ (v : ℕ). leb v 4294967295) (sym l.loop.invariant.value ∙ value_next s l.loop.i more l.loop.n) ∙ value_big _ (drop (l.loop.i + 1) s) c.if3.true), omega arith)
+    let more = c.before.before.before.before.loop-i-test.true in
+    (not_small s (ap (λ (v : ℕ). leb v 4294967295) (sym l.loop-i.invariant.value ∙ value_next s l.loop-i.i more l.loop-i.n) ∙ value_big _ (drop (l.loop-i.i + 1) s) c.if-n-gt4294967295.true), omega arith)
 
-add-i : tie.Need-overflow-add-i invariant-loop decreases-loop
+add-i : tie.Need-overflow_add-i invariant-loop decreases-loop
 add-i c = search rules
 
-loop-less : tie.Need-loop-smaller invariant-loop decreases-loop
+loop-less : tie.Need-loop-i-smaller invariant-loop decreases-loop
 loop-less c = search rules
 
-loop-again : tie.Need-loop-preserved invariant-loop decreases-loop
+loop-again : tie.Need-loop-i-preserved invariant-loop decreases-loop
 loop-again c =
     let l = c.before.before.before.before.before in
     let s = l.before.args.s.now in
-    let more = c.before.before.before.before.loop-test.true in
-    let digit = in_span 0x30 0x39 (get_or s l.loop.i 0) c.before.before.if1.false c.before.if2.false in
+    let more = c.before.before.before.before.loop-i-test.true in
+    let digit = in_span 0x30 0x39 (get_or s l.loop-i.i 0) c.before.before.if-b-lt48.false c.before.if-b-gt57.false in
     record {
       within = omega (arith, more);
-      small = c.if3.false;
-      value = sym (value_next s l.loop.i more l.loop.n)
-          ∙ l.loop.invariant.value;
-      good = sym (digit_good s l.loop.i more digit) ∙ l.loop.invariant.good;
+      small = c.if-n-gt4294967295.false;
+      value = sym (value_next s l.loop-i.i more l.loop-i.n)
+          ∙ l.loop-i.invariant.value;
+      good = sym (digit_good s l.loop-i.i more digit) ∙ l.loop-i.invariant.good;
     }
 
-returns-4 : tie.Need-returns-4 invariant-loop decreases-loop
+returns-4 : tie.Need-returns invariant-loop decreases-loop
 returns-4 c =
     let l = c.before in
     let s = l.before.args.s.now in
-    let none = rest_none s l.loop.i c.loop-test.false in (
-      all_small s l.loop.n (sym (sym (ap all_digits none) ∙ l.loop.invariant.good)) (sym (ap (value_from l.loop.n) none) ∙ l.loop.invariant.value) l.loop.invariant.small,
+    let none = rest_none s l.loop-i.i c.loop-i-test.false in (
+      all_small s l.loop-i.n (sym (sym (ap all_digits none) ∙ l.loop-i.invariant.good)) (sym (ap (value_from l.loop-i.n) none) ∙ l.loop-i.invariant.value) l.loop-i.invariant.small,
       omega
-          (arith, l.loop.invariant.small),
+          (arith, l.loop-i.invariant.small),
     )
 
-pub digits-spec : {M : Type 1} → statement M
-digits-spec =
+pub digits_spec : {M : Type 1} → statement M
+digits_spec =
     tie.close
     (tie.spec
     invariant-loop

@@ -11,38 +11,38 @@ use Rattle.sheet.proofs.find.Tie as tie
 use Rattle.sheet.proofs.find.Reads as reads
 use Rattle.sheet.proofs.find.Lts as lts
 
-abbrev invariant-loop : tie.invariant-loop
+abbrev invariant-loop : tie.invariant-loop-i
 invariant-loop s at c i₀ i = (at ≤ i) × (i ≤ length s) × (i + length (up_to c (drop i s)) ≡ at + length (up_to c (drop at s)))
 
-abbrev decreases-loop : tie.decreases-loop
+abbrev decreases-loop : tie.decreases-loop-i
 decreases-loop s at c i₀ i = length s - i
 
-loop-holds : tie.Need-loop-init invariant-loop decreases-loop
+loop-holds : tie.Need-loop-i-init invariant-loop decreases-loop
 loop-holds c = search rules
 
-shared-slice-read-if1 : tie.Need-shared-slice-read-if1 invariant-loop decreases-loop
+shared-slice-read-if1 : tie.Need-bounds-s-i invariant-loop decreases-loop
 shared-slice-read-if1 c = search rules
 
-returns : tie.Need-returns invariant-loop decreases-loop
+returns : tie.Need-returns-then-s-i invariant-loop decreases-loop
 returns c = let l = c.before.before.before in let x = l.before.args in
-    (omega (arith, find_here x.c x.s.now l.loop.i c.before.before.loop-test.true c.if1.true, l.loop.invariant.2), (l.loop.invariant.0, l.loop.invariant.1))
+    (omega (arith, find_here x.c x.s.now l.loop-i.i c.before.before.loop-i-test.true c.if-s-i.true, l.loop-i.invariant.2), (l.loop-i.invariant.0, l.loop-i.invariant.1))
 
-add-i : tie.Need-overflow-add-i invariant-loop decreases-loop
+add-i : tie.Need-overflow_add-i invariant-loop decreases-loop
 add-i c = search rules
 
-loop-less : tie.Need-loop-smaller invariant-loop decreases-loop
+loop-less : tie.Need-loop-i-smaller invariant-loop decreases-loop
 loop-less c = search rules
 
-loop-again : tie.Need-loop-preserved invariant-loop decreases-loop
+loop-again : tie.Need-loop-i-preserved invariant-loop decreases-loop
 loop-again c = let l = c.before.before.before in let x = l.before.args in (
-  omega (arith, l.loop.invariant.0),
-  omega (arith, c.before.before.loop-test.true),
+  omega (arith, l.loop-i.invariant.0),
+  omega (arith, c.before.before.loop-i-test.true),
   omega
-      (arith, find_on x.c x.s.now l.loop.i c.before.before.loop-test.true c.if1.false, l.loop.invariant.2),
+      (arith, find_on x.c x.s.now l.loop-i.i c.before.before.loop-i-test.true c.if-s-i.false, l.loop-i.invariant.2),
 )
 
-returns-2 : tie.Need-returns-2 invariant-loop decreases-loop
-returns-2 c = let l = c.before in let x = l.before.args in (omega (arith, find_none x.c x.s.now l.loop.i c.loop-test.false, l.loop.invariant.2), (l.loop.invariant.0, l.loop.invariant.1))
+returns-2 : tie.Need-returns invariant-loop decreases-loop
+returns-2 c = let l = c.before in let x = l.before.args in (omega (arith, find_none x.c x.s.now l.loop-i.i c.loop-i-test.false, l.loop-i.invariant.2), (l.loop-i.invariant.0, l.loop-i.invariant.1))
 
 pub find_spec : {M : Type 1} → statement M
 find_spec =

@@ -12,21 +12,21 @@ use Rattle.sheet.proofs.first_field.Reads as reads
 use Rattle.sheet.proofs.first_field.Lts as lts
 use Rattle.sheet.proofs.find.Reads as find-reads
 
-find-requires : tie.Need-find-requires
+find-requires : tie.Need-find-e-requires
 find-requires c κs = search rules
 
-sub-result : tie.Need-overflow-sub-result
+sub-result : tie.Need-slice_bounds-result-count
 sub-result c = search rules
 
-part-result-start : tie.Need-slice-bounds-result-start
+part-result-start : tie.Need-slice_bounds-result-start
 part-result-start c = search rules
 
-part-result-end : tie.Need-slice-bounds-result-end
+part-result-end : tie.Need-slice_bounds-result-end
 part-result-end c = search rules
 
 returns : tie.Need-returns
-returns c = let s = c.before.before.before.args.s.now in let f = c.before.find in let e : f.result - 0 ≡ length (up_to 0x20 s) = omega (arith, f.ensures.0) in rw e (up_to_take 0x20 s)
+returns c = let s = c.before.before.before.args.s.now in let f = c.before.find-e in let e : f.result - 0 ≡ length (up_to 0x20 s) = omega (arith, f.ensures.0) in rw e (up_to_take 0x20 s)
 
-pub first-field-spec : {M : Type 1} → statement M
-first-field-spec =
+pub first_field_spec : {M : Type 1} → statement M
+first_field_spec =
     tie.close (tie.spec find-requires sub-result part-result-start part-result-end returns)

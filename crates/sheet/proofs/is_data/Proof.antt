@@ -9,19 +9,19 @@ use Rattle.sheet.proofs.is_data.Lts as lts
 use Rattle.sheet.proofs.is_dash.Reads as is-dash-reads
 use Rattle.sheet.proofs.is_pairs.Reads as is-pairs-reads
 
-is-dash-requires : tie.Need-is-dash-requires
+is-dash-requires : tie.Need-is_dash-requires
 is-dash-requires c κs = search rules
 
-returns : tie.Need-returns
+returns : tie.Need-returns-then-is_dash
 unfolding is_data_text
-returns c = simp (← c.before.is-dash.ensures, c.if1.true)
+returns c = simp (← c.before.is_dash.ensures, c.if-is_dash.true)
 
-is-pairs-requires : tie.Need-is-pairs-requires
+is-pairs-requires : tie.Need-is_pairs-requires
 is-pairs-requires c κs = search rules
 
-returns-2 : tie.Need-returns-2
+returns-2 : tie.Need-returns
 unfolding is_data_text
-returns-2 c = simp (← c.before.before.is-dash.ensures, c.before.if1.false) c.is-pairs.ensures
+returns-2 c = simp (← c.before.before.is_dash.ensures, c.before.if-is_dash.false) c.is_pairs.ensures
 
-pub is-data-spec : {M : Type 1} → statement M
-is-data-spec = tie.close (tie.spec is-dash-requires returns is-pairs-requires returns-2)
+pub is_data_spec : {M : Type 1} → statement M
+is_data_spec = tie.close (tie.spec is-dash-requires returns is-pairs-requires returns-2)

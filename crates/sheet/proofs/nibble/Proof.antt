@@ -9,28 +9,28 @@ use Rattle.sheet.proofs.nibble.Tie as tie
 use Rattle.sheet.proofs.nibble.Reads as reads
 use Rattle.sheet.proofs.nibble.Lts as lts
 
-returns : tie.Need-returns
+returns : tie.Need-returns-then-b-lt48
 unfolding nibble
-returns c = let b = c.before.args.b in (simp (below 0x30 0x39 b c.if1.true, below 0x61 0x66 b (omega (arith, c.if1.true))), omega arith)
+returns c = let b = c.before.args.b in (simp (below 0x30 0x39 b c.if-b-lt48.true, below 0x61 0x66 b (omega (arith, c.if-b-lt48.true))), omega arith)
 
-returns-2 : tie.Need-returns-2
+returns-2 : tie.Need-returns-then-b-le57
 unfolding nibble
-returns-2 c = let b = c.before.before.args.b in (simp (in_span 0x30 0x39 b c.before.if1.false c.if2.true), omega arith)
+returns-2 c = let b = c.before.before.args.b in (simp (in_span 0x30 0x39 b c.before.if-b-lt48.false c.if-b-le57.true), omega arith)
 
-returns-3 : tie.Need-returns-3
+returns-3 : tie.Need-returns-then-b-lt97
 unfolding nibble
-returns-3 c = let b = c.before.before.before.args.b in (simp (above 0x30 0x39 b c.before.if2.false, below 0x61 0x66 b c.if3.true), omega arith)
+returns-3 c = let b = c.before.before.before.args.b in (simp (above 0x30 0x39 b c.before.if-b-le57.false, below 0x61 0x66 b c.if-b-lt97.true), omega arith)
 
-returns-4 : tie.Need-returns-4
+returns-4 : tie.Need-returns-then-b-gt102
 unfolding nibble
-returns-4 c = let b = c.before.before.before.before.args.b in (simp (above 0x30 0x39 b c.before.before.if2.false, above 0x61 0x66 b c.if4.true), omega arith)
+returns-4 c = let b = c.before.before.before.before.args.b in (simp (above 0x30 0x39 b c.before.before.if-b-le57.false, above 0x61 0x66 b c.if-b-gt102.true), omega arith)
 
-sub-result : tie.Need-overflow-sub-result
+sub-result : tie.Need-overflow_sub-result-2
 sub-result c = search rules
 
-returns-5 : tie.Need-returns-5
+returns-5 : tie.Need-returns
 unfolding nibble
-returns-5 c = let b = c.before.before.before.before.args.b in (simp (above 0x30 0x39 b c.before.before.if2.false, in_span 0x61 0x66 b c.before.if3.false c.if4.false), omega arith)
+returns-5 c = let b = c.before.before.before.before.args.b in (simp (above 0x30 0x39 b c.before.before.if-b-le57.false, in_span 0x61 0x66 b c.before.if-b-lt97.false c.if-b-gt102.false), omega arith)
 
-pub nibble-spec : {M : Type 1} → statement M
-nibble-spec = tie.close (tie.spec returns returns-2 returns-3 returns-4 sub-result returns-5)
+pub nibble_spec : {M : Type 1} → statement M
+nibble_spec = tie.close (tie.spec returns returns-2 returns-3 returns-4 sub-result returns-5)

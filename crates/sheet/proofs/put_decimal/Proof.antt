@@ -53,65 +53,65 @@ module _ (at n : ℕ) (out₀ out : List ℕ) (i m : ℕ) (s : So-far at n out�
       store_before at (0x30 + m) s.done out out₀ (s.holds ∙ ap (λ (j : ℕ). over_at j s.done out₀) e) (omega (arith, e, inside))
       ∙ ap (λ (l : List ℕ). over_at at l out₀) (ap (λ (l : List ℕ). l ++ s.done) (sym d) ∙ s.whole)
 
-abbrev invariant-loop : tie.invariant-loop
+abbrev invariant-loop : tie.invariant-loop-m
 invariant-loop out₀ at n end i₀ m₀ out i m = So-far at n out₀ out i m
 
-abbrev decreases-loop : tie.decreases-loop
+abbrev decreases-loop : tie.decreases-loop-m
 decreases-loop out₀ at n end i₀ m₀ out i m = m
 
-decimal-len-requires : tie.Need-decimal-len-requires invariant-loop decreases-loop
+decimal-len-requires : tie.Need-decimal_len-requires invariant-loop decreases-loop
 decimal-len-requires c κs = search rules
 
-add-end : tie.Need-overflow-add-end invariant-loop decreases-loop
+add-end : tie.Need-overflow_add-end invariant-loop decreases-loop
 add-end c = search rules
 
-loop-holds : tie.Need-loop-init invariant-loop decreases-loop
+loop-holds : tie.Need-loop-m-init invariant-loop decreases-loop
 loop-holds c = record { done = []; holds = sym (over_none _ _); whole = append-nil _; place = search rules; small = omega arith; long = search rules }
 
-sub-i : tie.Need-overflow-sub-i invariant-loop decreases-loop
+sub-i : tie.Need-overflow_sub-i invariant-loop decreases-loop
 sub-i c =
     let a = c.before.before.before.before in
-    some _ _ _ _ _ _ c.before.loop.invariant a.requires c.loop-test.true (omega (arith, a.ranges.n))
+    some _ _ _ _ _ _ c.before.loop-m.invariant a.requires c.loop-m-test.true (omega (arith, a.ranges.n))
 
-cast-out : tie.Need-overflow-cast-out invariant-loop decreases-loop
+cast-out : tie.Need-overflow_cast-out invariant-loop decreases-loop
 cast-out c = search rules
 
-add-out : tie.Need-overflow-add-out invariant-loop decreases-loop
+add-out : tie.Need-overflow_add-out invariant-loop decreases-loop
 add-out c = search rules
 
-slice-write-out : tie.Need-slice-write-out invariant-loop decreases-loop
+slice-write-out : tie.Need-bounds-out-i invariant-loop decreases-loop
 slice-write-out c =
     let a = c.before.before.before.before in
-    let s = c.before.loop.invariant in
-    omega (arith, some _ _ _ _ _ _ s a.requires c.loop-test.true (omega (arith, a.ranges.n)), inside _ _ _ _ _ _ s a.requires, s.long)
+    let s = c.before.loop-m.invariant in
+    omega (arith, some _ _ _ _ _ _ s a.requires c.loop-m-test.true (omega (arith, a.ranges.n)), inside _ _ _ _ _ _ s a.requires, s.long)
 
-loop-less : tie.Need-loop-smaller invariant-loop decreases-loop
+loop-less : tie.Need-loop-m-smaller invariant-loop decreases-loop
 loop-less c = search rules
 
-loop-again : tie.Need-loop-preserved invariant-loop decreases-loop
+loop-again : tie.Need-loop-m-preserved invariant-loop decreases-loop
 loop-again c =
     let a = c.before.before.before.before in
-    step _ _ _ _ _ _ c.before.loop.invariant a.requires c.loop-test.true (omega (arith, a.ranges.n))
+    step _ _ _ _ _ _ c.before.loop-m.invariant a.requires c.loop-m-test.true (omega (arith, a.ranges.n))
 
-cast-out-2 : tie.Need-overflow-cast-out-2 invariant-loop decreases-loop
+cast-out-2 : tie.Need-overflow_cast-out-2 invariant-loop decreases-loop
 cast-out-2 c = search rules
 
-add-out-2 : tie.Need-overflow-add-out-2 invariant-loop decreases-loop
+add-out-2 : tie.Need-overflow_add-out-2 invariant-loop decreases-loop
 add-out-2 c = search rules
 
-slice-write-out-2 : tie.Need-slice-write-out-2 invariant-loop decreases-loop
+slice-write-out-2 : tie.Need-bounds-out-at invariant-loop decreases-loop
 slice-write-out-2 c = search rules
 
-same_length : tie.Need-same-length invariant-loop decreases-loop
+same_length : tie.Need-shape_of-out invariant-loop decreases-loop
 same_length c = search rules
 
 returns : tie.Need-returns invariant-loop decreases-loop
 returns c =
     let a = c.before.before.before.before in
-    (search rules, last _ _ _ _ _ _ c.before.loop.invariant a.requires c.loop-test.false)
+    (search rules, last _ _ _ _ _ _ c.before.loop-m.invariant a.requires c.loop-m-test.false)
 
-pub put-decimal-spec : {M : Type 1} → statement M
-put-decimal-spec =
+pub put_decimal_spec : {M : Type 1} → statement M
+put_decimal_spec =
     tie.close
     (tie.spec
     invariant-loop

@@ -22,71 +22,71 @@ record So-far (s out₀ : List ℕ) (n : ℕ) (out : List ℕ) (k : ℕ) : Type 
   long : length out ≡ length out₀
   holds : out ≡ take k (from_pairs s) ++ drop k out₀
 
-abbrev invariant-loop : tie.invariant-loop
+abbrev invariant-loop : tie.invariant-loop-k
 invariant-loop s out₀ n k₀ out k = So-far s out₀ n out k
 
-abbrev decreases-loop : tie.decreases-loop
+abbrev decreases-loop : tie.decreases-loop-k
 decreases-loop s out₀ n k₀ out k = n - k
 
-loop-holds : tie.Need-loop-init invariant-loop decreases-loop
+loop-holds : tie.Need-loop-k-init invariant-loop decreases-loop
 loop-holds c = record { count = refl; within = omega arith; room = search rules; long = refl; holds = refl }
 
-mul-nibble : tie.Need-overflow-mul-nibble invariant-loop decreases-loop
+mul-nibble : tie.Need-overflow_mul-k invariant-loop decreases-loop
 mul-nibble c = search rules
 
-shared-slice-read-nibble : tie.Need-shared-slice-read-nibble invariant-loop decreases-loop
+shared-slice-read-nibble : tie.Need-bounds-s-k invariant-loop decreases-loop
 shared-slice-read-nibble c = search rules
 
 nibble-requires : tie.Need-nibble-requires invariant-loop decreases-loop
 nibble-requires c κs = search rules
 
-mul-out : tie.Need-overflow-mul-out invariant-loop decreases-loop
+mul-out : tie.Need-overflow_mul-out invariant-loop decreases-loop
 mul-out c = search rules
 
-mul-nibble-2 : tie.Need-overflow-mul-nibble-2 invariant-loop decreases-loop
+mul-nibble-2 : tie.Need-overflow_mul-k-in-loop-k invariant-loop decreases-loop
 mul-nibble-2 c = search rules
 
-add-nibble : tie.Need-overflow-add-nibble invariant-loop decreases-loop
+add-nibble : tie.Need-overflow_add-k invariant-loop decreases-loop
 add-nibble c = search rules
 
-shared-slice-read-nibble-2 : tie.Need-shared-slice-read-nibble-2 invariant-loop decreases-loop
+shared-slice-read-nibble-2 : tie.Need-bounds-s-k-in-loop-k invariant-loop decreases-loop
 shared-slice-read-nibble-2 c = search rules
 
-nibble-requires-2 : tie.Need-nibble-requires-2 invariant-loop decreases-loop
+nibble-requires-2 : tie.Need-nibble-requires-in-loop-k invariant-loop decreases-loop
 nibble-requires-2 c κs = search rules
 
-add-out : tie.Need-overflow-add-out invariant-loop decreases-loop
+add-out : tie.Need-overflow_add-out invariant-loop decreases-loop
 add-out c = search rules
 
-slice-write-out : tie.Need-slice-write-out invariant-loop decreases-loop
+slice-write-out : tie.Need-bounds-out-k invariant-loop decreases-loop
 slice-write-out c = search rules
 
-add-k : tie.Need-overflow-add-k invariant-loop decreases-loop
+add-k : tie.Need-overflow_add-k-in-loop-k invariant-loop decreases-loop
 add-k c = search rules
 
-loop-less : tie.Need-loop-smaller invariant-loop decreases-loop
+loop-less : tie.Need-loop-k-smaller invariant-loop decreases-loop
 loop-less c = search rules
 
-loop-again : tie.Need-loop-preserved invariant-loop decreases-loop
+loop-again : tie.Need-loop-k-preserved invariant-loop decreases-loop
 loop-again c =
     let l = c.before.before.before.before.before in
     let x = l.before.before.before.args in
     let s = x.s.now in
-    let i = l.loop.invariant in
-    let k = l.loop.k in
-    let more = c.before.before.before.before.loop-test.true in
-    let v : c.before.before.nibble.result * 16 + c.nibble2.result ≡ get_or (from_pairs s) k 0 =
-    rw (c.before.before.nibble.ensures.0, c.nibble2.ensures.0) (sym (pair_at s k (omega (arith, more, i.count)))) in
+    let i = l.loop-k.invariant in
+    let k = l.loop-k.k in
+    let more = c.before.before.before.before.loop-k-test.true in
+    let v : c.before.before.nibble.result * 16 + c.nibble-in-loop-k.result ≡ get_or (from_pairs s) k 0 =
+    rw (c.before.before.nibble.ensures.0, c.nibble-in-loop-k.ensures.0) (sym (pair_at s k (omega (arith, more, i.count)))) in
     let stored = store_next (from_pairs s) x.out.now k (omega (arith, length_pairs s, more, i.count)) (omega (arith, more, i.room)) in
     record {
       count = i.count;
       within = omega (arith, more);
       room = i.room;
       long = search rules;
-      holds = ap (λ (o : List ℕ). set o k (c.before.before.nibble.result * 16 + c.nibble2.result)) i.holds ∙ ap (set (take k (from_pairs s) ++ drop k x.out.now) k) v ∙ stored;
+      holds = ap (λ (o : List ℕ). set o k (c.before.before.nibble.result * 16 + c.nibble-in-loop-k.result)) i.holds ∙ ap (set (take k (from_pairs s) ++ drop k x.out.now) k) v ∙ stored;
     }
 
-same_length : tie.Need-same-length invariant-loop decreases-loop
+same_length : tie.Need-shape_of-out invariant-loop decreases-loop
 same_length c = search rules
 
 returns : tie.Need-returns invariant-loop decreases-loop
@@ -95,13 +95,13 @@ returns c =
     let l = c.before in
     let x = l.before.before.before.args in
     let s = x.s.now in
-    let i = l.loop.invariant in
+    let i = l.loop-k.invariant in
     let p = from_pairs s in
-    let e : l.loop.k ≡ length p = omega (arith, i.within, i.count, length_pairs s, c.loop-test.false) in
+    let e : l.loop-k.k ≡ length p = omega (arith, i.within, i.count, length_pairs s, c.loop-k-test.false) in
     ((omega (arith, length_pairs s), refl), i.holds ∙ ap (λ (j : ℕ). take j p ++ drop j x.out.now) e ∙ ap (λ (q : List ℕ). q ++ drop (length p) x.out.now) (take-length p))
 
-pub unhex-spec : {M : Type 1} → statement M
-unhex-spec =
+pub unhex_spec : {M : Type 1} → statement M
+unhex_spec =
     tie.close
     (tie.spec
     invariant-loop

@@ -11,78 +11,78 @@ use Rattle.tabs.proofs.expanded_len.Lts as lts
 use Rattle.tabs.proofs.next_tab.Reads as next-tab-reads
 use Rattle.tabs.proofs.spaces_at.Reads as spaces-at-reads
 
-abbrev invariant-loop : tie.invariant-loop
+abbrev invariant-loop : tie.invariant-loop-p
 invariant-loop t content stop size₀ p₀ size p = Measured stop content size p
 
-abbrev decreases-loop : tie.decreases-loop
+abbrev decreases-loop : tie.decreases-loop-p
 decreases-loop t content stop size₀ p₀ size p = length content - p.at
 
 -- at the loop's head: where the function started
-abbrev start : tie.At-loop invariant-loop decreases-loop → tie.Start invariant-loop decreases-loop
+abbrev start : tie.At-loop-p invariant-loop decreases-loop → tie.Start invariant-loop decreases-loop
 start c = c.before.before.before
 
-next-tab-requires : tie.Need-next-tab-requires invariant-loop decreases-loop
+next-tab-requires : tie.Need-next_tab-p-requires invariant-loop decreases-loop
 next-tab-requires c κs =
     let p = c.before.requires in
     (p.0, (omega arith, p.1.2, omega arith))
 
-loop-holds : tie.Need-loop-init invariant-loop decreases-loop
+loop-holds : tie.Need-loop-p-init invariant-loop decreases-loop
 loop-holds c =
     let s = c.before.before in
-    measured_first s.args.stop s.requires.1.0 s.requires.1.1 s.args.content.now c.next-tab.result s.requires.1.2 c.next-tab.ensures
+    measured_first s.args.stop s.requires.1.0 s.requires.1.1 s.args.content.now c.next_tab-p.result s.requires.1.2 c.next_tab-p.ensures
 
-spaces-at-requires : tie.Need-spaces-at-requires invariant-loop decreases-loop
-spaces-at-requires c κs = (start c.before.before).pre.1.0
+spaces-at-requires : tie.Need-spaces_at-n-requires invariant-loop decreases-loop
+spaces-at-requires c κs = (start c.before.before).requires.1.0
 
-sub-size : tie.Need-overflow-sub-size invariant-loop decreases-loop
-sub-size c = omega (arith, c.spaces-at.ensures.1)
+sub-size : tie.Need-overflow_sub-size invariant-loop decreases-loop
+sub-size c = omega (arith, c.spaces_at-n.ensures.1)
 
-cast-size : tie.Need-overflow-cast-size invariant-loop decreases-loop
+cast-size : tie.Need-overflow_cast-size invariant-loop decreases-loop
 cast-size c = search rules
 
-add-size : tie.Need-overflow-add-size invariant-loop decreases-loop
-add-size c = omega (arith, c.before.before.before.loop.invariant.small, c.spaces-at.ensures.2, (start c.before.before.before).pre.1.1)
+add-size : tie.Need-overflow_add-size invariant-loop decreases-loop
+add-size c = omega (arith, c.before.before.before.loop-p.invariant.small, c.spaces_at-n.ensures.2, (start c.before.before.before).requires.1.1)
 
-returns : tie.Need-returns invariant-loop decreases-loop
+returns : tie.Need-returns-then-size-gt1048576 invariant-loop decreases-loop
 returns c =
     let l = c.before.before.before.before in
     let s = start l in
-    measured_over s.args.stop s.pre.1.0 s.pre.1.1 s.args.content.now l.loop.size l.loop.p l.loop.invariant (omega (arith, c.before.before.if1.true))
-    c.before.spaces-at.result c.before.spaces-at.ensures.0 (omega (arith, c.if2.true))
+    measured_over s.args.stop s.requires.1.0 s.requires.1.1 s.args.content.now l.loop-p.size l.loop-p.p l.loop-p.invariant (omega (arith, c.before.before.loop-p-test.true))
+    c.before.spaces_at-n.result c.before.spaces_at-n.ensures.0 (omega (arith, c.if-size-gt1048576.true))
 
-add-next-tab : tie.Need-overflow-add-next-tab invariant-loop decreases-loop
-add-next-tab c = omega (arith, c.before.before.before.before.before.loop.invariant.here.within, (start c.before.before.before.before.before).pre.1.2)
+add-next-tab : tie.Need-overflow_add-p invariant-loop decreases-loop
+add-next-tab c = omega (arith, c.before.before.before.before.before.loop-p.invariant.here.within, (start c.before.before.before.before.before).requires.1.2)
 
-add-next-tab-2 : tie.Need-overflow-add-next-tab-2 invariant-loop decreases-loop
+add-next-tab-2 : tie.Need-overflow_add-p-in-loop-p invariant-loop decreases-loop
 add-next-tab-2 c =
     let l = c.before.before.before.before.before.before in
     let s = start l in
-    omega (arith, l.loop.invariant.here.within, l.loop.invariant.here.bounded, s.pre.1.1, s.pre.1.2, c.before.before.before.spaces-at.ensures.2)
+    omega (arith, l.loop-p.invariant.here.within, l.loop-p.invariant.here.bounded, s.requires.1.1, s.requires.1.2, c.before.before.before.spaces_at-n.ensures.2)
 
-next-tab-requires-2 : tie.Need-next-tab-requires-2 invariant-loop decreases-loop
+next-tab-requires-2 : tie.Need-next_tab-p-requires-in-loop-p invariant-loop decreases-loop
 next-tab-requires-2 c κs =
     let l = c.before.before.before.before.before.before in
     let s = start l in
-    (s.pre.0, (omega (arith, c.before.before.before.before.if1.true), s.pre.1.2, omega (arith, l.loop.invariant.here.bounded, s.pre.1.1, c.before.before.before.spaces-at.ensures.2)))
+    (s.requires.0, (omega (arith, c.before.before.before.before.loop-p-test.true), s.requires.1.2, omega (arith, l.loop-p.invariant.here.bounded, s.requires.1.1, c.before.before.before.spaces_at-n.ensures.2)))
 
-loop-less : tie.Need-loop-smaller invariant-loop decreases-loop
-loop-less c = omega (arith, c.next-tab2.ensures.onward.forward, c.before.before.before.before.before.if1.true)
+loop-less : tie.Need-loop-p-smaller invariant-loop decreases-loop
+loop-less c = omega (arith, c.next_tab-p-in-loop-p.ensures.onward.forward, c.before.before.before.before.before.loop-p-test.true)
 
-loop-again : tie.Need-loop-preserved invariant-loop decreases-loop
+loop-again : tie.Need-loop-p-preserved invariant-loop decreases-loop
 loop-again c =
     let l = c.before.before.before.before.before.before.before in
     let s = start l in
-    measured_next s.args.stop s.pre.1.0 s.pre.1.1 s.args.content.now l.loop.size l.loop.p l.loop.invariant (omega (arith, c.before.before.before.before.before.if1.true))
-    c.before.before.before.before.spaces-at.result c.before.before.before.before.spaces-at.ensures.0 c.next-tab2.result c.next-tab2.ensures (omega (arith, c.before.before.before.if2.false))
+    measured_next s.args.stop s.requires.1.0 s.requires.1.1 s.args.content.now l.loop-p.size l.loop-p.p l.loop-p.invariant (omega (arith, c.before.before.before.before.before.loop-p-test.true))
+    c.before.before.before.before.spaces_at-n.result c.before.before.before.before.spaces_at-n.ensures.0 c.next_tab-p-in-loop-p.result c.next_tab-p-in-loop-p.ensures (omega (arith, c.before.before.before.if-size-gt1048576.false))
 
-returns-2 : tie.Need-returns-2 invariant-loop decreases-loop
+returns-2 : tie.Need-returns invariant-loop decreases-loop
 returns-2 c =
     let l = c.before.before in
     let s = start l in
-    measured_end s.args.stop s.pre.1.0 s.pre.1.1 s.args.content.now l.loop.size l.loop.p l.loop.invariant (omega (arith, c.if1.false))
+    measured_end s.args.stop s.requires.1.0 s.requires.1.1 s.args.content.now l.loop-p.size l.loop-p.p l.loop-p.invariant (omega (arith, c.loop-p-test.false))
 
-pub expanded-len-spec : {M : Type 1} → statement M
-expanded-len-spec =
+pub expanded_len_spec : {M : Type 1} → statement M
+expanded_len_spec =
     tie.close
     (tie.spec
     invariant-loop

@@ -5,11 +5,11 @@ use Rattle.tabs.proofs.one_tab.Tie as tie
 use Rattle.tabs.proofs.one_tab.Reads as reads
 use Rattle.tabs.proofs.one_tab.Lts as lts
 
-returns : tie.Need-returns
-returns c = rw (eq-eqb _ 0x09 c.if1.true)
+returns : tie.Need-returns-then-b-eq9
+returns c = rw (eq-eqb _ 0x09 c.if-b-eq9.true)
 
-returns-2 : tie.Need-returns-2
-returns-2 c = rw (ne_eqb _ 0x09 c.if1.false)
+returns-2 : tie.Need-returns
+returns-2 c = rw (ne_eqb _ 0x09 c.if-b-eq9.false)
 
-pub one-tab-spec : {M : Type 1} → statement M
-one-tab-spec = tie.close (tie.spec returns returns-2)
+pub one_tab_spec : {M : Type 1} → statement M
+one_tab_spec = tie.close (tie.spec returns returns-2)

@@ -10,50 +10,50 @@ use Rattle.tabs.proofs.pass_printable.Tie as tie
 use Rattle.tabs.proofs.pass_printable.Reads as reads
 use Rattle.tabs.proofs.pass_printable.Lts as lts
 
-abbrev invariant-loop : tie.invariant-loop
+abbrev invariant-loop : tie.invariant-loop-i
 invariant-loop s from column i₀ i = Onward s from column (place i (column + (i - from)))
 
-abbrev decreases-loop : tie.decreases-loop
+abbrev decreases-loop : tie.decreases-loop-i
 decreases-loop s from column i₀ i = length s - i
 
-loop-holds : tie.Need-loop-init invariant-loop decreases-loop
+loop-holds : tie.Need-loop-i-init invariant-loop decreases-loop
 loop-holds c =
     let a = c.args in
     subst (λ (w : ℕ). Onward a.s.now a.from a.column (place a.from w)) (omega arith) (onward_start a.s.now a.from a.column c.requires.0 c.requires.2)
 
-shared-slice-read-if1 : tie.Need-shared-slice-read-if1 invariant-loop decreases-loop
-shared-slice-read-if1 c = omega (arith, c.before.loop-test)
+shared-slice-read-if1 : tie.Need-bounds-s-i invariant-loop decreases-loop
+shared-slice-read-if1 c = omega (arith, c.before.loop-i-test)
 
-shared-slice-read-if2 : tie.Need-shared-slice-read-if2 invariant-loop decreases-loop
-shared-slice-read-if2 c = omega (arith, c.before.before.before.loop-test)
+shared-slice-read-if2 : tie.Need-bounds-s-i-in-loop-i invariant-loop decreases-loop
+shared-slice-read-if2 c = omega (arith, c.before.before.before.loop-i-test)
 
-add-i : tie.Need-overflow-add-i invariant-loop decreases-loop
-add-i c = omega (arith, c.before.before.before.before.loop-test, c.before.before.before.before.before.before.requires.1)
+add-i : tie.Need-overflow_add-i invariant-loop decreases-loop
+add-i c = omega (arith, c.before.before.before.before.loop-i-test, c.before.before.before.before.before.before.requires.1)
 
-loop-less : tie.Need-loop-smaller invariant-loop decreases-loop
-loop-less c = omega (arith, c.before.before.before.before.loop-test)
+loop-less : tie.Need-loop-i-smaller invariant-loop decreases-loop
+loop-less c = omega (arith, c.before.before.before.before.loop-i-test)
 
-loop-again : tie.Need-loop-preserved invariant-loop decreases-loop
+loop-again : tie.Need-loop-i-preserved invariant-loop decreases-loop
 loop-again c =
     let l = c.before.before.before.before.before in
     let a = l.before.args in
-    let more : l.loop.i < length a.s.now = omega (arith, c.before.before.before.before.loop-test) in
-    printable_passed a.s.now a.from a.column l.loop.i more (omega (arith, c.before.before.if1.false)) (omega (arith, c.if2.false)) l.loop.invariant
+    let more : l.loop-i.i < length a.s.now = omega (arith, c.before.before.before.before.loop-i-test) in
+    printable_passed a.s.now a.from a.column l.loop-i.i more (omega (arith, c.before.before.if-s-i-lt32.false)) (omega (arith, c.if-s-i-ge127.false)) l.loop-i.invariant
 
-sub-t10 : tie.Need-overflow-sub-t10 invariant-loop decreases-loop
-sub-t10 c = c.before.loop.invariant.forward
+sub-t10 : tie.Need-overflow_sub-result invariant-loop decreases-loop
+sub-t10 c = c.before.loop-i.invariant.forward
 
-cast-t11 : tie.Need-overflow-cast-t11 invariant-loop decreases-loop
-cast-t11 c = omega (arith, c.before.loop.invariant.within, c.before.before.requires.1)
+cast-t11 : tie.Need-overflow_cast-result invariant-loop decreases-loop
+cast-t11 c = omega (arith, c.before.loop-i.invariant.within, c.before.before.requires.1)
 
-add-t12 : tie.Need-overflow-add-t12 invariant-loop decreases-loop
-add-t12 c = omega (arith, c.before.loop.invariant.bounded, c.before.loop.invariant.within, c.before.before.requires.1)
+add-t12 : tie.Need-overflow_add-result invariant-loop decreases-loop
+add-t12 c = omega (arith, c.before.loop-i.invariant.bounded, c.before.loop-i.invariant.within, c.before.before.requires.1)
 
 returns : tie.Need-returns invariant-loop decreases-loop
-returns c = c.before.loop.invariant
+returns c = c.before.loop-i.invariant
 
-pub pass-printable-spec : {M : Type 1} → statement M
-pass-printable-spec =
+pub pass_printable_spec : {M : Type 1} → statement M
+pass_printable_spec =
     tie.close
     (tie.spec
     invariant-loop

@@ -20,63 +20,63 @@ use Rattle.tabs.proofs.tab_count.Reads as tab-count-reads
 use Rattle.writer.proofs.settle.Reads as settle-reads
 
 -- where the function started, and the product that it takes
-abbrev start : tie.After-tab-count → tie.Start
+abbrev start : tie.After-tab_count → tie.Start
 start c = c.before.before
 
-product : (c : tie.After-tab-count) → c.tab-count.result * ((start c).args.stop - 1) ≤ 66060288
+product : (c : tie.After-tab_count) → c.tab_count.result * ((start c).args.stop - 1) ≤ 66060288
 product c =
     let s = start c in
-    most_small s.args.stop s.pre.1.0 s.pre.1.1 s.args.content.now c.tab-count.result (omega (arith, c.tab-count.ensures.1, s.pre.1.2))
+    most_small s.args.stop s.requires.1.0 s.requires.1.1 s.args.content.now c.tab_count.result (omega (arith, c.tab_count.ensures.1, s.requires.1.2))
 
-tab-count-requires : tie.Need-tab-count-requires
+tab-count-requires : tie.Need-tab_count-requires
 tab-count-requires c κs = search rules
 
-sub-most : tie.Need-overflow-sub-most
+sub-most : tie.Need-overflow_sub-most
 sub-most c = search rules
 
-cast-most : tie.Need-overflow-cast-most
+cast-most : tie.Need-overflow_cast-most
 cast-most c = search rules
 
-mul_most : tie.Need-overflow-mul-most
+mul_most : tie.Need-overflow_mul-most
 mul_most c = omega (arith, product c)
 
-add_most : tie.Need-overflow-add-most
+add_most : tie.Need-overflow_add-most
 add_most c = omega (arith, product c, (start c).requires.1.2)
 
-settle-requires : tie.Need-settle-requires
+settle-requires : tie.Need-settle-verdict-requires
 settle-requires c κs = search rules
 
-enum_told : tie.Need-enum-told
+enum_told : tie.Need-enum_told-1
 enum_told c = search rules
 
-returns : tie.Need-returns
+returns : tie.Need-returns-in-Room
 unfolding settled_fault
 returns c =
     let k = c.before.before.before in
     let s = start k in
     let a = s.args in
-    let h = sym c.before.before.settle.ensures ∙ ap settled_fault c.enum_told.given.1 in
-    let most = size_most a.stop s.pre.1.0 s.pre.1.1 a.content.now in
+    let h = sym c.before.before.settle-verdict.ensures ∙ ap settled_fault c.enum_told-1.given.1 in
+    let most = size_most a.stop s.requires.1.0 s.requires.1.1 a.content.now in
     sym (smaller_fits (length (edit_data (tab_ops a.stop 0 (chars a.content.now)) a.content.now)) _ a.e a.size 0 0 (room_of_state a.bytes a.numbers a.texts 0) h
-    (rw (← k.tab-count.ensures.0) at most) (omega arith))
+    (rw (← k.tab_count.ensures.0) at most) (omega arith))
 
-enum-known-verdict : tie.Need-enum-known-verdict
+enum-known-verdict : tie.Need-enum_known-verdict
 enum-known-verdict c = search rules
 
-expanded-len-requires : tie.Need-expanded-len-requires
+expanded-len-requires : tie.Need-expanded_len-d-requires
 expanded-len-requires c κs = search rules
 
-settle-requires-2 : tie.Need-settle-requires-2
+settle-requires-2 : tie.Need-settle-requires
 settle-requires-2 c κs = search rules
 
-returns-2 : tie.Need-returns-2
+returns-2 : tie.Need-returns
 returns-2 c =
     let a = c.before.before.before.before.before.before.before.before.args in
-    c.settle2.ensures ∙ ap (λ (m : ℕ). sizes_fault m a.e a.size 0 (room_of_state a.bytes a.numbers a.texts 0)) c.before.expanded-len.ensures
+    c.settle.ensures ∙ ap (λ (m : ℕ). sizes_fault m a.e a.size 0 (room_of_state a.bytes a.numbers a.texts 0)) c.before.expanded_len-d.ensures
     ∙ capped_fault (length (edit_data (tab_ops a.stop 0 (chars a.content.now)) a.content.now)) a.e a.size 0 (room_of_state a.bytes a.numbers a.texts 0)
 
-pub settle-expanded-spec : {M : Type 1} → statement M
-settle-expanded-spec =
+pub settle_expanded_spec : {M : Type 1} → statement M
+settle_expanded_spec =
     tie.close
     (tie.spec
     tab-count-requires

@@ -9,14 +9,14 @@ use Rattle.tabs.proofs.spaces_at.Tie as tie
 use Rattle.tabs.proofs.spaces_at.Reads as reads
 use Rattle.tabs.proofs.spaces_at.Lts as lts
 
-rem-result : tie.Need-nonzero-rem-result
+rem-result : tie.Need-nonzero_rem-result
 rem-result c = search rules
 
-sub-result : tie.Need-overflow-sub-result
+sub-result : tie.Need-overflow_sub-result
 sub-result c = omega (arith, mod-lt c.args.column c.requires)
 
 returns : tie.Need-returns
 returns c = let b = some_spaces c.args.stop c.args.column c.requires in (refl, b.0, b.1)
 
-pub spaces-at-spec : {M : Type 1} → statement M
-spaces-at-spec = tie.close (tie.spec rem-result sub-result returns)
+pub spaces_at_spec : {M : Type 1} → statement M
+spaces_at_spec = tie.close (tie.spec rem-result sub-result returns)

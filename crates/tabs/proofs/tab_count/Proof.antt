@@ -12,48 +12,48 @@ use Rattle.tabs.proofs.tab_count.Reads as reads
 use Rattle.tabs.proofs.tab_count.Lts as lts
 use Rattle.tabs.proofs.one_tab.Reads as one-tab-reads
 
-abbrev invariant-loop : tie.invariant-loop
+abbrev invariant-loop : tie.invariant-loop-i
 invariant-loop s n₀ i₀ n i = (i ≤ length s) × (n ≤ i) × (n + tab_count_of (drop i s) ≡ tab_count_of s)
 
-abbrev decreases-loop : tie.decreases-loop
+abbrev decreases-loop : tie.decreases-loop-i
 decreases-loop s n₀ i₀ n i = length s - i
 
-loop-holds : tie.Need-loop-init invariant-loop decreases-loop
+loop-holds : tie.Need-loop-i-init invariant-loop decreases-loop
 loop-holds c = search rules
 
-shared-slice-read-one-tab : tie.Need-shared-slice-read-one-tab invariant-loop decreases-loop
+shared-slice-read-one-tab : tie.Need-bounds-s-i invariant-loop decreases-loop
 shared-slice-read-one-tab c = search rules
 
-one-tab-requires : tie.Need-one-tab-requires invariant-loop decreases-loop
+one-tab-requires : tie.Need-one_tab-n-requires invariant-loop decreases-loop
 one-tab-requires c κs = search rules
 
-add-n : tie.Need-overflow-add-n invariant-loop decreases-loop
+add-n : tie.Need-overflow_add-n invariant-loop decreases-loop
 add-n c =
     let l = c.before.before.before in
     let s = l.before.before in
-    let k = count_next s.args.s.now l.loop.i (omega (arith, c.before.before.loop-test)) in
-    omega (arith, l.loop.invariant.0, l.loop.invariant.1, c.one-tab.ensures, k.1, s.well-formed)
+    let k = count_next s.args.s.now l.loop-i.i (omega (arith, c.before.before.loop-i-test)) in
+    omega (arith, l.loop-i.invariant.0, l.loop-i.invariant.1, c.one_tab-n.ensures, k.1, s.well_formed)
 
-add-i : tie.Need-overflow-add-i invariant-loop decreases-loop
+add-i : tie.Need-overflow_add-i invariant-loop decreases-loop
 add-i c = search rules
 
-loop-less : tie.Need-loop-smaller invariant-loop decreases-loop
+loop-less : tie.Need-loop-i-smaller invariant-loop decreases-loop
 loop-less c = search rules
 
-loop-again : tie.Need-loop-preserved invariant-loop decreases-loop
+loop-again : tie.Need-loop-i-preserved invariant-loop decreases-loop
 loop-again c =
     let l = c.before.before.before in
-    let k = count_next l.before.before.args.s.now l.loop.i (omega (arith, c.before.before.loop-test)) in
-    (omega (arith, c.before.before.loop-test), omega (arith, l.loop.invariant.1, k.1, c.one-tab.ensures), omega (arith, l.loop.invariant.2, k.0, c.one-tab.ensures))
+    let k = count_next l.before.before.args.s.now l.loop-i.i (omega (arith, c.before.before.loop-i-test)) in
+    (omega (arith, c.before.before.loop-i-test), omega (arith, l.loop-i.invariant.1, k.1, c.one_tab-n.ensures), omega (arith, l.loop-i.invariant.2, k.0, c.one_tab-n.ensures))
 
 returns : tie.Need-returns invariant-loop decreases-loop
 returns c =
     let l = c.before in
-    let z = count_end c.before.before.before.args.s.now l.loop.i (omega (arith, c.loop-test.false)) in
-    (omega (arith, l.loop.invariant.2, z), omega (arith, l.loop.invariant.0, l.loop.invariant.1))
+    let z = count_end c.before.before.before.args.s.now l.loop-i.i (omega (arith, c.loop-i-test.false)) in
+    (omega (arith, l.loop-i.invariant.2, z), omega (arith, l.loop-i.invariant.0, l.loop-i.invariant.1))
 
-pub tab-count-spec : {M : Type 1} → statement M
-tab-count-spec =
+pub tab_count_spec : {M : Type 1} → statement M
+tab_count_spec =
     tie.close
     (tie.spec
     invariant-loop

@@ -41,133 +41,133 @@ abbrev lent : tie.Start → Lent
 lent s = lent_of s.args.bytes.now s.args.numbers.now s.args.texts.now
 
 -- once the content is checked
-abbrev start : tie.After-checked2 → tie.Start
+abbrev start : tie.In-Fine-2 → tie.Start
 start c = c.before.before.before.before.before.before.before.before.before
 
-abbrev size : tie.After-checked2 → ℕ
-size c = c.checked2.given.0.0
+abbrev size : tie.In-Fine-2 → ℕ
+size c = c.checked-in-Fine-1.given.0.0
 
-fine : (c : tie.After-checked2) → Fine (ds (start c)) (ns (start c)) (ts (start c)) (size c)
+fine : (c : tie.In-Fine-2) → Fine (ds (start c)) (ns (start c)) (ts (start c)) (size c)
 fine c =
     let s = start c in
-    let k = c.before.before.check in
-    content_fine (call s) (ds s) (ns s) (ts s) (lent s) k.result k.ensures.0 k.ensures.1.0 k.ensures.1.1 (size c) c.checked2.given.1
+    let k = c.before.before.check-checked in
+    content_fine (call s) (ds s) (ns s) (ts s) (lent s) k.result k.ensures.0 k.ensures.1.0 k.ensures.1.1 (size c) c.checked-in-Fine-1.given.1
 
 -- once the stop is known to be fine
-abbrev checked : tie.Else2 → tie.After-checked2
+abbrev checked : tie.Else-stop-gt64 → tie.In-Fine-2
 checked c = c.before.before.before
 
-good : (c : tie.Else2) → (1 ≤ (start (checked c)).args.stop) × ((start (checked c)).args.stop ≤ 64) × (single_fault (call (start (checked c))) (ds (start (checked c))) ≡ 0)
+good : (c : tie.Else-stop-gt64) → (1 ≤ (start (checked c)).args.stop) × ((start (checked c)).args.stop ≤ 64) × (single_fault (call (start (checked c))) (ds (start (checked c))) ≡ 0)
 good c =
     let n = (start (checked c)).args.stop in
-    let low : 1 ≤ n = omega (arith, c.before.if1.false) in
-    let high : n ≤ 64 = omega (arith, c.if2.false) in
+    let low : 1 ≤ n = omega (arith, c.before.if-stop-eq0.false) in
+    let high : n ≤ 64 = omega (arith, c.if-stop-gt64.false) in
     (low, high, stop_fine n low high)
 
 -- once the sizes are settled
-abbrev measured : tie.After-settle-expanded → tie.After-own-size
+abbrev measured : tie.After-settle_expanded-verdict → tie.After-own_size-shared
 measured c = c.before.before
 
-abbrev tested : tie.After-settle-expanded → tie.Else2
+abbrev tested : tie.After-settle_expanded-verdict → tie.Else-stop-gt64
 tested c = (measured c).before
 
 -- ── what is asked on the way
-check-requires : tie.Need-check-requires
+check-requires : tie.Need-check-checked-requires
 check-requires c κs = search rules
 
-enum-known-checked : tie.Need-enum-known-checked
+enum-known-checked : tie.Need-enum_known-checked
 enum-known-checked c = search rules
 
-returns : tie.Need-returns
+returns : tie.Need-returns-in-Refused
 returns c =
     let s = c.before.before.before.before.before.before.before.before.before.before in
-    let k = c.before.before.before.check in
-    content-refused (call s) (ds s) (ns s) (ts s) (lent s) k.result k.ensures.0 c.before.checked.given.0.0 c.before.checked.given.1
+    let k = c.before.before.before.check-checked in
+    content-refused (call s) (ds s) (ns s) (ts s) (lent s) k.result k.ensures.0 c.before.checked-1.given.0.0 c.before.checked-1.given.1
 
-enum-known-checked-2 : tie.Need-enum-known-checked-2
+enum-known-checked-2 : tie.Need-enum_known-checked-in-Fine-1
 enum-known-checked-2 c = search rules
 
-returns-2 : tie.Need-returns-2
+returns-2 : tie.Need-returns-then-stop-eq0
 returns-2 c =
     let k = c.before.before in
     let s = start k in
-    own_refused (call s) (ds s) (ns s) (ts s) (lent s) (fine k).passed TabStop (stop_zero s.args.stop c.if1.true)
+    own_refused (call s) (ds s) (ns s) (ts s) (lent s) (fine k).passed TabStop (stop_zero s.args.stop c.if-stop-eq0.true)
 
-returns-3 : tie.Need-returns-3
+returns-3 : tie.Need-returns-then-stop-gt64
 returns-3 c =
     let k = c.before.before.before in
     let s = start k in
-    own_refused (call s) (ds s) (ns s) (ts s) (lent s) (fine k).passed TabStop (stop_over s.args.stop (omega (arith, c.if2.true)))
+    own_refused (call s) (ds s) (ns s) (ts s) (lent s) (fine k).passed TabStop (stop_over s.args.stop (omega (arith, c.if-stop-gt64.true)))
 
-own-size-requires : tie.Need-own-size-requires
+own-size-requires : tie.Need-own_size-shared-requires
 own-size-requires c κs =
     let s = start (checked c) in
     let f = fine (checked c) in
     ((f.entries_short, f.own_short, f.parts), omega (arith, own_less (ds s) (ns s) (ts s) f.passed, f.text_size_lem))
 
-settle-expanded-requires : tie.Need-settle-expanded-requires
+settle-expanded-requires : tie.Need-settle_expanded-verdict-requires
 unfolding lead_table
 settle-expanded-requires c κs =
     let k = checked c.before.before in
     let g = good c.before.before in
     (refl, (g.0, g.1, (fine k).whole.short))
 
-enum-known-verdict : tie.Need-enum-known-verdict
+enum-known-verdict : tie.Need-enum_known-verdict
 enum-known-verdict c = search rules
 
-returns-4 : tie.Need-returns-4
+returns-4 : tie.Need-returns-in-Refused-verdict
 returns-4 c =
     let p = c.before.before.before in
     let k = checked (tested p) in
     let s = start k in
-    sizes_refused (call s) (ds s) (ns s) (ts s) (lent s) (fine k).passed (good (tested p)).2 _ _ 0 refl (measured p).own-size.ensures refl p.settle-expanded.result p.settle-expanded.ensures
-    c.before.verdict.given.0.0 c.before.verdict.given.1
+    sizes_refused (call s) (ds s) (ns s) (ts s) (lent s) (fine k).passed (good (tested p)).2 _ _ 0 refl (measured p).own_size-shared.ensures refl p.settle_expanded-verdict.result p.settle_expanded-verdict.ensures
+    c.before.verdict-1.given.0.0 c.before.verdict-1.given.1
 
-enum_told : tie.Need-enum-told
+enum_told : tie.Need-enum_told-1
 enum_told c = search rules
 
-sub-put-expanded : tie.Need-overflow-sub-put-expanded
+sub-put-expanded : tie.Need-slice_bounds-put_expanded-count
 sub-put-expanded c = search rules
 
-part-put-expanded-start : tie.Need-slice-bounds-put-expanded-start
+part-put-expanded-start : tie.Need-slice_bounds-put_expanded-start
 part-put-expanded-start c = search rules
 
-part-put-expanded-end : tie.Need-slice-bounds-put-expanded-end
+part-put-expanded-end : tie.Need-slice_bounds-put_expanded-end
 part-put-expanded-end c = search rules
 
-put-expanded-requires : tie.Need-put-expanded-requires
+put-expanded-requires : tie.Need-put_expanded-c-requires
 unfolding lead_table
 put-expanded-requires c κs =
     let p = c.before.before.before.before.before.before.before.before in
     let k = checked (tested p) in
     let s = start k in
     let g = good (tested p) in
-    let room = has_room (call s) (ds s) (ns s) (ts s) (lent s) (fine k).passed (good (tested p)).2 _ _ 0 refl (measured p).own-size.ensures refl p.settle-expanded.result p.settle-expanded.ensures
-    c.before.before.before.before.before.before.enum_told.given.1 in
+    let room = has_room (call s) (ds s) (ns s) (ts s) (lent s) (fine k).passed (good (tested p)).2 _ _ 0 refl (measured p).own_size-shared.ensures refl p.settle_expanded-verdict.result p.settle_expanded-verdict.ensures
+    c.before.before.before.before.before.before.enum_told-1.given.1 in
     ((refl, refl, (fine k).whole), ((g.0, g.1), room))
 
-same_length : tie.Need-same-length
+same_length : tie.Need-shape_of-bytes
 same_length c = search rules
 
-same-length-2 : tie.Need-same-length-2
+same-length-2 : tie.Need-shape_of-numbers
 same-length-2 c = search rules
 
-same-length-3 : tie.Need-same-length-3
+same-length-3 : tie.Need-shape_of-texts
 same-length-3 c = search rules
 
-returns-5 : tie.Need-returns-5
+returns-5 : tie.Need-returns
 unfolding number over
 returns-5 c =
-    let w = c.before.before.before.before.before.before.put-expanded in
+    let w = c.before.before.before.before.before.before.put_expanded-c in
     let p = c.before.before.before.before.before.before.before.before.before.before.before.before.before.before.before in
     let k = checked (tested p) in
     let s = start k in
-    written (call s) (ds s) (ns s) (ts s) (lent s) (fine k).passed (good (tested p)).2 _ _ 0 refl (measured p).own-size.ensures refl p.settle-expanded.result p.settle-expanded.ensures
-    c.before.before.before.before.before.before.before.before.before.before.before.before.before.enum_told.given.1
+    written (call s) (ds s) (ns s) (ts s) (lent s) (fine k).passed (good (tested p)).2 _ _ 0 refl (measured p).own_size-shared.ensures refl p.settle_expanded-verdict.result p.settle_expanded-verdict.ensures
+    c.before.before.before.before.before.before.before.before.before.before.before.before.before.enum_told-1.given.1
     0 _ _ _ _ w.result refl w.ensures refl
 
-pub write-tabs-expanded-spec : {M : Type 1} → statement M
-write-tabs-expanded-spec =
+pub write_tabs_expanded_spec : {M : Type 1} → statement M
+write_tabs_expanded_spec =
     tie.close
     (tie.spec
     check-requires

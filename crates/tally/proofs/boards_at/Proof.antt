@@ -12,55 +12,55 @@ use Rattle.tally.proofs.boards_at.Lts as lts
 use Rattle.share.proofs.same_text.Reads as same-text-reads
 use Rattle.sheet.proofs.find.Reads as find-reads
 
-abbrev invariant-loop : tie.invariant-loop
+abbrev invariant-loop : tie.invariant-loop-from
 invariant-loop names k₀ from₀ t5 k from = Searched names k from
 
-abbrev decreases-loop : tie.decreases-loop
+abbrev decreases-loop : tie.decreases-loop-from
 decreases-loop names k₀ from₀ t5 k from = (length names + 1) - from
 
-loop-holds : tie.Need-loop-init invariant-loop decreases-loop
+loop-holds : tie.Need-loop-from-init invariant-loop decreases-loop
 loop-holds c = searched_first _
 
-find-requires : tie.Need-find-requires invariant-loop decreases-loop
+find-requires : tie.Need-find-e-requires invariant-loop decreases-loop
 find-requires c κs = search rules
 
-sub-same-text : tie.Need-overflow-sub-same-text invariant-loop decreases-loop
+sub-same-text : tie.Need-slice_bounds-same_text-count invariant-loop decreases-loop
 sub-same-text c = search rules
 
-part-same-text-start : tie.Need-slice-bounds-same-text-start invariant-loop decreases-loop
+part-same-text-start : tie.Need-slice_bounds-same_text-start invariant-loop decreases-loop
 part-same-text-start c = search rules
 
-part-same-text-end : tie.Need-slice-bounds-same-text-end invariant-loop decreases-loop
+part-same-text-end : tie.Need-slice_bounds-same_text-end invariant-loop decreases-loop
 part-same-text-end c = search rules
 
 slice-aggregate-same-text : tie.Need-slice-aggregate-same-text invariant-loop decreases-loop
 slice-aggregate-same-text c = search rules
 
-same-text-requires : tie.Need-same-text-requires invariant-loop decreases-loop
+same-text-requires : tie.Need-same_text-requires invariant-loop decreases-loop
 same-text-requires c κs = search rules
 
-returns : tie.Need-returns invariant-loop decreases-loop
+returns : tie.Need-returns-then-same_text invariant-loop decreases-loop
 unfolding boards_name
-returns c = name_found _ _ _ c.before.before.before.before.before.before.loop.invariant (omega (arith, c.before.before.before.before.before.loop-test.true)) c.before.before.before.before.find.result c.before.before.before.before.find.ensures.0 c.before.same_text.result c.before.same_text.ensures c.if1.true
+returns c = name_found _ _ _ c.before.before.before.before.before.before.loop-from.invariant (omega (arith, c.before.before.before.before.before.loop-from-test.true)) c.before.before.before.before.find-e.result c.before.before.before.before.find-e.ensures.0 c.before.same_text.result c.before.same_text.ensures c.if-same_text.true
 
-add-from : tie.Need-overflow-add-from invariant-loop decreases-loop
+add-from : tie.Need-overflow_add-from invariant-loop decreases-loop
 add-from c = search rules
 
-add-k : tie.Need-overflow-add-k invariant-loop decreases-loop
-add-k c = omega (arith, c.before.before.before.before.before.before.loop.invariant.few, c.before.before.before.before.before.before.loop.invariant.inside, c.before.before.before.before.before.before.before.before.requires)
+add-k : tie.Need-overflow_add-k invariant-loop decreases-loop
+add-k c = omega (arith, c.before.before.before.before.before.before.loop-from.invariant.few, c.before.before.before.before.before.before.loop-from.invariant.inside, c.before.before.before.before.before.before.before.before.requires)
 
-loop-less : tie.Need-loop-smaller invariant-loop decreases-loop
+loop-less : tie.Need-loop-from-smaller invariant-loop decreases-loop
 loop-less c = search rules
 
-loop-again : tie.Need-loop-preserved invariant-loop decreases-loop
+loop-again : tie.Need-loop-from-preserved invariant-loop decreases-loop
 unfolding boards_name
-loop-again c = searched_next _ _ _ c.before.before.before.before.before.before.loop.invariant (omega (arith, c.before.before.before.before.before.loop-test.true)) c.before.before.before.before.find.result c.before.before.before.before.find.ensures.0 c.before.same_text.result c.before.same_text.ensures c.if1.false c.before.before.before.before.find.ensures.1.1 c.before.before.before.before.find.ensures.1.0
+loop-again c = searched_next _ _ _ c.before.before.before.before.before.before.loop-from.invariant (omega (arith, c.before.before.before.before.before.loop-from-test.true)) c.before.before.before.before.find-e.result c.before.before.before.before.find-e.ensures.0 c.before.same_text.result c.before.same_text.ensures c.if-same_text.false c.before.before.before.before.find-e.ensures.1.1 c.before.before.before.before.find-e.ensures.1.0
 
-returns-2 : tie.Need-returns-2 invariant-loop decreases-loop
-returns-2 c = searched_last _ _ _ c.before.loop.invariant (omega (arith, c.loop-test.false))
+returns-2 : tie.Need-returns invariant-loop decreases-loop
+returns-2 c = searched_last _ _ _ c.before.loop-from.invariant (omega (arith, c.loop-from-test.false))
 
-pub boards-at-spec : {M : Type 1} → statement M
-boards-at-spec =
+pub boards_at_spec : {M : Type 1} → statement M
+boards_at_spec =
     tie.close
     (tie.spec
     invariant-loop

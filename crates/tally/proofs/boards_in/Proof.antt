@@ -11,53 +11,53 @@ use Rattle.tally.proofs.boards_in.Lts as lts
 use Rattle.sheet.proofs.decimal_in.Reads as decimal-in-reads
 use Rattle.sheet.proofs.find.Reads as find-reads
 
-abbrev invariant-loop : tie.invariant-loop
+abbrev invariant-loop : tie.invariant-loop-i
 invariant-loop line k from₀ i₀ from i = Passed line k from i
 
-abbrev decreases-loop : tie.decreases-loop
+abbrev decreases-loop : tie.decreases-loop-i
 decreases-loop line k from₀ i₀ from i = k - i
 
-loop-holds : tie.Need-loop-init invariant-loop decreases-loop
+loop-holds : tie.Need-loop-i-init invariant-loop decreases-loop
 loop-holds c = passed_first _ _
 
-find-requires : tie.Need-find-requires invariant-loop decreases-loop
-find-requires c κs = c.before.loop.invariant.inside
+find-requires : tie.Need-find-e-requires invariant-loop decreases-loop
+find-requires c κs = c.before.loop-i.invariant.inside
 
-returns : tie.Need-returns invariant-loop decreases-loop
-returns c = no_cell _ _ _ _ c.before.before.before.loop.invariant c.before.find.result c.before.find.ensures.0 c.before.before.loop-test.true c.if1.true
+returns : tie.Need-returns-then-e-line invariant-loop decreases-loop
+returns c = no_cell _ _ _ _ c.before.before.before.loop-i.invariant c.before.find-e.result c.before.find-e.ensures.0 c.before.before.loop-i-test.true c.if-e-line.true
 
-add-from : tie.Need-overflow-add-from invariant-loop decreases-loop
+add-from : tie.Need-overflow_add-from invariant-loop decreases-loop
 add-from c = search rules
 
-add-i : tie.Need-overflow-add-i invariant-loop decreases-loop
+add-i : tie.Need-overflow_add-i invariant-loop decreases-loop
 add-i c = search rules
 
-loop-less : tie.Need-loop-smaller invariant-loop decreases-loop
+loop-less : tie.Need-loop-i-smaller invariant-loop decreases-loop
 loop-less c = search rules
 
-loop-again : tie.Need-loop-preserved invariant-loop decreases-loop
-loop-again c = passed_next _ _ _ _ c.before.before.before.loop.invariant c.before.find.result c.before.find.ensures.0 c.before.before.loop-test.true (omega (arith, c.before.find.ensures.1.1, c.if1.false))
+loop-again : tie.Need-loop-i-preserved invariant-loop decreases-loop
+loop-again c = passed_next _ _ _ _ c.before.before.before.loop-i.invariant c.before.find-e.result c.before.find-e.ensures.0 c.before.before.loop-i-test.true (omega (arith, c.before.find-e.ensures.1.1, c.if-e-line.false))
 
-find-requires-2 : tie.Need-find-requires-2 invariant-loop decreases-loop
-find-requires-2 c κs = c.before.loop.invariant.inside
+find-requires-2 : tie.Need-find-e-requires-2 invariant-loop decreases-loop
+find-requires-2 c κs = c.before.loop-i.invariant.inside
 
-sub-decimal-in : tie.Need-overflow-sub-decimal-in invariant-loop decreases-loop
+sub-decimal-in : tie.Need-slice_bounds-decimal_in-count invariant-loop decreases-loop
 sub-decimal-in c = search rules
 
-part-decimal-in-start : tie.Need-slice-bounds-decimal-in-start invariant-loop decreases-loop
+part-decimal-in-start : tie.Need-slice_bounds-decimal_in-start invariant-loop decreases-loop
 part-decimal-in-start c = search rules
 
-part-decimal-in-end : tie.Need-slice-bounds-decimal-in-end invariant-loop decreases-loop
+part-decimal-in-end : tie.Need-slice_bounds-decimal_in-end invariant-loop decreases-loop
 part-decimal-in-end c = search rules
 
-decimal-in-requires : tie.Need-decimal-in-requires invariant-loop decreases-loop
+decimal-in-requires : tie.Need-decimal_in-requires invariant-loop decreases-loop
 decimal-in-requires c κs = search rules
 
-returns-2 : tie.Need-returns-2 invariant-loop decreases-loop
-returns-2 c = c.decimal-in.ensures.0 ∙ the_cell _ _ _ _ c.before.before.before.before.loop.invariant c.before.before.find2.result c.before.before.find2.ensures.0 (omega (arith, c.before.before.before.loop-test.false))
+returns-2 : tie.Need-returns invariant-loop decreases-loop
+returns-2 c = c.decimal_in.ensures.0 ∙ the_cell _ _ _ _ c.before.before.before.before.loop-i.invariant c.before.before.find-e-2.result c.before.before.find-e-2.ensures.0 (omega (arith, c.before.before.before.loop-i-test.false))
 
-pub boards-in-spec : {M : Type 1} → statement M
-boards-in-spec =
+pub boards_in_spec : {M : Type 1} → statement M
+boards_in_spec =
     tie.close
     (tie.spec
     invariant-loop

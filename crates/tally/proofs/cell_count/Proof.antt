@@ -13,47 +13,47 @@ use Rattle.tally.proofs.cell_count.Tie as tie
 use Rattle.tally.proofs.cell_count.Reads as reads
 use Rattle.tally.proofs.cell_count.Lts as lts
 
-abbrev invariant-loop : tie.invariant-loop
+abbrev invariant-loop : tie.invariant-loop-i
 invariant-loop line n₀ i₀ n i =
     (i ≤ length line) × (n ≤ i + 1) × (n + length (cells_of (drop i line)) ≡ length (cells_of line) + 1)
 
-abbrev decreases-loop : tie.decreases-loop
+abbrev decreases-loop : tie.decreases-loop-i
 decreases-loop line n₀ i₀ n i = length line - i
 
-loop-holds : tie.Need-loop-init invariant-loop decreases-loop
+loop-holds : tie.Need-loop-i-init invariant-loop decreases-loop
 loop-holds c = (omega arith, omega arith, omega arith)
 
-shared-slice-read-n : tie.Need-shared-slice-read-n invariant-loop decreases-loop
+shared-slice-read-n : tie.Need-bounds-line-i invariant-loop decreases-loop
 shared-slice-read-n c = search rules
 
-cast-n : tie.Need-overflow-cast-n invariant-loop decreases-loop
+cast-n : tie.Need-overflow_cast-n invariant-loop decreases-loop
 cast-n c = search rules
 
-add-n : tie.Need-overflow-add-n invariant-loop decreases-loop
+add-n : tie.Need-overflow_add-n invariant-loop decreases-loop
 add-n c =
     let l = c.before.before in
-    omega (arith, bit_small (eqb (get_or l.before.args.line.now l.loop.i 0) 0x2C), l.before.well-formed)
+    omega (arith, bit_small (eqb (get_or l.before.args.line.now l.loop-i.i 0) 0x2C), l.before.well_formed)
 
-add-i : tie.Need-overflow-add-i invariant-loop decreases-loop
+add-i : tie.Need-overflow_add-i invariant-loop decreases-loop
 add-i c = search rules
 
-loop-less : tie.Need-loop-smaller invariant-loop decreases-loop
+loop-less : tie.Need-loop-i-smaller invariant-loop decreases-loop
 loop-less c = search rules
 
-loop-again : tie.Need-loop-preserved invariant-loop decreases-loop
+loop-again : tie.Need-loop-i-preserved invariant-loop decreases-loop
 loop-again c =
     let l = c.before.before in
     let s = l.before.args.line.now in
-    let t = eqb (get_or s l.loop.i 0) 0x2C in
-    (search rules, omega (arith, bit_small t), omega (arith, bit_is t, l.loop.invariant.2, count_next l.loop.i s (omega arith)))
+    let t = eqb (get_or s l.loop-i.i 0) 0x2C in
+    (search rules, omega (arith, bit_small t), omega (arith, bit_is t, l.loop-i.invariant.2, count_next l.loop-i.i s (omega arith)))
 
 returns : tie.Need-returns invariant-loop decreases-loop
 returns c =
     let l = c.before in
-    omega (arith, l.loop.invariant.2, count_end l.loop.i l.before.args.line.now (omega arith))
+    omega (arith, l.loop-i.invariant.2, count_end l.loop-i.i l.before.args.line.now (omega arith))
 
-pub cell-count-spec : {M : Type 1} → statement M
-cell-count-spec =
+pub cell_count_spec : {M : Type 1} → statement M
+cell_count_spec =
     tie.close
     (tie.spec
     invariant-loop

@@ -17,50 +17,50 @@ use Rattle.tally.proofs.cell_len.Lts as lts
 use Rattle.controls.proofs.is_clean.Reads as is-clean-reads
 use Rattle.cells.proofs.plan_cell.Reads as plan-cell-reads
 
-is-clean-requires : tie.Need-is-clean-requires
+is-clean-requires : tie.Need-is_clean-requires
 is-clean-requires c κs = search rules
 
-returns : tie.Need-returns
-returns c = (rw (sym c.before.is-clean.ensures ∙ not-true c.before.is-clean.result c.if1.true), omega arith)
+returns : tie.Need-returns-then-not-is_clean
+returns c = (rw (sym c.before.is_clean.ensures ∙ c.if-not-is_clean.true), omega arith)
 
 slice-aggregate-plan-cell : tie.Need-slice-aggregate-plan-cell
 slice-aggregate-plan-cell c = search rules
 
-plan-cell-requires : tie.Need-plan-cell-requires
+plan-cell-requires : tie.Need-plan_cell-p-requires
 plan-cell-requires c κs = search rules
 
-add-result : tie.Need-overflow-add-result
+add-result : tie.Need-overflow_add-result
 add-result c = search rules
 
 -- the cell, and that it is not turned away
-abbrev cell : tie.After-plan-cell → Bytes
+abbrev cell : tie.After-plan_cell-p → Bytes
 cell c = c.before.before.before.before.before.args.cell.now
 
-clean : (c : tie.After-plan-cell) → is_clean_text (cell c) ≡ true
-clean c = sym c.before.before.before.is-clean.ensures ∙ not_false c.before.before.before.is-clean.result c.before.before.if1.false
+clean : (c : tie.After-plan_cell-p) → is_clean_text (cell c) ≡ true
+clean c = sym c.before.before.before.is_clean.ensures ∙ c.before.before.if-not-is_clean.false
 
-formed : (c : tie.After-plan-cell) → well_formed_of (cell c) ≡ true
+formed : (c : tie.After-plan_cell-p) → well_formed_of (cell c) ≡ true
 formed c = clean_formed (cell c) (clean_text (cell c) (clean c))
 
-sub-result : tie.Need-overflow-sub-result
+sub-result : tie.Need-overflow_sub-result
 unfolding tilde
 sub-result c =
     let p = c.before.before in
-    plan_narrow p.before.before.before.before.before.args.width (cell p) (formed p) p.plan-cell.result p.plan-cell.ensures.0
+    plan_narrow p.before.before.before.before.before.args.width (cell p) (formed p) p.plan_cell-p.result p.plan_cell-p.ensures.0
 
-add-result-2 : tie.Need-overflow-add-result-2
+add-result-2 : tie.Need-overflow_add-result-2
 add-result-2 c = search rules
 
-returns-2 : tie.Need-returns-2
+returns-2 : tie.Need-returns
 unfolding tilde
 returns-2 c =
     let p = c.before.before in
     let start = p.before.before.before.before.before in
-    let e = plan_laid start.args.width (cell p) (formed p) p.plan-cell.result p.plan-cell.ensures.0 in
-    (rw (clean p) (sym e), omega (arith, p.plan-cell.ensures.1.0, p.plan-cell.ensures.1.1, start.requires.1))
+    let e = plan_laid start.args.width (cell p) (formed p) p.plan_cell-p.result p.plan_cell-p.ensures.0 in
+    (rw (clean p) (sym e), omega (arith, p.plan_cell-p.ensures.1.0, p.plan_cell-p.ensures.1.1, start.requires.1))
 
-pub cell-len-spec : {M : Type 1} → statement M
-cell-len-spec =
+pub cell_len_spec : {M : Type 1} → statement M
+cell_len_spec =
     tie.close
     (tie.spec
     is-clean-requires

@@ -9,35 +9,35 @@ use Rattle.tally.proofs.line_count.Reads as reads
 use Rattle.tally.proofs.line_count.Lts as lts
 use Rattle.newlines.proofs.count_newlines.Reads as count-newlines-reads
 
-returns : tie.Need-returns
-returns c = (lines_none _ c.if1.true, omega arith)
+returns : tie.Need-returns-then-input-eq0
+returns c = (lines_none _ c.if-input-eq0.true, omega arith)
 
-count-newlines-requires : tie.Need-count-newlines-requires
+count-newlines-requires : tie.Need-count_newlines-n-requires
 count-newlines-requires c κs = search rules
 
-sub-if2 : tie.Need-overflow-sub-if2
+sub-if2 : tie.Need-overflow_sub-input
 sub-if2 c = search rules
 
-shared-slice-read-if2 : tie.Need-shared-slice-read-if2
+shared-slice-read-if2 : tie.Need-bounds-input-input
 shared-slice-read-if2 c = search rules
 
-returns-2 : tie.Need-returns-2
+returns-2 : tie.Need-returns-then-input-eq10
 returns-2 c =
     let s = c.before.before.before.before.before.args.input.now in
-    let e = all_ended s (omega (arith, c.before.before.before.if1.false)) c.if2.true in
-    (c.before.before.count-newlines.ensures.0 ∙ e, omega (arith, c.before.before.count-newlines.ensures.0, e, lines_some s))
+    let e = all_ended s (omega (arith, c.before.before.before.if-input-eq0.false)) c.if-input-eq10.true in
+    (c.before.before.count_newlines-n.ensures.0 ∙ e, omega (arith, c.before.before.count_newlines-n.ensures.0, e, lines_some s))
 
-add-result : tie.Need-overflow-add-result
+add-result : tie.Need-overflow_add-result
 add-result c = search rules
 
-returns-3 : tie.Need-returns-3
+returns-3 : tie.Need-returns
 returns-3 c =
     let s = c.before.before.before.before.before.args.input.now in
-    let e = last_open s (omega (arith, c.before.before.before.if1.false)) c.if2.false in
-    (omega (arith, c.before.before.count-newlines.ensures.0, e), omega arith)
+    let e = last_open s (omega (arith, c.before.before.before.if-input-eq0.false)) c.if-input-eq10.false in
+    (omega (arith, c.before.before.count_newlines-n.ensures.0, e), omega arith)
 
-pub line-count-spec : {M : Type 1} → statement M
-line-count-spec =
+pub line_count_spec : {M : Type 1} → statement M
+line_count_spec =
     tie.close
     (tie.spec
     returns

@@ -15,59 +15,59 @@ use Rattle.cells.proofs.plan_cell.Reads as plan-cell-reads
 slice-aggregate-plan-cell : tie.Need-slice-aggregate-plan-cell
 slice-aggregate-plan-cell c = search rules
 
-plan-cell-requires : tie.Need-plan-cell-requires
+plan-cell-requires : tie.Need-plan_cell-p-requires
 plan-cell-requires c κs = search rules
 
-sub-missing : tie.Need-overflow-sub-missing
+sub-missing : tie.Need-overflow_sub-missing
 unfolding tilde
 sub-missing c =
     let x = c.before.before.before.before.before.args in
     let g = c.before.before.before.before.before.requires in
-    let m = c.before.plan-cell in
+    let m = c.before.plan_cell-p in
     omega (arith, plan_narrow x.width x.cell.now g.1 m.result m.ensures.0)
 
-before-requires : tie.Need-before-requires
+before-requires : tie.Need-before-left-requires
 before-requires c κs = search rules
 
-put-byte-times-requires : tie.Need-put-byte-times-requires
+put-byte-times-requires : tie.Need-put_byte_times-a-requires
 unfolding tilde
 put-byte-times-requires c κs =
     let x = c.before.before.before.before.before.before.before.args in
     let g = c.before.before.before.before.before.before.before.requires in
-    let m = c.before.before.before.plan-cell in
-    omega (arith, g.2, plan_narrow x.width x.cell.now g.1 m.result m.ensures.0, cell_length x.width x.cell.now g.1 m.result m.ensures.0 x.alignment, c.before.before2.ensures.0)
+    let m = c.before.before.before.plan_cell-p in
+    omega (arith, g.2, plan_narrow x.width x.cell.now g.1 m.result m.ensures.0, cell_length x.width x.cell.now g.1 m.result m.ensures.0 x.alignment, c.before.before-left.ensures.0)
 
-put-requires : tie.Need-put-requires
+put-requires : tie.Need-put-b-requires
 unfolding tilde
 put-requires c κs =
     let x = c.before.before.before.before.before.before.before.before.before.before.before.args in
     let g = c.before.before.before.before.before.before.before.before.before.before.before.requires in
-    let m = c.before.before.before.before.before.before.before.plan-cell in
-    (search rules, m.ensures.1.0, omega (arith, g.2, plan_narrow x.width x.cell.now g.1 m.result m.ensures.0, cell_length x.width x.cell.now g.1 m.result m.ensures.0 x.alignment, c.before.before.before.before.before.before2.ensures.0, c.before.before.before.put-byte-times.ensures.0, c.before.before.before.put-byte-times.auto))
+    let m = c.before.before.before.before.before.before.before.plan_cell-p in
+    (search rules, m.ensures.1.0, omega (arith, g.2, plan_narrow x.width x.cell.now g.1 m.result m.ensures.0, cell_length x.width x.cell.now g.1 m.result m.ensures.0 x.alignment, c.before.before.before.before.before.before-left.ensures.0, c.before.before.before.put_byte_times-a.ensures.0, c.before.before.before.put_byte_times-a.auto))
 
 slice-aggregate-put : tie.Need-slice-aggregate-put
 slice-aggregate-put c = search rules
 
-put-requires-2 : tie.Need-put-requires-2
+put-requires-2 : tie.Need-put-c-requires
 unfolding tilde
 put-requires-2 c κs =
     let x = c.before.before.before.before.before.before.before.before.before.before.before.before.before.before.before.before.args in
     let g = c.before.before.before.before.before.before.before.before.before.before.before.before.before.before.before.before.requires in
-    let m = c.before.before.before.before.before.before.before.before.before.before.before.before.plan-cell in
-    (search rules, m.ensures.1.1, omega (arith, g.2, plan_narrow x.width x.cell.now g.1 m.result m.ensures.0, cell_length x.width x.cell.now g.1 m.result m.ensures.0 x.alignment, c.before.before.before.before.before.before.before.before.before.before.before2.ensures.0, c.before.before.before.before.before.before.before.before.put-byte-times.ensures.0, c.before.before.before.before.before.before.before.before.put-byte-times.auto, c.before.before.before.before.put.ensures.0, c.before.before.before.before.put.auto))
+    let m = c.before.before.before.before.before.before.before.before.before.before.before.before.plan_cell-p in
+    (search rules, m.ensures.1.1, omega (arith, g.2, plan_narrow x.width x.cell.now g.1 m.result m.ensures.0, cell_length x.width x.cell.now g.1 m.result m.ensures.0 x.alignment, c.before.before.before.before.before.before.before.before.before.before.before-left.ensures.0, c.before.before.before.before.before.before.before.before.put_byte_times-a.ensures.0, c.before.before.before.before.before.before.before.before.put_byte_times-a.auto, c.before.before.before.before.put-b.ensures.0, c.before.before.before.before.put-b.auto))
 
-sub-put-byte-times : tie.Need-overflow-sub-put-byte-times
+sub-put-byte-times : tie.Need-overflow_sub-missing-2
 sub-put-byte-times c = search rules
 
-put-byte-times-requires-2 : tie.Need-put-byte-times-requires-2
+put-byte-times-requires-2 : tie.Need-put_byte_times-requires
 unfolding tilde
 put-byte-times-requires-2 c κs =
     let x = c.before.before.before.before.before.before.before.before.before.before.before.before.before.before.before.before.before.before.before.before.args in
     let g = c.before.before.before.before.before.before.before.before.before.before.before.before.before.before.before.before.before.before.before.before.requires in
-    let m = c.before.before.before.before.before.before.before.before.before.before.before.before.before.before.before.before.plan-cell in
-    omega (arith, g.2, plan_narrow x.width x.cell.now g.1 m.result m.ensures.0, cell_length x.width x.cell.now g.1 m.result m.ensures.0 x.alignment, c.before.before.before.before.before.before.before.before.before.before.before.before.before.before.before2.ensures.0, c.before.before.before.before.before.before.before.before.before.before.before.before.put-byte-times.ensures.0, c.before.before.before.before.before.before.before.before.before.before.before.before.put-byte-times.auto, c.before.before.before.before.before.before.before.before.put.ensures.0, c.before.before.before.before.before.before.before.before.put.auto, c.before.before.before.put2.ensures.0, c.before.before.before.put2.auto)
+    let m = c.before.before.before.before.before.before.before.before.before.before.before.before.before.before.before.before.plan_cell-p in
+    omega (arith, g.2, plan_narrow x.width x.cell.now g.1 m.result m.ensures.0, cell_length x.width x.cell.now g.1 m.result m.ensures.0 x.alignment, c.before.before.before.before.before.before.before.before.before.before.before.before.before.before.before-left.ensures.0, c.before.before.before.before.before.before.before.before.before.before.before.before.put_byte_times-a.ensures.0, c.before.before.before.before.before.before.before.before.before.before.before.before.put_byte_times-a.auto, c.before.before.before.before.before.before.before.before.put-b.ensures.0, c.before.before.before.before.before.before.before.before.put-b.auto, c.before.before.before.put-c.ensures.0, c.before.before.before.put-c.auto)
 
-same_length : tie.Need-same-length
+same_length : tie.Need-shape_of-out
 same_length c = search rules
 
 returns : tie.Need-returns
@@ -75,18 +75,18 @@ unfolding tilde
 returns c =
     let x = c.before.before.before.before.before.before.before.before.before.before.before.before.before.before.before.before.before.before.before.before.before.before.before.args in
     let g = c.before.before.before.before.before.before.before.before.before.before.before.before.before.before.before.before.before.before.before.before.before.before.before.requires in
-    let m = c.before.before.before.before.before.before.before.before.before.before.before.before.before.before.before.before.before.before.before.plan-cell in
-    let l = c.before.before.before.before.before.before.before.before.before.before.before.before.before.before.before.before.before.before2 in
-    let a = c.before.before.before.before.before.before.before.before.before.before.before.before.before.before.before.put-byte-times in
-    let b = c.before.before.before.before.before.before.before.before.before.before.before.put in
-    let e = c.before.before.before.before.before.before.put2 in
-    let z = c.before.before.put-byte-times2 in (
+    let m = c.before.before.before.before.before.before.before.before.before.before.before.before.before.before.before.before.before.before.before.plan_cell-p in
+    let l = c.before.before.before.before.before.before.before.before.before.before.before.before.before.before.before.before.before.before-left in
+    let a = c.before.before.before.before.before.before.before.before.before.before.before.before.before.before.before.put_byte_times-a in
+    let b = c.before.before.before.before.before.before.before.before.before.before.before.put-b in
+    let e = c.before.before.before.before.before.before.put-c in
+    let z = c.before.before.put_byte_times in (
       omega (arith, plan_narrow x.width x.cell.now g.1 m.result m.ensures.0, cell_length x.width x.cell.now g.1 m.result m.ensures.0 x.alignment, l.ensures, a.ensures.0, b.ensures.0, e.ensures.0, z.ensures.0),
-      laid_put x.width x.cell.now g.1 m.result m.ensures.0 m.ensures.1.0 m.ensures.1.1 x.alignment x.at l.result a.result b.result e.result x.out.now _ _ _ _ (omega (arith, g.2)) l.ensures.0 a.ensures.0 b.ensures.0 e.ensures.0 a.ensures.1 b.ensures.1 e.ensures.1 z.ensures.1,
+      laid_put x.width x.cell.now g.1 m.result m.ensures.0 m.ensures.1.0 m.ensures.1.1 x.alignment x.at l.result a.result b.result e.result x.out-1.now _ _ _ _ (omega (arith, g.2)) l.ensures.0 a.ensures.0 b.ensures.0 e.ensures.0 a.ensures.1 b.ensures.1 e.ensures.1 z.ensures.1,
     )
 
-pub put-cell-spec : {M : Type 1} → statement M
-put-cell-spec =
+pub put_cell_spec : {M : Type 1} → statement M
+put_cell_spec =
     tie.close
     (tie.spec
     slice-aggregate-plan-cell

@@ -14,71 +14,71 @@ use Rattle.tally.proofs.put_rows.Lts as lts
 use Rattle.sheet.proofs.find.Reads as find-reads
 use Rattle.tally.proofs.put_row.Reads as put-row-reads
 
-abbrev invariant-loop : tie.invariant-loop
+abbrev invariant-loop : tie.invariant-loop-from
 invariant-loop out₀ input columns end₀ from₀ out end from = RowsState columns input out₀ out end from
 
-abbrev decreases-loop : tie.decreases-loop
+abbrev decreases-loop : tie.decreases-loop-from
 decreases-loop out₀ input columns end₀ from₀ out end from = (length input + 1) - from
 
-put-row-requires : tie.Need-put-row-requires invariant-loop decreases-loop
+put-row-requires : tie.Need-put_row-requires invariant-loop decreases-loop
 put-row-requires c κs =
     let x = c.before.before.before.before.before.args in
-    (fit_one _ _ c.before.if1.true c.before.before.before.before.before.requires.0, omega (arith, ap length (one_line x.columns.now x.input.now c.before.if1.true), c.before.before.before.before.before.requires.1))
+    (fit_one _ _ c.before.if-input-eq0.true c.before.before.before.before.before.requires.0, omega (arith, ap length (one_line x.columns.now x.input.now c.before.if-input-eq0.true), c.before.before.before.before.before.requires.1))
 
-same_length : tie.Need-same-length invariant-loop decreases-loop
+same_length : tie.Need-shape_of-out-then-input-eq0 invariant-loop decreases-loop
 same_length c = search rules
 
-returns : tie.Need-returns invariant-loop decreases-loop
+returns : tie.Need-returns-then-input-eq0 invariant-loop decreases-loop
 returns c =
     let x = c.before.before.before.before.before.before.before.before.args in
-    let p = c.before.before.put-row in
-    let e = one_line x.columns.now x.input.now c.before.before.before.before.if1.true in
-    (omega (arith, p.ensures.0, ap length e), p.ensures.1 ∙ ap (λ (l : Bytes). over_at 0 l x.out.now) (sym e))
+    let p = c.before.before.put_row in
+    let e = one_line x.columns.now x.input.now c.before.before.before.before.if-input-eq0.true in
+    (omega (arith, p.ensures.0, ap length e), p.ensures.1 ∙ ap (λ (l : Bytes). over_at 0 l x.out-1.now) (sym e))
 
-loop-holds : tie.Need-loop-init invariant-loop decreases-loop
-loop-holds c = rows_start _ _ _ (λ z. omega (arith, z, c.if1.false)) c.before.before.before.before.requires.0
+loop-holds : tie.Need-loop-from-init invariant-loop decreases-loop
+loop-holds c = rows_start _ _ _ (λ z. omega (arith, z, c.if-input-eq0.false)) c.before.before.before.before.requires.0
 
-find-requires : tie.Need-find-requires invariant-loop decreases-loop
+find-requires : tie.Need-find-e-requires invariant-loop decreases-loop
 find-requires c κs = search rules
 
-sub-put-row : tie.Need-overflow-sub-put-row invariant-loop decreases-loop
+sub-put-row : tie.Need-slice_bounds-put_row-count invariant-loop decreases-loop
 sub-put-row c = search rules
 
-part-put-row-start : tie.Need-slice-bounds-put-row-start invariant-loop decreases-loop
+part-put-row-start : tie.Need-slice_bounds-put_row-start invariant-loop decreases-loop
 part-put-row-start c = search rules
 
-part-put-row-end : tie.Need-slice-bounds-put-row-end invariant-loop decreases-loop
+part-put-row-end : tie.Need-slice_bounds-put_row-end invariant-loop decreases-loop
 part-put-row-end c = search rules
 
-put-row-requires-2 : tie.Need-put-row-requires-2 invariant-loop decreases-loop
+put-row-requires-2 : tie.Need-put_row-end-requires invariant-loop decreases-loop
 put-row-requires-2 c κs =
-    let l = c.before.before.before.before.loop in
-    let t = c.before.before.before.loop-test.true in
-    let f = c.before.before.find in
+    let l = c.before.before.before.before.loop-from in
+    let t = c.before.before.before.loop-from-test.true in
+    let f = c.before.before.find-e in
     (fit_here _ _ _ _ _ _ l.invariant t f.result f.ensures.0, row_room _ _ _ _ _ _ l.invariant t f.result f.ensures.0 c.before.before.before.before.before.before.before.before.before.requires.1)
 
-add-from : tie.Need-overflow-add-from invariant-loop decreases-loop
+add-from : tie.Need-overflow_add-from invariant-loop decreases-loop
 add-from c = search rules
 
-loop-less : tie.Need-loop-smaller invariant-loop decreases-loop
+loop-less : tie.Need-loop-from-smaller invariant-loop decreases-loop
 loop-less c = search rules
 
-loop-again : tie.Need-loop-preserved invariant-loop decreases-loop
+loop-again : tie.Need-loop-from-preserved invariant-loop decreases-loop
 loop-again c =
-    let l = c.before.before.before.before.before.before.before.loop in
-    let t = c.before.before.before.before.before.before.loop-test.true in
-    let f = c.before.before.before.before.before.find in
-    let p = c.before.before.put-row2 in
+    let l = c.before.before.before.before.before.before.before.loop-from in
+    let t = c.before.before.before.before.before.before.loop-from-test.true in
+    let f = c.before.before.before.before.before.find-e in
+    let p = c.before.before.put_row-end in
     rows_again _ _ _ _ _ _ l.invariant t f.result f.ensures.0 p.result _ p.ensures.0 p.ensures.1 (omega (arith, p.auto))
 
-same-length-2 : tie.Need-same-length-2 invariant-loop decreases-loop
+same-length-2 : tie.Need-shape_of-out invariant-loop decreases-loop
 same-length-2 c = search rules
 
-returns-2 : tie.Need-returns-2 invariant-loop decreases-loop
-returns-2 c = rows_finish _ _ _ _ _ _ c.before.loop.invariant (omega (arith, c.loop-test.false))
+returns-2 : tie.Need-returns invariant-loop decreases-loop
+returns-2 c = rows_finish _ _ _ _ _ _ c.before.loop-from.invariant (omega (arith, c.loop-from-test.false))
 
-pub put-rows-spec : {M : Type 1} → statement M
-put-rows-spec =
+pub put_rows_spec : {M : Type 1} → statement M
+put_rows_spec =
     tie.close
     (tie.spec
     invariant-loop

@@ -12,67 +12,67 @@ use Rattle.tally.proofs.row_len.Lts as lts
 use Rattle.sheet.proofs.find.Reads as find-reads
 use Rattle.tally.proofs.cell_len.Reads as cell-len-reads
 
-abbrev invariant-loop : tie.invariant-loop
+abbrev invariant-loop : tie.invariant-loop-k
 invariant-loop line columns bytes₀ from₀ k₀ bytes from k = Measured columns line bytes from k
 
-abbrev decreases-loop : tie.decreases-loop
+abbrev decreases-loop : tie.decreases-loop-k
 decreases-loop line columns bytes₀ from₀ k₀ bytes from k = length columns - k
 
-loop-holds : tie.Need-loop-init invariant-loop decreases-loop
+loop-holds : tie.Need-loop-k-init invariant-loop decreases-loop
 loop-holds c = measured_first _ _ c.before.before.requires.0.0 c.before.before.requires.1
 
-add-loop : tie.Need-overflow-add-loop invariant-loop decreases-loop
+add-loop : tie.Need-overflow_add-k invariant-loop decreases-loop
 add-loop c = search rules
 
-find-requires : tie.Need-find-requires invariant-loop decreases-loop
-find-requires c κs = there _ _ _ _ c.before.loop.invariant.walk c.loop-test.true
+find-requires : tie.Need-find-e-requires invariant-loop decreases-loop
+find-requires c κs = there _ _ _ _ c.before.loop-k.invariant.walk c.loop-k-test.true
 
-sub-cell-len : tie.Need-overflow-sub-cell-len invariant-loop decreases-loop
+sub-cell-len : tie.Need-slice_bounds-cell_len-count invariant-loop decreases-loop
 sub-cell-len c = search rules
 
-part-cell-len-start : tie.Need-slice-bounds-cell-len-start invariant-loop decreases-loop
+part-cell-len-start : tie.Need-slice_bounds-cell_len-start invariant-loop decreases-loop
 part-cell-len-start c = search rules
 
-part-cell-len-end : tie.Need-slice-bounds-cell-len-end invariant-loop decreases-loop
+part-cell-len-end : tie.Need-slice_bounds-cell_len-end invariant-loop decreases-loop
 part-cell-len-end c = search rules
 
-mul-cell-len : tie.Need-overflow-mul-cell-len invariant-loop decreases-loop
+mul-cell-len : tie.Need-offset_bounds-columns-k invariant-loop decreases-loop
 mul-cell-len c = search rules
 
-shared-slice-read-cell-len : tie.Need-shared-slice-read-cell-len invariant-loop decreases-loop
+shared-slice-read-cell-len : tie.Need-bounds-columns-k invariant-loop decreases-loop
 shared-slice-read-cell-len c = search rules
 
-cell-len-requires : tie.Need-cell-len-requires invariant-loop decreases-loop
-cell-len-requires c κs = wide _ _ _ _ c.before.before.before.before.loop.invariant.walk c.before.before.before.loop-test.true
+cell-len-requires : tie.Need-cell_len-n-requires invariant-loop decreases-loop
+cell-len-requires c κs = wide _ _ _ _ c.before.before.before.before.loop-k.invariant.walk c.before.before.before.loop-k-test.true
 
-returns : tie.Need-returns invariant-loop decreases-loop
-returns c = (turned_away _ _ _ _ _ c.before.before.before.before.before.before.loop.invariant c.before.before.before.before.before.loop-test.true c.before.before.before.before.find.result c.before.before.before.before.find.ensures.0 c.before.cell-len.result c.before.cell-len.ensures.0 c.if1.true, omega arith)
+returns : tie.Need-returns-then-n-eq0 invariant-loop decreases-loop
+returns c = (turned_away _ _ _ _ _ c.before.before.before.before.before.before.loop-k.invariant c.before.before.before.before.before.loop-k-test.true c.before.before.before.before.find-e.result c.before.before.before.before.find-e.ensures.0 c.before.cell_len-n.result c.before.cell_len-n.ensures.0 c.if-n-eq0.true, omega arith)
 
-add-bytes : tie.Need-overflow-add-bytes invariant-loop decreases-loop
+add-bytes : tie.Need-overflow_add-bytes invariant-loop decreases-loop
 add-bytes c = search rules
 
-add-bytes-2 : tie.Need-overflow-add-bytes-2 invariant-loop decreases-loop
-add-bytes-2 c = omega (arith, c.before.before.before.before.before.before.loop.invariant.small, c.before.before.before.before.before.before.loop.invariant.walk.inside, c.before.before.before.before.before.before.loop.invariant.walk.within, c.before.cell-len.ensures.1, few_numbers _ c.before.before.before.before.before.before.before.before.before.requires.0.0, c.before.before.before.before.before.before.before.before.before.requires.0.1)
+add-bytes-2 : tie.Need-overflow_add-bytes-in-loop-k invariant-loop decreases-loop
+add-bytes-2 c = omega (arith, c.before.before.before.before.before.before.loop-k.invariant.small, c.before.before.before.before.before.before.loop-k.invariant.walk.inside, c.before.before.before.before.before.before.loop-k.invariant.walk.within, c.before.cell_len-n.ensures.1, few_numbers _ c.before.before.before.before.before.before.before.before.before.requires.0.0, c.before.before.before.before.before.before.before.before.before.requires.0.1)
 
-add-from : tie.Need-overflow-add-from invariant-loop decreases-loop
+add-from : tie.Need-overflow_add-from invariant-loop decreases-loop
 add-from c = search rules
 
-add-k : tie.Need-overflow-add-k invariant-loop decreases-loop
+add-k : tie.Need-overflow_add-k-in-loop-k invariant-loop decreases-loop
 add-k c = search rules
 
-loop-less : tie.Need-loop-smaller invariant-loop decreases-loop
+loop-less : tie.Need-loop-k-smaller invariant-loop decreases-loop
 loop-less c = search rules
 
-loop-again : tie.Need-loop-preserved invariant-loop decreases-loop
-loop-again c = measured_next _ _ _ _ _ c.before.before.before.before.before.before.loop.invariant c.before.before.before.before.before.loop-test.true c.before.before.before.before.find.result c.before.before.before.before.find.ensures.0 c.before.cell-len.result c.before.cell-len.ensures.0 (λ z. omega (arith, z, c.if1.false)) c.before.before.before.before.find.ensures.1.1 c.before.cell-len.ensures.1 c.before.before.before.before.find.ensures.1.0
+loop-again : tie.Need-loop-k-preserved invariant-loop decreases-loop
+loop-again c = measured_next _ _ _ _ _ c.before.before.before.before.before.before.loop-k.invariant c.before.before.before.before.before.loop-k-test.true c.before.before.before.before.find-e.result c.before.before.before.before.find-e.ensures.0 c.before.cell_len-n.result c.before.cell_len-n.ensures.0 (λ z. omega (arith, z, c.if-n-eq0.false)) c.before.before.before.before.find-e.ensures.1.1 c.before.cell_len-n.ensures.1 c.before.before.before.before.find-e.ensures.1.0
 
-returns-2 : tie.Need-returns-2 invariant-loop decreases-loop
+returns-2 : tie.Need-returns invariant-loop decreases-loop
 returns-2 c =
-    let m = c.before.loop.invariant in
-    (measured_last _ _ _ _ _ c.before.loop.invariant (omega (arith, c.loop-test.false)), omega (arith, m.small, m.walk.inside, m.walk.within, few_numbers _ c.before.before.before.before.requires.0.0))
+    let m = c.before.loop-k.invariant in
+    (measured_last _ _ _ _ _ c.before.loop-k.invariant (omega (arith, c.loop-k-test.false)), omega (arith, m.small, m.walk.inside, m.walk.within, few_numbers _ c.before.before.before.before.requires.0.0))
 
-pub row-len-spec : {M : Type 1} → statement M
-row-len-spec =
+pub row_len_spec : {M : Type 1} → statement M
+row_len_spec =
     tie.close
     (tie.spec
     invariant-loop

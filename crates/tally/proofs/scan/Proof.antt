@@ -14,103 +14,103 @@ use Rattle.tally.proofs.boards_at.Reads as boards-at-reads
 use Rattle.tally.proofs.scan_line.Reads as scan-line-reads
 use Rattle.tally.proofs.scan_values.Reads as scan-values-reads
 
-find-requires : tie.Need-find-requires
+find-requires : tie.Need-find-e-requires
 find-requires c κs = search rules
 
-sub-scan-line : tie.Need-overflow-sub-scan-line
+sub-scan-line : tie.Need-slice_bounds-scan_line-count
 sub-scan-line c = search rules
 
-part-scan-line-start : tie.Need-slice-bounds-scan-line-start
+part-scan-line-start : tie.Need-slice_bounds-scan_line-start
 part-scan-line-start c = search rules
 
-part-scan-line-end : tie.Need-slice-bounds-scan-line-end
+part-scan-line-end : tie.Need-slice_bounds-scan_line-end
 part-scan-line-end c = search rules
 
-scan-line-requires : tie.Need-scan-line-requires
+scan-line-requires : tie.Need-scan_line-names-requires
 scan-line-requires c κs =
     let s = c.before.before.before.before in
-    let f = c.before.find in
+    let f = c.before.find-e in
     (s.requires.0, omega (arith, length_part 0 f.result s.args.input.now f.ensures.1.1, f.ensures.1.1, s.requires.1))
 
-enum_told : tie.Need-enum-told
+enum_told : tie.Need-enum_told-1
 enum_told c = search rules
 
-returns : tie.Need-returns
+returns : tie.Need-returns-in-Refused
 returns c =
-    let g = c.enum_told.given in
-    let k = c.before.before.scan-line in
-    let f = c.before.before.before.before.find in
+    let g = c.enum_told-1.given in
+    let k = c.before.before.scan_line-names in
+    let f = c.before.before.before.before.find-e in
     let x = c.before.before.before.before.before.before.before.args in
     (names_refused x.columns.now x.input.now f.result f.ensures.0 k.result k.ensures.0 g.0.0 g.1, refused_told _ _ _ _ k.result g.0.0 g.1)
 
-enum-known-names : tie.Need-enum-known-names
+enum-known-names : tie.Need-enum_known-names
 enum-known-names c = search rules
 
-add-scan-values : tie.Need-overflow-add-scan-values
+add-scan-values : tie.Need-overflow_add-e
 add-scan-values c = search rules
 
-sub-boards-at : tie.Need-overflow-sub-boards-at
+sub-boards-at : tie.Need-slice_bounds-boards_at-count
 sub-boards-at c = search rules
 
-part-boards-at-start : tie.Need-slice-bounds-boards-at-start
+part-boards-at-start : tie.Need-slice_bounds-boards_at-start
 part-boards-at-start c = search rules
 
-part-boards-at-end : tie.Need-slice-bounds-boards-at-end
+part-boards-at-end : tie.Need-slice_bounds-boards_at-end
 part-boards-at-end c = search rules
 
-boards-at-requires : tie.Need-boards-at-requires
+boards-at-requires : tie.Need-boards_at-requires
 boards-at-requires c κs =
     let s = c.before.before.before.before.before.before.before.before.before in
-    let f = c.before.before.before.before.before.before.find in
+    let f = c.before.before.before.before.before.before.find-e in
     omega (arith, length_part 0 f.result s.args.input.now f.ensures.1.1, f.ensures.1.1, s.requires.1)
 
-scan-values-requires : tie.Need-scan-values-requires
+scan-values-requires : tie.Need-scan_values-values-requires
 scan-values-requires c κs =
     let s = c.before.before.before.before.before.before.before.before.before.before in
-    (s.requires.0, s.requires.1, omega (arith, c.before.before.before.before.before.before.before.find.ensures.1.1))
+    (s.requires.0, s.requires.1, omega (arith, c.before.before.before.before.before.before.before.find-e.ensures.1.1))
 
-enum-told-2 : tie.Need-enum-told-2
+enum-told-2 : tie.Need-enum_told-in-Refused-values
 enum-told-2 c = search rules
 
-enum-known-values : tie.Need-enum-known-values
+enum-known-values : tie.Need-enum_known-values
 enum-known-values c = search rules
 
-add-t20 : tie.Need-overflow-add-t20
+add-t20 : tie.Need-overflow_add-result
 add-t20 c =
     let s = c.before.before.before.before.before.before.before.before.before.before.before.before.before.before.before in
-    let f = c.before.before.before.before.before.before.before.before.before.before.before.before.find in
-    let k = c.before.before.before.before.before.before.before.before.before.before.scan-line in
-    let g = c.before.before.before.before.before.before.before.before.names.given in
-    let v = c.before.before.before.before.scan-values in
-    let h = c.before.before.values.given in
+    let f = c.before.before.before.before.before.before.before.before.before.before.before.before.find-e in
+    let k = c.before.before.before.before.before.before.before.before.before.before.scan_line-names in
+    let g = c.before.before.before.before.before.before.before.before.names-1.given in
+    let v = c.before.before.before.before.scan_values-values in
+    let h = c.before.before.values-1.given in
     let a = fine_told _ _ _ _ k.result g.0.0 g.1 k.ensures.1.0 k.ensures.1.1 in
     let b = fine_told _ _ _ _ v.result h.0.0 h.1 v.ensures.1.0 v.ensures.1.1 in
     omega (arith, a.2.0, b.2.0, length_part 0 f.result s.args.input.now f.ensures.1.1, f.ensures.1.1, s.requires.1)
 
-returns-2 : tie.Need-returns-2
+returns-2 : tie.Need-returns-in-Refused-values
 returns-2 c =
     let x = c.before.before.before.before.before.before.before.before.before.before.before.before.before.args in
-    let f = c.before.before.before.before.before.before.before.before.before.before.find in
-    let k = c.before.before.before.before.before.before.before.before.scan-line in
-    let g = c.before.before.before.before.before.before.names.given in
-    let b = c.before.before.before.boards-at in
-    let v = c.before.before.scan-values in
-    let h = c.enum-told2.given in (
+    let f = c.before.before.before.before.before.before.before.before.before.before.find-e in
+    let k = c.before.before.before.before.before.before.before.before.scan_line-names in
+    let g = c.before.before.before.before.before.before.names-1.given in
+    let b = c.before.before.before.boards_at in
+    let v = c.before.before.scan_values-values in
+    let h = c.enum_told-in-Refused-values-1.given in (
       by_values x.columns.now x.input.now f.result f.ensures.0 k.result k.ensures.0 g.0.0 g.1 b.result b.ensures v.result v.ensures.0,
       refused_told _ _ _ _ v.result h.0.0 h.1,
     )
 
-returns-3 : tie.Need-returns-3
+returns-3 : tie.Need-returns-in-Fine-values
 unfolding scan_fault ScanTold ScanSmall
 returns-3 c =
     let s = c.before.before.before.before.before.before.before.before.before.before.before.before.before.before.before in
     let x = s.args in
-    let f = c.before.before.before.before.before.before.before.before.before.before.before.before.find in
-    let k = c.before.before.before.before.before.before.before.before.before.before.scan-line in
-    let g = c.before.before.before.before.before.before.before.before.names.given in
-    let b = c.before.before.before.before.before.boards-at in
-    let v = c.before.before.before.before.scan-values in
-    let h = c.before.before.values.given in
+    let f = c.before.before.before.before.before.before.before.before.before.before.before.before.find-e in
+    let k = c.before.before.before.before.before.before.before.before.before.before.scan_line-names in
+    let g = c.before.before.before.before.before.before.before.before.names-1.given in
+    let b = c.before.before.before.before.before.boards_at in
+    let v = c.before.before.before.before.scan_values-values in
+    let h = c.before.before.values-1.given in
     let p = fine_told _ _ _ _ k.result g.0.0 g.1 k.ensures.1.0 k.ensures.1.1 in
     let r = fine_told _ _ _ _ v.result h.0.0 h.1 v.ensures.1.0 v.ensures.1.1 in
     let o = by_values x.columns.now x.input.now f.result f.ensures.0 k.result k.ensures.0 g.0.0 g.1 b.result b.ensures v.result v.ensures.0 in (
@@ -124,8 +124,8 @@ returns-3 c =
       ),
     )
 
-pub scan-spec : {M : Type 1} → statement M
-scan-spec =
+pub scan_spec : {M : Type 1} → statement M
+scan_spec =
     tie.close
     (tie.spec
     find-requires

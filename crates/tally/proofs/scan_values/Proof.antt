@@ -13,82 +13,82 @@ use Rattle.tally.proofs.scan_values.Lts as lts
 use Rattle.sheet.proofs.find.Reads as find-reads
 use Rattle.tally.proofs.scan_line.Reads as scan-line-reads
 
-abbrev invariant-loop : tie.invariant-loop
+abbrev invariant-loop : tie.invariant-loop-at
 invariant-loop input from columns k bytes₀ boards₀ at₀ bytes boards at = Scanning columns k input from bytes boards at
 
-abbrev decreases-loop : tie.decreases-loop
+abbrev decreases-loop : tie.decreases-loop-at
 decreases-loop input from columns k bytes₀ boards₀ at₀ bytes boards at = (length input + 1) - at
 
-loop-holds : tie.Need-loop-init invariant-loop decreases-loop
+loop-holds : tie.Need-loop-at-init invariant-loop decreases-loop
 loop-holds c = scanning_first _ _ _ _ c.before.before.requires.2
 
-find-requires : tie.Need-find-requires invariant-loop decreases-loop
+find-requires : tie.Need-find-e-requires invariant-loop decreases-loop
 find-requires c κs = search rules
 
-sub-scan-line : tie.Need-overflow-sub-scan-line invariant-loop decreases-loop
+sub-scan-line : tie.Need-slice_bounds-scan_line-count invariant-loop decreases-loop
 sub-scan-line c = search rules
 
-part-scan-line-start : tie.Need-slice-bounds-scan-line-start invariant-loop decreases-loop
+part-scan-line-start : tie.Need-slice_bounds-scan_line-start invariant-loop decreases-loop
 part-scan-line-start c = search rules
 
-part-scan-line-end : tie.Need-slice-bounds-scan-line-end invariant-loop decreases-loop
+part-scan-line-end : tie.Need-slice_bounds-scan_line-end invariant-loop decreases-loop
 part-scan-line-end c = search rules
 
-scan-line-requires : tie.Need-scan-line-requires invariant-loop decreases-loop
+scan-line-requires : tie.Need-scan_line-got-requires invariant-loop decreases-loop
 scan-line-requires c κs = search rules
 
-enum_told : tie.Need-enum-told invariant-loop decreases-loop
+enum_told : tie.Need-enum_told-1 invariant-loop decreases-loop
 enum_told c = search rules
 
-returns : tie.Need-returns invariant-loop decreases-loop
+returns : tie.Need-returns-in-Refused invariant-loop decreases-loop
 returns c =
-    let g = c.enum_told.given in
-    let k = c.before.before.scan-line in
-    let f = c.before.before.before.before.find in
-    (line_refused _ _ _ _ _ _ _ c.before.before.before.before.before.before.loop.invariant c.before.before.before.before.before.loop-test.true f.result f.ensures.0 k.result k.ensures.0 g.0.0 g.1, refused_told _ _ _ _ k.result g.0.0 g.1)
+    let g = c.enum_told-1.given in
+    let k = c.before.before.scan_line-got in
+    let f = c.before.before.before.before.find-e in
+    (line_refused _ _ _ _ _ _ _ c.before.before.before.before.before.before.loop-at.invariant c.before.before.before.before.before.loop-at-test.true f.result f.ensures.0 k.result k.ensures.0 g.0.0 g.1, refused_told _ _ _ _ k.result g.0.0 g.1)
 
-enum-known-got : tie.Need-enum-known-got invariant-loop decreases-loop
+enum-known-got : tie.Need-enum_known-got invariant-loop decreases-loop
 enum-known-got c = search rules
 
-add-bytes : tie.Need-overflow-add-bytes invariant-loop decreases-loop
+add-bytes : tie.Need-overflow_add-bytes invariant-loop decreases-loop
 add-bytes c =
-    let g = c.before.before.got.given in
-    let k = c.before.before.before.before.scan-line in
-    let f = c.before.before.before.before.before.before.find in
-    let s = c.before.before.before.before.before.before.before.before.loop.invariant in
+    let g = c.before.before.got-1.given in
+    let k = c.before.before.before.before.scan_line-got in
+    let f = c.before.before.before.before.before.before.find-e in
+    let s = c.before.before.before.before.before.before.before.before.loop-at.invariant in
     let u = fine_told _ _ _ _ k.result g.0.0 g.1 k.ensures.1.0 k.ensures.1.1 in
-    omega (arith, u.2.0, s.small.0, s.inside, length_part c.before.before.before.before.before.before.before.before.loop.at f.result c.before.before.before.before.before.before.before.before.before.before.before.args.input.now f.ensures.1.1, f.ensures.1.1, c.before.before.before.before.before.before.before.before.before.before.before.requires.1)
+    omega (arith, u.2.0, s.small.0, s.inside, length_part c.before.before.before.before.before.before.before.before.loop-at.at f.result c.before.before.before.before.before.before.before.before.before.before.before.args.input.now f.ensures.1.1, f.ensures.1.1, c.before.before.before.before.before.before.before.before.before.before.before.requires.1)
 
-add-boards : tie.Need-overflow-add-boards invariant-loop decreases-loop
+add-boards : tie.Need-overflow_add-boards invariant-loop decreases-loop
 add-boards c =
-    let g = c.before.before.before.got.given in
-    let k = c.before.before.before.before.before.scan-line in
-    let s = c.before.before.before.before.before.before.before.before.before.loop.invariant in
+    let g = c.before.before.before.got-1.given in
+    let k = c.before.before.before.before.before.scan_line-got in
+    let s = c.before.before.before.before.before.before.before.before.before.loop-at.invariant in
     let u = fine_told _ _ _ _ k.result g.0.0 g.1 k.ensures.1.0 k.ensures.1.1 in
     omega (arith, u.2.1, s.small.1, s.inside, c.before.before.before.before.before.before.before.before.before.before.before.before.requires.1)
 
-add_at : tie.Need-overflow-add-at invariant-loop decreases-loop
+add_at : tie.Need-overflow_add-at invariant-loop decreases-loop
 add_at c = search rules
 
-loop-less : tie.Need-loop-smaller invariant-loop decreases-loop
+loop-less : tie.Need-loop-at-smaller invariant-loop decreases-loop
 loop-less c = search rules
 
-loop-again : tie.Need-loop-preserved invariant-loop decreases-loop
+loop-again : tie.Need-loop-at-preserved invariant-loop decreases-loop
 loop-again c =
-    let g = c.before.before.before.got.given in
-    let k = c.before.before.before.before.before.scan-line in
-    let f = c.before.before.before.before.before.before.before.find in
-    scanning_next _ _ _ _ _ _ _ c.before.before.before.before.before.before.before.before.before.loop.invariant c.before.before.before.before.before.before.before.before.loop-test.true f.result f.ensures.0 k.result k.ensures.0 g.0.0 g.1 k.ensures.1.0 k.ensures.1.1 f.ensures.1.0 f.ensures.1.1
+    let g = c.before.before.before.got-1.given in
+    let k = c.before.before.before.before.before.scan_line-got in
+    let f = c.before.before.before.before.before.before.before.find-e in
+    scanning_next _ _ _ _ _ _ _ c.before.before.before.before.before.before.before.before.before.loop-at.invariant c.before.before.before.before.before.before.before.before.loop-at-test.true f.result f.ensures.0 k.result k.ensures.0 g.0.0 g.1 k.ensures.1.0 k.ensures.1.1 f.ensures.1.0 f.ensures.1.1
 
-returns-2 : tie.Need-returns-2 invariant-loop decreases-loop
+returns-2 : tie.Need-returns invariant-loop decreases-loop
 unfolding scan_fault ScanTold ScanSmall
 returns-2 c =
-    let s = c.before.loop.invariant in
-    let l = scanning_last _ _ _ _ _ _ _ s (omega (arith, c.loop-test.false)) in
+    let s = c.before.loop-at.invariant in
+    let l = scanning_last _ _ _ _ _ _ _ s (omega (arith, c.loop-at-test.false)) in
     (l.0, (l.1, (omega (arith, s.small.0, s.inside, c.before.before.before.before.requires.1), omega (arith, s.small.1, s.inside, c.before.before.before.before.requires.1))))
 
-pub scan-values-spec : {M : Type 1} → statement M
-scan-values-spec =
+pub scan_values_spec : {M : Type 1} → statement M
+scan_values_spec =
     tie.close
     (tie.spec
     invariant-loop

@@ -17,144 +17,144 @@ use Rattle.tally.proofs.scan.Reads as scan-reads
 use Rattle.tally.proofs.wrong_columns.Reads as wrong-columns-reads
 use Rattle.writer.proofs.settle.Reads as settle-reads
 
-returns : tie.Need-returns
+returns : tie.Need-returns-then-input-gt-DATA_LIMIT
 returns c =
     let x = c.before.before.before.before.args in
-    input_refused x.columns.now x.input.now x.out.now (omega (arith, c.if1.true))
+    input_refused x.columns.now x.input.now x.out-1.now (omega (arith, c.if-input-gt-DATA_LIMIT.true))
 
-wrong-columns-requires : tie.Need-wrong-columns-requires
+wrong-columns-requires : tie.Need-wrong_columns-requires
 wrong-columns-requires c κs = search rules
 
-returns-2 : tie.Need-returns-2
+returns-2 : tie.Need-returns-then-wrong_columns
 returns-2 c =
     let x = c.before.before.before.before.before.before.args in
-    columns-refused x.columns.now x.input.now x.out.now (omega (arith, c.before.before.if1.false)) (sym c.before.wrong-columns.ensures ∙ c.if2.true)
+    columns-refused x.columns.now x.input.now x.out-1.now (omega (arith, c.before.before.if-input-gt-DATA_LIMIT.false)) (sym c.before.wrong_columns.ensures ∙ c.if-wrong_columns.true)
 
-line-count-requires : tie.Need-line-count-requires
+line-count-requires : tie.Need-line_count-lines-requires
 line-count-requires c κs = search rules
 
-returns-3 : tie.Need-returns-3
+returns-3 : tie.Need-returns-then-lines-gt-LINE_LIMIT
 returns-3 c =
     let x = c.before.before.before.before.before.before.before.before.args in
-    lines_refused x.columns.now x.input.now x.out.now (omega (arith, c.before.before.before.before.if1.false)) (sym c.before.before.before.wrong-columns.ensures ∙ c.before.before.if2.false) c.before.line-count.result c.before.line-count.ensures.0 (omega (arith, c.if3.true))
+    lines_refused x.columns.now x.input.now x.out-1.now (omega (arith, c.before.before.before.before.if-input-gt-DATA_LIMIT.false)) (sym c.before.before.before.wrong_columns.ensures ∙ c.before.before.if-wrong_columns.false) c.before.line_count-lines.result c.before.line_count-lines.ensures.0 (omega (arith, c.if-lines-gt-LINE_LIMIT.true))
 
-scan-requires : tie.Need-scan-requires
-scan-requires c κs = (sym c.before.before.before.wrong-columns.ensures ∙ c.before.before.if2.false, omega (arith, c.before.before.before.before.if1.false))
+scan-requires : tie.Need-scan-scanned-requires
+scan-requires c κs = (sym c.before.before.before.wrong_columns.ensures ∙ c.before.before.if-wrong_columns.false, omega (arith, c.before.before.before.before.if-input-gt-DATA_LIMIT.false))
 
-enum-known-scanned : tie.Need-enum-known-scanned
+enum-known-scanned : tie.Need-enum_known-scanned
 enum-known-scanned c = search rules
 
-returns-4 : tie.Need-returns-4
+returns-4 : tie.Need-returns-in-Refused
 returns-4 c =
     let x = c.before.before.before.before.before.before.before.before.before.before.before.before.args in
-    let lc = c.before.before.before.before.before.line-count in
-    let sc = c.before.before.before.scan in
-    let right = sym c.before.before.before.before.before.before.before.wrong-columns.ensures ∙ c.before.before.before.before.before.before.if2.false in
-    let g = c.before.scanned.given in
-    scan-refused x.columns.now x.input.now x.out.now (omega (arith, c.before.before.before.before.before.before.before.before.if1.false)) right lc.result lc.ensures.0 (omega (arith, c.before.before.before.before.if3.false)) sc.result sc.ensures.0 g.0.0 g.1
+    let lc = c.before.before.before.before.before.line_count-lines in
+    let sc = c.before.before.before.scan-scanned in
+    let right = sym c.before.before.before.before.before.before.before.wrong_columns.ensures ∙ c.before.before.before.before.before.before.if-wrong_columns.false in
+    let g = c.before.scanned-1.given in
+    scan-refused x.columns.now x.input.now x.out-1.now (omega (arith, c.before.before.before.before.before.before.before.before.if-input-gt-DATA_LIMIT.false)) right lc.result lc.ensures.0 (omega (arith, c.before.before.before.before.if-lines-gt-LINE_LIMIT.false)) sc.result sc.ensures.0 g.0.0 g.1
 
-enum-known-scanned-2 : tie.Need-enum-known-scanned-2
+enum-known-scanned-2 : tie.Need-enum_known-scanned-in-Fine-1
 enum-known-scanned-2 c = search rules
 
-sub-values : tie.Need-overflow-sub-values
+sub-values : tie.Need-overflow_sub-values
 sub-values c = search rules
 
-cast-values : tie.Need-overflow-cast-values
+cast-values : tie.Need-overflow_cast-values
 cast-values c = search rules
 
-cast-sum : tie.Need-overflow-cast-sum
+cast-sum : tie.Need-overflow_cast-sum
 cast-sum c =
     let x = c.before.before.before.before.before.before.before.before.before.before.before.before.before.args in
-    let lc = c.before.before.before.before.before.before.line-count in
-    let sc = c.before.before.before.before.scan in
-    let right = sym c.before.before.before.before.before.before.before.before.wrong-columns.ensures ∙ c.before.before.before.before.before.before.before.if2.false in
-    let g = c.before.before.scanned2.given in
+    let lc = c.before.before.before.before.before.before.line_count-lines in
+    let sc = c.before.before.before.before.scan-scanned in
+    let right = sym c.before.before.before.before.before.before.before.before.wrong_columns.ensures ∙ c.before.before.before.before.before.before.before.if-wrong_columns.false in
+    let g = c.before.before.scanned-in-Fine-1.given in
     let t = fine_told _ _ _ _ sc.result g.0.0 g.1 sc.ensures.1.0 sc.ensures.1.1 in
-    omega (arith, t.1.1, sum_small x.columns.now x.input.now x.out.now (omega (arith, c.before.before.before.before.before.before.before.before.before.if1.false)) right lc.result lc.ensures.0 (omega (arith, c.before.before.before.before.before.if3.false)) sc.result sc.ensures.0 g.0.0 g.1)
+    omega (arith, t.1.1, sum_small x.columns.now x.input.now x.out-1.now (omega (arith, c.before.before.before.before.before.before.before.before.before.if-input-gt-DATA_LIMIT.false)) right lc.result lc.ensures.0 (omega (arith, c.before.before.before.before.before.if-lines-gt-LINE_LIMIT.false)) sc.result sc.ensures.0 g.0.0 g.1)
 
-last-len-requires : tie.Need-last-len-requires
+last-len-requires : tie.Need-last_len-requires
 last-len-requires c κs = search rules
 
-add-settle : tie.Need-overflow-add-settle
+add-settle : tie.Need-overflow_add-total
 add-settle c =
     let x = c.before.before.before.before.before.before.before.before.before.before.before.before.before.before.before.args in
-    let lc = c.before.before.before.before.before.before.before.before.line-count in
-    let sc = c.before.before.before.before.before.before.scan in
-    let right = sym c.before.before.before.before.before.before.before.before.before.before.wrong-columns.ensures ∙ c.before.before.before.before.before.before.before.before.before.if2.false in
-    let g = c.before.before.before.before.scanned2.given in
+    let lc = c.before.before.before.before.before.before.before.before.line_count-lines in
+    let sc = c.before.before.before.before.before.before.scan-scanned in
+    let right = sym c.before.before.before.before.before.before.before.before.before.before.wrong_columns.ensures ∙ c.before.before.before.before.before.before.before.before.before.if-wrong_columns.false in
+    let g = c.before.before.before.before.scanned-in-Fine-1.given in
     let t = fine_told _ _ _ _ sc.result g.0.0 g.1 sc.ensures.1.0 sc.ensures.1.1 in
-    omega (arith, t.2.0, c.before.last-len.ensures.1)
+    omega (arith, t.2.0, c.before.last_len.ensures.1)
 
-settle-requires : tie.Need-settle-requires
+settle-requires : tie.Need-settle-verdict-requires
 settle-requires c κs = search rules
 
-enum-known-verdict : tie.Need-enum-known-verdict
+enum-known-verdict : tie.Need-enum_known-verdict
 enum-known-verdict c = search rules
 
-returns-5 : tie.Need-returns-5
+returns-5 : tie.Need-returns-in-Refused-verdict
 returns-5 c =
     let x = c.before.before.before.before.before.before.before.before.before.before.before.before.before.before.before.before.before.before.before.args in
-    let lc = c.before.before.before.before.before.before.before.before.before.before.before.before.line-count in
-    let sc = c.before.before.before.before.before.before.before.before.before.before.scan in
-    let right = sym c.before.before.before.before.before.before.before.before.before.before.before.before.before.before.wrong-columns.ensures ∙ c.before.before.before.before.before.before.before.before.before.before.before.before.before.if2.false in
-    let g = c.before.before.before.before.before.before.before.before.scanned2.given in
+    let lc = c.before.before.before.before.before.before.before.before.before.before.before.before.line_count-lines in
+    let sc = c.before.before.before.before.before.before.before.before.before.before.scan-scanned in
+    let right = sym c.before.before.before.before.before.before.before.before.before.before.before.before.before.before.wrong_columns.ensures ∙ c.before.before.before.before.before.before.before.before.before.before.before.before.before.if-wrong_columns.false in
+    let g = c.before.before.before.before.before.before.before.before.scanned-in-Fine-1.given in
     let t = fine_told _ _ _ _ sc.result g.0.0 g.1 sc.ensures.1.0 sc.ensures.1.1 in
-    let l = c.before.before.before.before.before.last-len in
+    let l = c.before.before.before.before.before.last_len in
     let e = last_text_lem x.input.now lc.result g.0.0.boards lc.ensures.0 t.1.1 in
-    let v = c.before.before.before.settle in
-    let k = c.before.verdict.given in
-    sizes_refused x.columns.now x.input.now x.out.now (omega (arith, c.before.before.before.before.before.before.before.before.before.before.before.before.before.before.before.if1.false)) right lc.result lc.ensures.0 (omega (arith, c.before.before.before.before.before.before.before.before.before.before.before.if3.false)) sc.result sc.ensures.0 g.0.0 g.1 g.0.0.bytes l.result t.1.0 (l.ensures.0 ∙ ap length e) v.result v.ensures k.0.0 k.1
+    let v = c.before.before.before.settle-verdict in
+    let k = c.before.verdict-1.given in
+    sizes_refused x.columns.now x.input.now x.out-1.now (omega (arith, c.before.before.before.before.before.before.before.before.before.before.before.before.before.before.before.if-input-gt-DATA_LIMIT.false)) right lc.result lc.ensures.0 (omega (arith, c.before.before.before.before.before.before.before.before.before.before.before.if-lines-gt-LINE_LIMIT.false)) sc.result sc.ensures.0 g.0.0 g.1 g.0.0.bytes l.result t.1.0 (l.ensures.0 ∙ ap length e) v.result v.ensures k.0.0 k.1
 
-enum_told : tie.Need-enum-told
+enum_told : tie.Need-enum_told-1
 enum_told c = search rules
 
-put-rows-requires : tie.Need-put-rows-requires
+put-rows-requires : tie.Need-put_rows-end-requires
 put-rows-requires c κs =
     let x = c.before.before.before.before.before.before.before.before.before.before.before.before.before.before.before.before.before.before.before.args in
-    let lc = c.before.before.before.before.before.before.before.before.before.before.before.before.line-count in
-    let sc = c.before.before.before.before.before.before.before.before.before.before.scan in
-    let right = sym c.before.before.before.before.before.before.before.before.before.before.before.before.before.before.wrong-columns.ensures ∙ c.before.before.before.before.before.before.before.before.before.before.before.before.before.if2.false in
-    let g = c.before.before.before.before.before.before.before.before.scanned2.given in
+    let lc = c.before.before.before.before.before.before.before.before.before.before.before.before.line_count-lines in
+    let sc = c.before.before.before.before.before.before.before.before.before.before.scan-scanned in
+    let right = sym c.before.before.before.before.before.before.before.before.before.before.before.before.before.before.wrong_columns.ensures ∙ c.before.before.before.before.before.before.before.before.before.before.before.before.before.if-wrong_columns.false in
+    let g = c.before.before.before.before.before.before.before.before.scanned-in-Fine-1.given in
     let t = fine_told _ _ _ _ sc.result g.0.0 g.1 sc.ensures.1.0 sc.ensures.1.1 in
-    let l = c.before.before.before.before.before.last-len in
+    let l = c.before.before.before.before.before.last_len in
     let e = last_text_lem x.input.now lc.result g.0.0.boards lc.ensures.0 t.1.1 in
-    let v = c.before.before.before.settle in
-    (fits x.columns.now x.input.now x.out.now (omega (arith, c.before.before.before.before.before.before.before.before.before.before.before.before.before.before.before.if1.false)) right lc.result lc.ensures.0 (omega (arith, c.before.before.before.before.before.before.before.before.before.before.before.if3.false)) sc.result sc.ensures.0 g.0.0 g.1, omega (arith, has_room x.columns.now x.input.now x.out.now (omega (arith, c.before.before.before.before.before.before.before.before.before.before.before.before.before.before.before.if1.false)) right lc.result lc.ensures.0 (omega (arith, c.before.before.before.before.before.before.before.before.before.before.before.if3.false)) sc.result sc.ensures.0 g.0.0 g.1 g.0.0.bytes l.result t.1.0 (l.ensures.0 ∙ ap length e) v.result v.ensures c.before.enum_told.given.1, t.1.0))
+    let v = c.before.before.before.settle-verdict in
+    (fits x.columns.now x.input.now x.out-1.now (omega (arith, c.before.before.before.before.before.before.before.before.before.before.before.before.before.before.before.if-input-gt-DATA_LIMIT.false)) right lc.result lc.ensures.0 (omega (arith, c.before.before.before.before.before.before.before.before.before.before.before.if-lines-gt-LINE_LIMIT.false)) sc.result sc.ensures.0 g.0.0 g.1, omega (arith, has_room x.columns.now x.input.now x.out-1.now (omega (arith, c.before.before.before.before.before.before.before.before.before.before.before.before.before.before.before.if-input-gt-DATA_LIMIT.false)) right lc.result lc.ensures.0 (omega (arith, c.before.before.before.before.before.before.before.before.before.before.before.if-lines-gt-LINE_LIMIT.false)) sc.result sc.ensures.0 g.0.0 g.1 g.0.0.bytes l.result t.1.0 (l.ensures.0 ∙ ap length e) v.result v.ensures c.before.enum_told-1.given.1, t.1.0))
 
-put-last-requires : tie.Need-put-last-requires
+put-last-requires : tie.Need-put_last-requires
 put-last-requires c κs =
     let x = c.before.before.before.before.before.before.before.before.before.before.before.before.before.before.before.before.before.before.before.before.before.before.before.args in
-    let lc = c.before.before.before.before.before.before.before.before.before.before.before.before.before.before.before.before.line-count in
-    let sc = c.before.before.before.before.before.before.before.before.before.before.before.before.before.before.scan in
-    let right = sym c.before.before.before.before.before.before.before.before.before.before.before.before.before.before.before.before.before.before.wrong-columns.ensures ∙ c.before.before.before.before.before.before.before.before.before.before.before.before.before.before.before.before.before.if2.false in
-    let g = c.before.before.before.before.before.before.before.before.before.before.before.before.scanned2.given in
+    let lc = c.before.before.before.before.before.before.before.before.before.before.before.before.before.before.before.before.line_count-lines in
+    let sc = c.before.before.before.before.before.before.before.before.before.before.before.before.before.before.scan-scanned in
+    let right = sym c.before.before.before.before.before.before.before.before.before.before.before.before.before.before.before.before.before.before.wrong_columns.ensures ∙ c.before.before.before.before.before.before.before.before.before.before.before.before.before.before.before.before.before.if-wrong_columns.false in
+    let g = c.before.before.before.before.before.before.before.before.before.before.before.before.scanned-in-Fine-1.given in
     let t = fine_told _ _ _ _ sc.result g.0.0 g.1 sc.ensures.1.0 sc.ensures.1.1 in
-    let l = c.before.before.before.before.before.before.before.before.before.last-len in
+    let l = c.before.before.before.before.before.before.before.before.before.last_len in
     let e = last_text_lem x.input.now lc.result g.0.0.boards lc.ensures.0 t.1.1 in
-    let v = c.before.before.before.before.before.before.before.settle in
-    let p = c.before.before.before.put-rows in
-    omega (arith, has_room x.columns.now x.input.now x.out.now (omega (arith, c.before.before.before.before.before.before.before.before.before.before.before.before.before.before.before.before.before.before.before.if1.false)) right lc.result lc.ensures.0 (omega (arith, c.before.before.before.before.before.before.before.before.before.before.before.before.before.before.before.if3.false)) sc.result sc.ensures.0 g.0.0 g.1 g.0.0.bytes l.result t.1.0 (l.ensures.0 ∙ ap length e) v.result v.ensures c.before.before.before.before.before.enum_told.given.1, t.1.0, l.ensures.0, p.ensures.0, p.auto)
+    let v = c.before.before.before.before.before.before.before.settle-verdict in
+    let p = c.before.before.before.put_rows-end in
+    omega (arith, has_room x.columns.now x.input.now x.out-1.now (omega (arith, c.before.before.before.before.before.before.before.before.before.before.before.before.before.before.before.before.before.before.before.if-input-gt-DATA_LIMIT.false)) right lc.result lc.ensures.0 (omega (arith, c.before.before.before.before.before.before.before.before.before.before.before.before.before.before.before.if-lines-gt-LINE_LIMIT.false)) sc.result sc.ensures.0 g.0.0 g.1 g.0.0.bytes l.result t.1.0 (l.ensures.0 ∙ ap length e) v.result v.ensures c.before.before.before.before.before.enum_told-1.given.1, t.1.0, l.ensures.0, p.ensures.0, p.auto)
 
-same_length : tie.Need-same-length
+same_length : tie.Need-shape_of-out
 same_length c = search rules
 
-returns-6 : tie.Need-returns-6
+returns-6 : tie.Need-returns
 returns-6 c =
     let x = c.before.before.before.before.before.before.before.before.before.before.before.before.before.before.before.before.before.before.before.before.before.before.before.before.before.before.args in
-    let lc = c.before.before.before.before.before.before.before.before.before.before.before.before.before.before.before.before.before.before.before.line-count in
-    let sc = c.before.before.before.before.before.before.before.before.before.before.before.before.before.before.before.before.before.scan in
-    let right = sym c.before.before.before.before.before.before.before.before.before.before.before.before.before.before.before.before.before.before.before.before.before.wrong-columns.ensures ∙ c.before.before.before.before.before.before.before.before.before.before.before.before.before.before.before.before.before.before.before.before.if2.false in
-    let g = c.before.before.before.before.before.before.before.before.before.before.before.before.before.before.before.scanned2.given in
+    let lc = c.before.before.before.before.before.before.before.before.before.before.before.before.before.before.before.before.before.before.before.line_count-lines in
+    let sc = c.before.before.before.before.before.before.before.before.before.before.before.before.before.before.before.before.before.scan-scanned in
+    let right = sym c.before.before.before.before.before.before.before.before.before.before.before.before.before.before.before.before.before.before.before.before.before.wrong_columns.ensures ∙ c.before.before.before.before.before.before.before.before.before.before.before.before.before.before.before.before.before.before.before.before.if-wrong_columns.false in
+    let g = c.before.before.before.before.before.before.before.before.before.before.before.before.before.before.before.scanned-in-Fine-1.given in
     let t = fine_told _ _ _ _ sc.result g.0.0 g.1 sc.ensures.1.0 sc.ensures.1.1 in
-    let l = c.before.before.before.before.before.before.before.before.before.before.before.before.last-len in
+    let l = c.before.before.before.before.before.before.before.before.before.before.before.before.last_len in
     let e = last_text_lem x.input.now lc.result g.0.0.boards lc.ensures.0 t.1.1 in
-    let v = c.before.before.before.before.before.before.before.before.before.before.settle in
-    let p = c.before.before.before.before.before.before.put-rows in
+    let v = c.before.before.before.before.before.before.before.before.before.before.settle-verdict in
+    let p = c.before.before.before.before.before.before.put_rows-end in
     let q = c.before.before.put_last in
-    written x.columns.now x.input.now x.out.now (omega (arith, c.before.before.before.before.before.before.before.before.before.before.before.before.before.before.before.before.before.before.before.before.before.before.if1.false)) right lc.result lc.ensures.0 (omega (arith, c.before.before.before.before.before.before.before.before.before.before.before.before.before.before.before.before.before.before.if3.false)) sc.result sc.ensures.0 g.0.0 g.1 g.0.0.bytes l.result t.1.0 (l.ensures.0 ∙ ap length e) v.result v.ensures c.before.before.before.before.before.before.before.before.enum_told.given.1 p.result q.result _ _ _ e p.ensures.0 p.ensures.1 q.ensures.0 q.ensures.1
+    written x.columns.now x.input.now x.out-1.now (omega (arith, c.before.before.before.before.before.before.before.before.before.before.before.before.before.before.before.before.before.before.before.before.before.before.if-input-gt-DATA_LIMIT.false)) right lc.result lc.ensures.0 (omega (arith, c.before.before.before.before.before.before.before.before.before.before.before.before.before.before.before.before.before.before.if-lines-gt-LINE_LIMIT.false)) sc.result sc.ensures.0 g.0.0 g.1 g.0.0.bytes l.result t.1.0 (l.ensures.0 ∙ ap length e) v.result v.ensures c.before.before.before.before.before.before.before.before.enum_told-1.given.1 p.result q.result _ _ _ e p.ensures.0 p.ensures.1 q.ensures.0 q.ensures.1
 
-pub write-tally-spec : {M : Type 1} → statement M
-write-tally-spec =
+pub write_tally_spec : {M : Type 1} → statement M
+write_tally_spec =
     tie.close
     (tie.spec
     returns

@@ -12,74 +12,74 @@ use Rattle.tally.proofs.wrong_columns.Reads as reads
 use Rattle.tally.proofs.wrong_columns.Lts as lts
 use Rattle.tally.proofs.bad_column.Reads as bad-column-reads
 
-abbrev invariant-loop : tie.invariant-loop
+abbrev invariant-loop : tie.invariant-loop-k
 invariant-loop columns k₀ k =
     (k ≤ length columns) × (any_bad (columns_of (drop k columns)) ≡ any_bad (columns_of columns))
 
-abbrev decreases-loop : tie.decreases-loop
+abbrev decreases-loop : tie.decreases-loop-k
 decreases-loop columns k₀ k = length columns - k
 
 -- past the tests of the number of columns
-by-columns : (c : tie.At-loop invariant-loop decreases-loop) → any_bad (columns_of c.before.before.before.before.before.args.columns.now) ≡ wrong_columns_of c.before.before.before.before.before.args.columns.now
-by-columns c = wrong_any _ c.before.before.before.if1.false c.before.before.if2.false c.before.if3.false
+by-columns : (c : tie.At-loop-k invariant-loop decreases-loop) → any_bad (columns_of c.before.before.before.before.before.args.columns.now) ≡ wrong_columns_of c.before.before.before.before.before.args.columns.now
+by-columns c = wrong_any _ c.before.before.before.if-columns-ne0.false c.before.before.if-columns-eq0.false c.before.if-columns-gt-NUMBERS_LIMIT.false
 
-returns : tie.Need-returns invariant-loop decreases-loop
-returns c = wrong_odd _ c.if1.true
+returns : tie.Need-returns-then-columns-ne0 invariant-loop decreases-loop
+returns c = wrong_odd _ c.if-columns-ne0.true
 
-returns-2 : tie.Need-returns-2 invariant-loop decreases-loop
-returns-2 c = wrong_none _ c.before.if1.false c.if2.true
+returns-2 : tie.Need-returns-then-columns-eq0 invariant-loop decreases-loop
+returns-2 c = wrong_none _ c.before.if-columns-ne0.false c.if-columns-eq0.true
 
-returns-3 : tie.Need-returns-3 invariant-loop decreases-loop
-returns-3 c = wrong_many _ c.before.before.if1.false c.if3.true
+returns-3 : tie.Need-returns-then-columns-gt-NUMBERS_LIMIT invariant-loop decreases-loop
+returns-3 c = wrong_many _ c.before.before.if-columns-ne0.false c.if-columns-gt-NUMBERS_LIMIT.true
 
-loop-holds : tie.Need-loop-init invariant-loop decreases-loop
+loop-holds : tie.Need-loop-k-init invariant-loop decreases-loop
 loop-holds c = (omega arith, refl)
 
-add-loop : tie.Need-overflow-add-loop invariant-loop decreases-loop
+add-loop : tie.Need-overflow_add-k invariant-loop decreases-loop
 add-loop c = search rules
 
-mul-bad-column : tie.Need-overflow-mul-bad-column invariant-loop decreases-loop
+mul-bad-column : tie.Need-offset_bounds-columns-k invariant-loop decreases-loop
 mul-bad-column c = search rules
 
-shared-slice-read-bad-column : tie.Need-shared-slice-read-bad-column invariant-loop decreases-loop
+shared-slice-read-bad-column : tie.Need-bounds-columns-k invariant-loop decreases-loop
 shared-slice-read-bad-column c = search rules
 
-add-bad-column : tie.Need-overflow-add-bad-column invariant-loop decreases-loop
+add-bad-column : tie.Need-overflow_add-k-in-loop-k invariant-loop decreases-loop
 add-bad-column c = search rules
 
-mul-bad-column-2 : tie.Need-overflow-mul-bad-column-2 invariant-loop decreases-loop
+mul-bad-column-2 : tie.Need-offset_bounds-columns-k-in-loop-k invariant-loop decreases-loop
 mul-bad-column-2 c = search rules
 
-shared-slice-read-bad-column-2 : tie.Need-shared-slice-read-bad-column-2 invariant-loop decreases-loop
+shared-slice-read-bad-column-2 : tie.Need-bounds-columns-k-in-loop-k invariant-loop decreases-loop
 shared-slice-read-bad-column-2 c = search rules
 
-bad-column-requires : tie.Need-bad-column-requires invariant-loop decreases-loop
+bad-column-requires : tie.Need-bad_column-requires invariant-loop decreases-loop
 bad-column-requires c κs = search rules
 
-returns-4 : tie.Need-returns-4 invariant-loop decreases-loop
+returns-4 : tie.Need-returns-then-bad_column invariant-loop decreases-loop
 returns-4 c =
     let l = c.before.before.before.before.before in
-    sym (bad_here _ l.loop.k c.before.before.before.before.loop-test.true (sym c.before.bad-column.ensures ∙ c.if4.true)) ∙ l.loop.invariant.1 ∙ by-columns l
+    sym (bad_here _ l.loop-k.k c.before.before.before.before.loop-k-test.true (sym c.before.bad_column.ensures ∙ c.if-bad_column.true)) ∙ l.loop-k.invariant.1 ∙ by-columns l
 
-add-k : tie.Need-overflow-add-k invariant-loop decreases-loop
+add-k : tie.Need-overflow_add-k-in-loop-k-2 invariant-loop decreases-loop
 add-k c = search rules
 
-loop-less : tie.Need-loop-smaller invariant-loop decreases-loop
+loop-less : tie.Need-loop-k-smaller invariant-loop decreases-loop
 loop-less c = search rules
 
-loop-again : tie.Need-loop-preserved invariant-loop decreases-loop
+loop-again : tie.Need-loop-k-preserved invariant-loop decreases-loop
 loop-again c =
     let l = c.before.before.before.before.before in
-    let more = c.before.before.before.before.loop-test.true in
-    (omega (arith, more), sym (bad_next _ l.loop.k more (sym c.before.bad-column.ensures ∙ c.if4.false)) ∙ l.loop.invariant.1)
+    let more = c.before.before.before.before.loop-k-test.true in
+    (omega (arith, more), sym (bad_next _ l.loop-k.k more (sym c.before.bad_column.ensures ∙ c.if-bad_column.false)) ∙ l.loop-k.invariant.1)
 
-returns-5 : tie.Need-returns-5 invariant-loop decreases-loop
+returns-5 : tie.Need-returns invariant-loop decreases-loop
 returns-5 c =
     let l = c.before in
-    sym (bad_none _ l.loop.k c.loop-test.false) ∙ l.loop.invariant.1 ∙ by-columns l
+    sym (bad_none _ l.loop-k.k c.loop-k-test.false) ∙ l.loop-k.invariant.1 ∙ by-columns l
 
-pub wrong-columns-spec : {M : Type 1} → statement M
-wrong-columns-spec =
+pub wrong_columns_spec : {M : Type 1} → statement M
+wrong_columns_spec =
     tie.close
     (tie.spec
     invariant-loop

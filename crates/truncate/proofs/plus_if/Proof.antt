@@ -6,18 +6,18 @@ use Rattle.truncate.proofs.plus_if.Tie as tie
 use Rattle.truncate.proofs.plus_if.Reads as reads
 use Rattle.truncate.proofs.plus_if.Lts as lts
 
-add-result : tie.Need-overflow-add-result
+add-result : tie.Need-overflow_add-result
 add-result c = search rules
 
-returns : tie.Need-returns
+returns : tie.Need-returns-then-more
 unfolding plus_if_of
 returns c =
-    simp c.if1.true
+    simp c.if-more.true
 
-returns-2 : tie.Need-returns-2
+returns-2 : tie.Need-returns
 unfolding plus_if_of
 returns-2 c =
-    simp c.if1.false
+    simp c.if-more.false
 
-pub plus-if-spec : {M : Type 1} → statement M
-plus-if-spec = tie.close (tie.spec add-result returns returns-2)
+pub plus_if_spec : {M : Type 1} → statement M
+plus_if_spec = tie.close (tie.spec add-result returns returns-2)

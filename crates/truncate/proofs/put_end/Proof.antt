@@ -62,46 +62,46 @@ first s o cut w =
     (place, first_held is (lent s) o refl w (take a.p.content a.content.now) (take a.p.ellipsis a.ellipsis.now) (finished s) run runs)
 
 -- ── what is asked on the way
-put-recording-requires : tie.Need-put-recording-requires
+put-recording-requires : tie.Need-put_recording-requires
 unfolding out
 put-recording-requires c κs =
     let start = c.before.before.before.before.before.before.before.before.before.before.before.before.before.before in
     let a = start.args in
     let p = start.requires in
-    let e = end_whole a.p (content start) (ellipsis start) (not-true a.p.cut c.before.before.before.if1.true) in
+    let e = end_whole a.p (content start) (ellipsis start) c.before.before.before.if-not-p.true in
     (p.0, rw e at p.1.1.1)
 
-same_length : tie.Need-same-length
+same_length : tie.Need-shape_of-bytes-then-not-p
 same_length c = search rules
 
-same-length-2 : tie.Need-same-length-2
+same-length-2 : tie.Need-shape_of-numbers-then-not-p
 same-length-2 c = search rules
 
-same-length-3 : tie.Need-same-length-3
+same-length-3 : tie.Need-shape_of-texts-then-not-p
 same-length-3 c = search rules
 
-returns : tie.Need-returns
+returns : tie.Need-returns-then-not-p
 unfolding out
 returns c =
     let at-put-recording = c.before.before.before.before.before.before in
     let at-if1 = at-put-recording.before.before.before.before in
     let start = at-if1.before.before.before.before.before.before.before.before.before.before.before in
     let a = start.args in
-    let e = end_whole a.p (content start) (ellipsis start) (not-true a.p.cut at-if1.if1.true) in
-    let w = at-put-recording.put-recording.ensures.0 ∙ ap (λ (x : List Item). add x (lent start)) (sym e) in
+    let e = end_whole a.p (content start) (ellipsis start) at-if1.if-not-p.true in
+    let w = at-put-recording.put_recording.ensures.0 ∙ ap (λ (x : List Item). add x (lent start)) (sym e) in
     (w, held start _ w)
 
-put-up-to-requires : tie.Need-put-up-to-requires
+put-up-to-requires : tie.Need-put_up_to-c-requires
 unfolding out
 put-up-to-requires c κs =
     let start = c.before.before.before.before.before.before.before.before.before.before.before.before.before.before in
     let a = start.args in
     let p = start.requires in
-    let cut = not_false a.p.cut c.before.before.before.if1.false in
+    let cut = c.before.before.before.if-not-p.false in
     let e = end_cut a.p (content start) (ellipsis start) cut in
     (p.0, (p.1.1.0.0, fits_first _ _ _ _ e p.1.1.1))
 
-put-end-ellipsis-requires : tie.Need-put-end-ellipsis-requires
+put-end-ellipsis-requires : tie.Need-put_end_ellipsis-requires
 unfolding out
 put-end-ellipsis-requires c κs =
     let at-put-up-to = c.before.before.before.before.before.before.before.before.before in
@@ -109,22 +109,22 @@ put-end-ellipsis-requires c κs =
     let start = at-if1.before.before.before.before.before.before.before.before.before.before.before in
     let a = start.args in
     let p = start.requires in
-    let cut = not_false a.p.cut at-if1.if1.false in
+    let cut = at-if1.if-not-p.false in
     let e = end_cut a.p (content start) (ellipsis start) cut in
-    let w = at-put-up-to.put-up-to.ensures.0 in
+    let w = at-put-up-to.put_up_to-c.ensures.0 in
     let f = first start _ cut w in
     (p.1.0, ((cut, p.1.1.0.0, p.1.1.0.1), ((f.0, held_self _ _ _ _ f.1), fits_then _ _ _ _ _ e p.1.1.1 w)))
 
-same-length-4 : tie.Need-same-length-4
+same-length-4 : tie.Need-shape_of-bytes
 same-length-4 c = search rules
 
-same-length-5 : tie.Need-same-length-5
+same-length-5 : tie.Need-shape_of-numbers
 same-length-5 c = search rules
 
-same-length-6 : tie.Need-same-length-6
+same-length-6 : tie.Need-shape_of-texts
 same-length-6 c = search rules
 
-returns-2 : tie.Need-returns-2
+returns-2 : tie.Need-returns
 unfolding out
 returns-2 c =
     let at-put-end-ellipsis = c.before.before.before.before.before.before in
@@ -133,12 +133,12 @@ returns-2 c =
     let start = at-if1.before.before.before.before.before.before.before.before.before.before.before in
     let a = start.args in
     let p = start.requires in
-    let e = end_cut a.p (content start) (ellipsis start) (not_false a.p.cut at-if1.if1.false) in
-    let w = then _ _ _ _ _ _ e p.1.1.1 at-put-up-to.put-up-to.ensures.0 at-put-end-ellipsis.put-end-ellipsis.ensures.0 in
+    let e = end_cut a.p (content start) (ellipsis start) at-if1.if-not-p.false in
+    let w = then _ _ _ _ _ _ e p.1.1.1 at-put-up-to.put_up_to-c.ensures.0 at-put-end-ellipsis.put_end_ellipsis.ensures.0 in
     (w, held start _ w)
 
-pub put-end-spec : {M : Type 1} → statement M
-put-end-spec =
+pub put_end_spec : {M : Type 1} → statement M
+put_end_spec =
     tie.close
     (tie.spec
     put-recording-requires

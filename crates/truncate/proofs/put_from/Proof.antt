@@ -20,7 +20,7 @@ use Rattle.truncate.proofs.put_from.Lts as lts
 use Rattle.writer.proofs.keep.Reads as keep-reads
 use Rattle.writer.proofs.skip_entries.Reads as skip-entries-reads
 
-skip-entries-requires : tie.Need-skip-entries-requires
+skip-entries-requires : tie.Need-skip_entries-there-requires
 unfolding out
 skip-entries-requires c κs =
     let a = c.before.before.before.before.before.before.before.before.before.args in
@@ -40,7 +40,7 @@ keep-requires c κs =
     let start = at-skip.before.before.before.before.before.before.before.before.before.before in
     let a = start.args in
     let p = start.requires in
-    let k = at-skip.skip-entries.ensures in (
+    let k = at-skip.skip_entries-there.ensures in (
       k.1.1.0,
       (
         (omega (arith, k.1.1.1, p.1.0), omega arith),
@@ -49,13 +49,13 @@ keep-requires c κs =
       ),
     )
 
-same_length : tie.Need-same-length
+same_length : tie.Need-shape_of-bytes
 same_length c = search rules
 
-same-length-2 : tie.Need-same-length-2
+same-length-2 : tie.Need-shape_of-numbers
 same-length-2 c = search rules
 
-same-length-3 : tie.Need-same-length-3
+same-length-3 : tie.Need-shape_of-texts
 same-length-3 c = search rules
 
 returns : tie.Need-returns
@@ -66,14 +66,14 @@ returns c =
     let start = at-skip.before.before.before.before.before.before.before.before.before.before in
     let a = start.args in
     let p = start.requires in
-    let k = at-skip.skip-entries.ensures in
+    let k = at-skip.skip_entries-there.ensures in
     let w = both entries_only (λ (x : List Item). x) _ _ _ _ _ (edit_from a.n a.content.now a.entries.now a.text.now) _ refl refl _ p.1.1 _ _ k.0 k.1.0
     k.1.1.1 _ at-keep.keep.ensures.0 in
     let is = edit (cut_start_of a.n) (items (recording a.content.now a.entries.now a.text.now)) in
-    (w, added_held is (drop a.n a.content.now) (out a.bytes.now a.numbers.now a.texts.now a.c) _ w (from_run a.n a.content.now a.entries.now a.text.now))
+    (w, added_held is (drop a.n a.content.now) (out a.bytes-1.now a.numbers-1.now a.texts-1.now a.c) _ w (from_run a.n a.content.now a.entries.now a.text.now))
 
-pub put-from-spec : {M : Type 1} → statement M
-put-from-spec =
+pub put_from_spec : {M : Type 1} → statement M
+put_from_spec =
     tie.close
     (tie.spec skip-entries-requires keep-requires same_length same-length-2 same-length-3 returns)
 

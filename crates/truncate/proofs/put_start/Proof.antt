@@ -60,46 +60,46 @@ first s o cut w =
     (place, first_held is (lent s) o refl w (drop a.p.ellipsis a.ellipsis.now) (drop a.p.content a.content.now) (finished s) run runs)
 
 -- ── what is asked on the way
-put-from-requires : tie.Need-put-from-requires
+put-from-requires : tie.Need-put_from-requires
 unfolding out
 put-from-requires c κs =
     let start = c.before.before.before.before.before.before.before.before.before.before.before.before.before.before in
     let a = start.args in
     let p = start.requires in
-    let e = start_whole a.p (content start) (ellipsis start) (not-true a.p.cut c.before.before.before.if1.true) in
+    let e = start_whole a.p (content start) (ellipsis start) c.before.before.before.if-not-p.true in
     (p.0, (p.1.1.0.0, rw e at p.1.1.1))
 
-same_length : tie.Need-same-length
+same_length : tie.Need-shape_of-bytes-then-not-p
 same_length c = search rules
 
-same-length-2 : tie.Need-same-length-2
+same-length-2 : tie.Need-shape_of-numbers-then-not-p
 same-length-2 c = search rules
 
-same-length-3 : tie.Need-same-length-3
+same-length-3 : tie.Need-shape_of-texts-then-not-p
 same-length-3 c = search rules
 
-returns : tie.Need-returns
+returns : tie.Need-returns-then-not-p
 unfolding out
 returns c =
     let at-put-from = c.before.before.before.before.before.before in
     let at-if1 = at-put-from.before.before.before.before in
     let start = at-if1.before.before.before.before.before.before.before.before.before.before.before in
     let a = start.args in
-    let e = start_whole a.p (content start) (ellipsis start) (not-true a.p.cut at-if1.if1.true) in
-    let w = at-put-from.put-from.ensures.0 ∙ ap (λ (x : List Item). add x (lent start)) (sym e) in
+    let e = start_whole a.p (content start) (ellipsis start) at-if1.if-not-p.true in
+    let w = at-put-from.put_from.ensures.0 ∙ ap (λ (x : List Item). add x (lent start)) (sym e) in
     (w, held start _ w)
 
-put-from-requires-2 : tie.Need-put-from-requires-2
+put-from-requires-2 : tie.Need-put_from-c-requires
 unfolding out
 put-from-requires-2 c κs =
     let start = c.before.before.before.before.before.before.before.before.before.before.before.before.before.before in
     let a = start.args in
     let p = start.requires in
-    let cut = not_false a.p.cut c.before.before.before.if1.false in
+    let cut = c.before.before.before.if-not-p.false in
     let e = start_cut a.p (content start) (ellipsis start) cut in
     (p.1.0, (p.1.1.0.1, fits_first _ _ _ _ e p.1.1.1))
 
-put-start-content-requires : tie.Need-put-start-content-requires
+put-start-content-requires : tie.Need-put_start_content-requires
 unfolding out
 put-start-content-requires c κs =
     let at-put-from2 = c.before.before.before.before.before.before.before.before.before in
@@ -107,22 +107,22 @@ put-start-content-requires c κs =
     let start = at-if1.before.before.before.before.before.before.before.before.before.before.before in
     let a = start.args in
     let p = start.requires in
-    let cut = not_false a.p.cut at-if1.if1.false in
+    let cut = at-if1.if-not-p.false in
     let e = start_cut a.p (content start) (ellipsis start) cut in
-    let w = at-put-from2.put-from2.ensures.0 in
+    let w = at-put-from2.put_from-c.ensures.0 in
     let f = first start _ cut w in
     (p.0, ((cut, p.1.1.0.0), ((f.0, held_self _ _ _ _ f.1), fits_then _ _ _ _ _ e p.1.1.1 w)))
 
-same-length-4 : tie.Need-same-length-4
+same-length-4 : tie.Need-shape_of-bytes
 same-length-4 c = search rules
 
-same-length-5 : tie.Need-same-length-5
+same-length-5 : tie.Need-shape_of-numbers
 same-length-5 c = search rules
 
-same-length-6 : tie.Need-same-length-6
+same-length-6 : tie.Need-shape_of-texts
 same-length-6 c = search rules
 
-returns-2 : tie.Need-returns-2
+returns-2 : tie.Need-returns
 unfolding out
 returns-2 c =
     let at-put-start-content = c.before.before.before.before.before.before in
@@ -131,12 +131,12 @@ returns-2 c =
     let start = at-if1.before.before.before.before.before.before.before.before.before.before.before in
     let a = start.args in
     let p = start.requires in
-    let e = start_cut a.p (content start) (ellipsis start) (not_false a.p.cut at-if1.if1.false) in
-    let w = then _ _ _ _ _ _ e p.1.1.1 at-put-from2.put-from2.ensures.0 at-put-start-content.put-start-content.ensures.0 in
+    let e = start_cut a.p (content start) (ellipsis start) at-if1.if-not-p.false in
+    let w = then _ _ _ _ _ _ e p.1.1.1 at-put-from2.put_from-c.ensures.0 at-put-start-content.put_start_content.ensures.0 in
     (w, held start _ w)
 
-pub put-start-spec : {M : Type 1} → statement M
-put-start-spec =
+pub put_start_spec : {M : Type 1} → statement M
+put_start_spec =
     tie.close
     (tie.spec
     put-from-requires

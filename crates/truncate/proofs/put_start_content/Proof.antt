@@ -16,19 +16,19 @@ use Rattle.truncate.proofs.put_start_content.Reads as reads
 use Rattle.truncate.proofs.put_start_content.Lts as lts
 use Rattle.truncate.proofs.put_from.Reads as put-from-reads
 
-put-from-requires : tie.Need-put-from-requires
+put-from-requires : tie.Need-put_from-requires
 unfolding out
 put-from-requires c κs =
     let p = c.before.before.before.before.before.before.before.before.before.before.requires in
     (p.0, (p.1.0.1, p.1.1.1))
 
-same_length : tie.Need-same-length
+same_length : tie.Need-shape_of-bytes
 same_length c = search rules
 
-same-length-2 : tie.Need-same-length-2
+same-length-2 : tie.Need-shape_of-numbers
 same-length-2 c = search rules
 
-same-length-3 : tie.Need-same-length-3
+same-length-3 : tie.Need-shape_of-texts
 same-length-3 c = search rules
 
 returns : tie.Need-returns
@@ -38,15 +38,15 @@ returns c =
     let start = at-put-from.before.before.before.before.before.before.before.before.before.before.before in
     let a = start.args in
     let p = start.requires in
-    let w = at-put-from.put-from.ensures in
+    let w = at-put-from.put_from.ensures in
     let all = finished_start a.p a.content.now a.ellipsis.now in
     let place = p.1.1.0.0 ∙ sym (length-drop a.p.ellipsis a.ellipsis.now) in
     let runs = start_runs a.p a.content.now a.ellipsis.now p.1.0.0 in
     let next = next_second (drop a.p.ellipsis a.ellipsis.now) (drop a.p.content a.content.now) all a.c.d runs place in
-    (w.0, w.1 all a.bytes.now p.1.1.0.1 next)
+    (w.0, w.1 all a.bytes-1.now p.1.1.0.1 next)
 
-pub put-start-content-spec : {M : Type 1} → statement M
-put-start-content-spec = tie.close (tie.spec put-from-requires same_length same-length-2 same-length-3 returns)
+pub put_start_content_spec : {M : Type 1} → statement M
+put_start_content_spec = tie.close (tie.spec put-from-requires same_length same-length-2 same-length-3 returns)
 
 -- the run goes by one call
 pub put-start-content-lends-on : LendsOn code.function [] 0 ("truncate::put_from" ∷ [])

@@ -20,7 +20,7 @@ use Rattle.truncate.proofs.put_up_to.Lts as lts
 use Rattle.writer.proofs.keep.Reads as keep-reads
 use Rattle.writer.proofs.skip_entries.Reads as skip-entries-reads
 
-keep-requires : tie.Need-keep-requires
+keep-requires : tie.Need-keep-there-requires
 unfolding out
 keep-requires c κs =
     let a = c.before.before.before.before.before.before.before.before.before.args in
@@ -33,14 +33,14 @@ keep-requires c κs =
       ),
     )
 
-skip-entries-requires : tie.Need-skip-entries-requires
+skip-entries-requires : tie.Need-skip_entries-requires
 unfolding out
 skip-entries-requires c κs =
     let at-keep = c.before.before.before.before.before.before.before.before.before in
     let start = at-keep.before.before.before.before.before.before.before.before.before.before in
     let a = start.args in
     let p = start.requires in
-    let k = at-keep.keep.ensures in (
+    let k = at-keep.keep-there.ensures in (
       k.1.1.0,
       (
         (omega (arith, k.1.1.1, p.1.0), omega arith),
@@ -49,13 +49,13 @@ skip-entries-requires c κs =
       ),
     )
 
-same_length : tie.Need-same-length
+same_length : tie.Need-shape_of-bytes
 same_length c = search rules
 
-same-length-2 : tie.Need-same-length-2
+same-length-2 : tie.Need-shape_of-numbers
 same-length-2 c = search rules
 
-same-length-3 : tie.Need-same-length-3
+same-length-3 : tie.Need-shape_of-texts
 same-length-3 c = search rules
 
 returns : tie.Need-returns
@@ -66,14 +66,14 @@ returns c =
     let start = at-keep.before.before.before.before.before.before.before.before.before.before in
     let a = start.args in
     let p = start.requires in
-    let k = at-keep.keep.ensures in
+    let k = at-keep.keep-there.ensures in
     let w = both (λ (x : List Item). x) entries_only _ _ _ _ _ (edit_up_to a.n a.content.now a.entries.now a.text.now) _ refl refl _ p.1.1 _ _ k.0 k.1.0
-    k.1.1.1 _ at-skip.skip-entries.ensures.0 in
+    k.1.1.1 _ at-skip.skip_entries.ensures.0 in
     let is = edit (cut_end_of a.n a.content.now) (items (recording a.content.now a.entries.now a.text.now)) in
-    (w, added_held is (take a.n a.content.now) (out a.bytes.now a.numbers.now a.texts.now a.c) _ w (up_to_run a.n a.content.now a.entries.now a.text.now))
+    (w, added_held is (take a.n a.content.now) (out a.bytes-1.now a.numbers-1.now a.texts-1.now a.c) _ w (up_to_run a.n a.content.now a.entries.now a.text.now))
 
-pub put-up-to-spec : {M : Type 1} → statement M
-put-up-to-spec =
+pub put_up_to_spec : {M : Type 1} → statement M
+put_up_to_spec =
     tie.close
     (tie.spec keep-requires skip-entries-requires same_length same-length-2 same-length-3 returns)
 

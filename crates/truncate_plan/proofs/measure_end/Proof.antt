@@ -10,30 +10,30 @@ use Rattle.chars.proofs.text_width.Reads as text-width-reads
 use Rattle.chars.proofs.truncate_end_pos.Reads as truncate-end-pos-reads
 use Rattle.truncate_plan.proofs.less.Reads as less-reads
 
-text-width-requires : tie.Need-text-width-requires
+text-width-requires : tie.Need-text_width-w-requires
 text-width-requires c κs = search rules
 
-returns : tie.Need-returns
+returns : tie.Need-returns-then-w-max
 returns c =
     let a = c.before.before.before.before.args in
-    (end_plan_whole a.max-width a.content.now a.ellipsis.now c.before.text-width.result c.before.text-width.ensures.0 c.if1.true, (omega arith, omega arith))
+    (end_plan_whole a.max-width a.content.now a.ellipsis.now c.before.text_width-w.result c.before.text_width-w.ensures.0 c.if-w-max.true, (omega arith, omega arith))
 
-text-width-requires-2 : tie.Need-text-width-requires-2
+text-width-requires-2 : tie.Need-text_width-requires
 text-width-requires-2 c κs = search rules
 
-less-requires : tie.Need-less-requires
+less-requires : tie.Need-less-room-requires
 less-requires c κs = search rules
 
-truncate-end-pos-requires : tie.Need-truncate-end-pos-requires
+truncate-end-pos-requires : tie.Need-truncate_end_pos-a-requires
 truncate-end-pos-requires c κs = search rules
 
-truncate-end-pos-requires-2 : tie.Need-truncate-end-pos-requires-2
+truncate-end-pos-requires-2 : tie.Need-truncate_end_pos-b-requires
 truncate-end-pos-requires-2 c κs = search rules
 
-add-t12 : tie.Need-overflow-add-t12
+add-t12 : tie.Need-overflow_add-result
 add-t12 c = search rules
 
-returns-2 : tie.Need-returns-2
+returns-2 : tie.Need-returns
 returns-2 c =
     let at_less = c.before.before.before.before in
     let at-text-width2 = at_less.before in
@@ -41,18 +41,18 @@ returns-2 c =
     let at-text-width = at-if1.before in
     let start = at-text-width.before.before.before in
     let a = start.args in
-    let w = at-text-width.text-width in
-    let v = at-text-width2.text-width2 in
-    let x = c.before.before.before.truncate-end-pos in
-    let y = c.before.before.truncate-end-pos2 in (
-      end_plan_cut a.max-width a.content.now a.ellipsis.now w.result w.ensures.0 v.result at_less.less.result v.ensures.0
-          at_less.less.ensures at-if1.if1.false x.result.pos x.result.width y.result.pos
+    let w = at-text-width.text_width-w in
+    let v = at-text-width2.text_width in
+    let x = c.before.before.before.truncate_end_pos-a in
+    let y = c.before.before.truncate_end_pos-b in (
+      end_plan_cut a.max-width a.content.now a.ellipsis.now w.result w.ensures.0 v.result at_less.less-room.result v.ensures.0
+          at_less.less-room.ensures at-if1.if-w-max.false x.result.pos x.result.width y.result.pos
           y.result.width x.ensures.0.0 x.ensures.0.1 y.ensures.0.0 y.ensures.0.1,
       (x.ensures.1.0, y.ensures.1.0),
     )
 
-pub measure-end-spec : {M : Type 1} → statement M
-measure-end-spec =
+pub measure_end_spec : {M : Type 1} → statement M
+measure_end_spec =
     tie.close
     (tie.spec
     text-width-requires

@@ -11,43 +11,43 @@ use Rattle.chars.proofs.truncate_start_pos.Reads as truncate-start-pos-reads
 use Rattle.truncate_plan.proofs.less.Reads as less-reads
 use Rattle.truncate_plan.proofs.trimmed_from.Reads as trimmed-from-reads
 
-text-width-requires : tie.Need-text-width-requires
+text-width-requires : tie.Need-text_width-whole-requires
 text-width-requires c κs = search rules
 
-trimmed-from-requires : tie.Need-trimmed-from-requires
+trimmed-from-requires : tie.Need-trimmed_from-requires
 trimmed-from-requires c κs = search rules
 
-returns : tie.Need-returns
+returns : tie.Need-returns-then-whole-max
 returns c =
     let a = c.before.before.before.before.before.args in
-    let n = c.trimmed-from in (
-      start_plan_whole a.max-width a.content.now a.ellipsis.now c.before.before.text-width.result c.before.before.text-width.ensures.0 n.result
-          c.before.if1.true n.ensures.0,
+    let n = c.trimmed_from in (
+      start_plan_whole a.max-width a.content.now a.ellipsis.now c.before.before.text_width-whole.result c.before.before.text_width-whole.ensures.0 n.result
+          c.before.if-whole-max.true n.ensures.0,
       (n.ensures.1, omega arith),
     )
 
-text-width-requires-2 : tie.Need-text-width-requires-2
+text-width-requires-2 : tie.Need-text_width-e-requires
 text-width-requires-2 c κs = search rules
 
 less-requires : tie.Need-less-requires
 less-requires c κs = search rules
 
-truncate-start-pos-requires : tie.Need-truncate-start-pos-requires
+truncate-start-pos-requires : tie.Need-truncate_start_pos-a-requires
 truncate-start-pos-requires c κs = search rules
 
-truncate-start-pos-requires-2 : tie.Need-truncate-start-pos-requires-2
+truncate-start-pos-requires-2 : tie.Need-truncate_start_pos-b-requires
 truncate-start-pos-requires-2 c κs = search rules
 
-trimmed-from-requires-2 : tie.Need-trimmed-from-requires-2
+trimmed-from-requires-2 : tie.Need-trimmed_from-requires-2
 trimmed-from-requires-2 c κs = search rules
 
-trimmed-from-requires-3 : tie.Need-trimmed-from-requires-3
+trimmed-from-requires-3 : tie.Need-trimmed_from-requires-3
 trimmed-from-requires-3 c κs = search rules
 
-add-t13 : tie.Need-overflow-add-t13
+add-t13 : tie.Need-overflow_add-result
 add-t13 c = search rules
 
-returns-2 : tie.Need-returns-2
+returns-2 : tie.Need-returns
 returns-2 c =
     let at-truncate-start-pos2 = c.before.before.before.before in
     let at-truncate-start-pos = at-truncate-start-pos2.before in
@@ -57,21 +57,21 @@ returns-2 c =
     let at-text-width = at-if1.before in
     let start = at-text-width.before.before.before in
     let a = start.args in
-    let w = at-text-width.text-width in
-    let v = at-text-width2.text-width2 in
-    let x = at-truncate-start-pos.truncate-start-pos in
-    let y = at-truncate-start-pos2.truncate-start-pos2 in
-    let n = c.before.before.before.trimmed-from2 in
-    let m = c.before.before.trimmed-from3 in (
+    let w = at-text-width.text_width-whole in
+    let v = at-text-width2.text_width-e in
+    let x = at-truncate-start-pos.truncate_start_pos-a in
+    let y = at-truncate-start-pos2.truncate_start_pos-b in
+    let n = c.before.before.before.trimmed_from-2 in
+    let m = c.before.before.trimmed_from-3 in (
       start_plan_cut a.max-width a.content.now a.ellipsis.now w.result w.ensures.0 v.result at_less.less.result
-          v.ensures.0 at_less.less.ensures at-if1.if1.false
+          v.ensures.0 at_less.less.ensures at-if1.if-whole-max.false
           x.result.pos x.result.width y.result.pos y.result.width n.result m.result x.ensures.0.0 x.ensures.0.1 y.ensures.0.0 y.ensures.0.1
           n.ensures.0 m.ensures.0,
       (n.ensures.1, m.ensures.1),
     )
 
-pub measure-start-spec : {M : Type 1} → statement M
-measure-start-spec =
+pub measure_start_spec : {M : Type 1} → statement M
+measure_start_spec =
     tie.close
     (tie.spec
     text-width-requires

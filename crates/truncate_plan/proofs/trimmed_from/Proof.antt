@@ -7,31 +7,31 @@ use Rattle.truncate_plan.proofs.trimmed_from.Reads as reads
 use Rattle.truncate_plan.proofs.trimmed_from.Lts as lts
 use Rattle.chars.proofs.trim_start_zero_width_chars.Reads as trim-start-zero-width-chars-reads
 
-sub-trim-start-zero-width-chars : tie.Need-overflow-sub-trim-start-zero-width-chars
+sub-trim-start-zero-width-chars : tie.Need-slice_bounds-trim_start_zero_width_chars-count
 sub-trim-start-zero-width-chars c = search rules
 
-part-trim-start-zero-width-chars-start : tie.Need-slice-bounds-trim-start-zero-width-chars-start
+part-trim-start-zero-width-chars-start : tie.Need-slice_bounds-trim_start_zero_width_chars-start
 part-trim-start-zero-width-chars-start c = search rules
 
-part-trim-start-zero-width-chars-end : tie.Need-slice-bounds-trim-start-zero-width-chars-end
+part-trim-start-zero-width-chars-end : tie.Need-slice_bounds-trim_start_zero_width_chars-end
 part-trim-start-zero-width-chars-end c = search rules
 
-trim-start-zero-width-chars-requires : tie.Need-trim-start-zero-width-chars-requires
+trim-start-zero-width-chars-requires : tie.Need-trim_start_zero_width_chars-rest-requires
 trim-start-zero-width-chars-requires c κs = search rules
 
-sub-result : tie.Need-overflow-sub-result
+sub-result : tie.Need-overflow_sub-result
 sub-result c =
-    (trimmed c.before.before.before.args.s.now c.trim-start-zero-width-chars.result.now c.before.before.before.args.start c.before.before.before.requires
-    c.trim-start-zero-width-chars.ensures).0
+    (trimmed c.before.before.before.args.s.now c.trim_start_zero_width_chars-rest.result.now c.before.before.before.args.start c.before.before.before.requires
+    c.trim_start_zero_width_chars-rest.ensures).0
 
 returns : tie.Need-returns
 returns c =
-    let t = trimmed c.before.before.before.args.s.now c.trim-start-zero-width-chars.result.now c.before.before.before.args.start
-    c.before.before.before.requires c.trim-start-zero-width-chars.ensures in
+    let t = trimmed c.before.before.before.args.s.now c.trim_start_zero_width_chars-rest.result.now c.before.before.before.args.start
+    c.before.before.before.requires c.trim_start_zero_width_chars-rest.ensures in
     (t.1, t.2)
 
-pub trimmed-from-spec : {M : Type 1} → statement M
-trimmed-from-spec =
+pub trimmed_from_spec : {M : Type 1} → statement M
+trimmed_from_spec =
     tie.close
     (tie.spec
     sub-trim-start-zero-width-chars

@@ -13,75 +13,75 @@ use Rattle.unindent.proofs.begins_at.Tie as tie
 use Rattle.unindent.proofs.begins_at.Reads as reads
 use Rattle.unindent.proofs.begins_at.Lts as lts
 
-abbrev invariant-loop : tie.invariant-loop
+abbrev invariant-loop : tie.invariant-loop-j
 invariant-loop content at prefix j₀ j =
     (j ≤ length prefix) × (at + length prefix ≤ length content) × (begins_with prefix (drop at content) ≡ begins_with (drop j prefix) (drop (at + j) content))
 
-abbrev decreases-loop : tie.decreases-loop
+abbrev decreases-loop : tie.decreases-loop-j
 decreases-loop content at prefix j₀ j =
     length prefix - j
 
 -- at the loop: what the function was given
-abbrev start : tie.At-loop invariant-loop decreases-loop → tie.Start invariant-loop decreases-loop
+abbrev start : tie.At-loop-j invariant-loop decreases-loop → tie.Start invariant-loop decreases-loop
 start c = c.before.before
 
-sub-if1 : tie.Need-overflow-sub-if1 invariant-loop decreases-loop
+sub-if1 : tie.Need-overflow_sub-content invariant-loop decreases-loop
 sub-if1 c = search rules
 
-returns : tie.Need-returns invariant-loop decreases-loop
+returns : tie.Need-returns-then-content-at invariant-loop decreases-loop
 returns c =
     let a = c.before.args in
-    sym (begins_short a.prefix.now (drop a.at a.content.now) (omega (arith, c.if1.true, length-drop a.at a.content.now)))
+    sym (begins_short a.prefix.now (drop a.at a.content.now) (omega (arith, c.if-content-at.true, length-drop a.at a.content.now)))
 
-loop-holds : tie.Need-loop-init invariant-loop decreases-loop
+loop-holds : tie.Need-loop-j-init invariant-loop decreases-loop
 loop-holds c =
     let a = c.before.args in
     let z : a.at + 0 ≡ a.at = omega arith in
-    (omega arith, omega (arith, c.if1.false), ap (λ (n : ℕ). begins_with a.prefix.now (drop n a.content.now)) (sym z))
+    (omega arith, omega (arith, c.if-content-at.false), ap (λ (n : ℕ). begins_with a.prefix.now (drop n a.content.now)) (sym z))
 
-add-if2 : tie.Need-overflow-add-if2 invariant-loop decreases-loop
+add-if2 : tie.Need-overflow_add-at invariant-loop decreases-loop
 add-if2 c = search rules
 
-shared-slice-read-if2 : tie.Need-shared-slice-read-if2 invariant-loop decreases-loop
+shared-slice-read-if2 : tie.Need-bounds-content-at invariant-loop decreases-loop
 shared-slice-read-if2 c = search rules
 
-shared-slice-read-if2-2 : tie.Need-shared-slice-read-if2-2 invariant-loop decreases-loop
+shared-slice-read-if2-2 : tie.Need-bounds-prefix-j invariant-loop decreases-loop
 shared-slice-read-if2-2 c = search rules
 
-returns-2 : tie.Need-returns-2 invariant-loop decreases-loop
+returns-2 : tie.Need-returns-then-content-at-2 invariant-loop decreases-loop
 returns-2 c =
     let l = c.before.before.before.before in
     let a = (start l).args in
-    let j = l.loop.j in
-    sym (l.loop.invariant.2 ∙ begins_next j (a.at + j) a.prefix.now a.content.now (omega arith) (omega arith)
-    ∙ ap (λ (t : Bool). t && begins_with (drop (j + 1) a.prefix.now) (drop (a.at + j + 1) a.content.now)) (ne_eqb _ _ (λ e. c.if2.true (sym e))))
+    let j = l.loop-j.j in
+    sym (l.loop-j.invariant.2 ∙ begins_next j (a.at + j) a.prefix.now a.content.now (omega arith) (omega arith)
+    ∙ ap (λ (t : Bool). t && begins_with (drop (j + 1) a.prefix.now) (drop (a.at + j + 1) a.content.now)) (ne_eqb _ _ (λ e. c.if-content-at-2.true (sym e))))
 
-add-j : tie.Need-overflow-add-j invariant-loop decreases-loop
+add-j : tie.Need-overflow_add-j invariant-loop decreases-loop
 add-j c = search rules
 
-loop-less : tie.Need-loop-smaller invariant-loop decreases-loop
+loop-less : tie.Need-loop-j-smaller invariant-loop decreases-loop
 loop-less c = search rules
 
-loop-again : tie.Need-loop-preserved invariant-loop decreases-loop
+loop-again : tie.Need-loop-j-preserved invariant-loop decreases-loop
 loop-again c =
     let l = c.before.before.before.before in
     let a = (start l).args in
-    let j = l.loop.j in
+    let j = l.loop-j.j in
     let z : a.at + j + 1 ≡ a.at + (j + 1) = omega arith in (
       search rules,
-      l.loop.invariant.1,
-      l.loop.invariant.2 ∙ begins_next j (a.at + j) a.prefix.now a.content.now (omega arith) (omega arith)
-          ∙ (λ i. eq-eqb _ _ (sym c.if2.false) i && begins_with (drop (j + 1) a.prefix.now) (drop (z i) a.content.now)),
+      l.loop-j.invariant.1,
+      l.loop-j.invariant.2 ∙ begins_next j (a.at + j) a.prefix.now a.content.now (omega arith) (omega arith)
+          ∙ (λ i. eq-eqb _ _ (sym c.if-content-at-2.false) i && begins_with (drop (j + 1) a.prefix.now) (drop (z i) a.content.now)),
     )
 
-returns-3 : tie.Need-returns-3 invariant-loop decreases-loop
+returns-3 : tie.Need-returns invariant-loop decreases-loop
 returns-3 c =
     let l = c.before in
     let a = (start l).args in
-    sym (l.loop.invariant.2 ∙ begins_end l.loop.j a.prefix.now (drop (a.at + l.loop.j) a.content.now) (omega arith))
+    sym (l.loop-j.invariant.2 ∙ begins_end l.loop-j.j a.prefix.now (drop (a.at + l.loop-j.j) a.content.now) (omega arith))
 
-pub begins-at-spec : {M : Type 1} → statement M
-begins-at-spec =
+pub begins_at_spec : {M : Type 1} → statement M
+begins_at_spec =
     tie.close
     (tie.spec
     invariant-loop

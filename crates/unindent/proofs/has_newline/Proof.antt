@@ -13,41 +13,41 @@ use Rattle.unindent.proofs.has_newline.Tie as tie
 use Rattle.unindent.proofs.has_newline.Reads as reads
 use Rattle.unindent.proofs.has_newline.Lts as lts
 
-abbrev invariant-loop : tie.invariant-loop
+abbrev invariant-loop : tie.invariant-loop-j
 invariant-loop s found₀ j₀ found j =
     (j ≤ length s) × ((found || has_newline_in (drop j s)) ≡ has_newline_in s)
 
-abbrev decreases-loop : tie.decreases-loop
+abbrev decreases-loop : tie.decreases-loop-j
 decreases-loop s found₀ j₀ found j =
     length s - j
 
-loop-holds : tie.Need-loop-init invariant-loop decreases-loop
+loop-holds : tie.Need-loop-j-init invariant-loop decreases-loop
 loop-holds c = (omega arith, refl)
 
-shared-slice-read-found : tie.Need-shared-slice-read-found invariant-loop decreases-loop
+shared-slice-read-found : tie.Need-bounds-s-j invariant-loop decreases-loop
 shared-slice-read-found c = search rules
 
-add-j : tie.Need-overflow-add-j invariant-loop decreases-loop
+add-j : tie.Need-overflow_add-j invariant-loop decreases-loop
 add-j c = search rules
 
-loop-less : tie.Need-loop-smaller invariant-loop decreases-loop
+loop-less : tie.Need-loop-j-smaller invariant-loop decreases-loop
 loop-less c = search rules
 
-loop-again : tie.Need-loop-preserved invariant-loop decreases-loop
+loop-again : tie.Need-loop-j-preserved invariant-loop decreases-loop
 loop-again c =
     let l = c.before.before in
     let s = l.before.args.s.now in
-    let b = eqb (get_or s l.loop.j 0) 0x0A in
-    (search rules, or_assoc l.loop.found b (has_newline_in (drop (l.loop.j + 1) s)) ∙ ap (λ (t : Bool). l.loop.found || t) (sym (newline_next l.loop.j s (omega arith))) ∙ l.loop.invariant.1)
+    let b = eqb (get_or s l.loop-j.j 0) 0x0A in
+    (search rules, or_assoc l.loop-j.found b (has_newline_in (drop (l.loop-j.j + 1) s)) ∙ ap (λ (t : Bool). l.loop-j.found || t) (sym (newline_next l.loop-j.j s (omega arith))) ∙ l.loop-j.invariant.1)
 
 returns : tie.Need-returns invariant-loop decreases-loop
 returns c =
     let l = c.before in
     let s = l.before.args.s.now in
-    sym (or_false l.loop.found) ∙ ap (λ (t : Bool). l.loop.found || t) (sym (newline_end l.loop.j s (omega arith))) ∙ l.loop.invariant.1
+    sym (or_false l.loop-j.found) ∙ ap (λ (t : Bool). l.loop-j.found || t) (sym (newline_end l.loop-j.j s (omega arith))) ∙ l.loop-j.invariant.1
 
-pub has-newline-spec : {M : Type 1} → statement M
-has-newline-spec =
+pub has_newline_spec : {M : Type 1} → statement M
+has_newline_spec =
     tie.close
     (tie.spec
     invariant-loop

@@ -17,88 +17,88 @@ use Rattle.unindent.proofs.left_len.Lts as lts
 use Rattle.indent.proofs.next_line.Reads as next-line-reads
 use Rattle.unindent.proofs.begins_at.Reads as begins-at-reads
 
-abbrev invariant-loop : tie.invariant-loop
+abbrev invariant-loop : tie.invariant-loop-at
 invariant-loop content prefix size₀ at₀ size at =
     Scan prefix content size at
 
-abbrev decreases-loop : tie.decreases-loop
+abbrev decreases-loop : tie.decreases-loop-at
 decreases-loop content prefix size₀ at₀ size at =
     length content - at
 
 -- ── the places on the way, and what is known there
 -- at the loop: what the function asks
-abbrev start : tie.At-loop invariant-loop decreases-loop → tie.Start invariant-loop decreases-loop
+abbrev start : tie.At-loop-at invariant-loop decreases-loop → tie.Start invariant-loop decreases-loop
 start c = c.before.before.before.before
 
-abbrev content : tie.At-loop invariant-loop decreases-loop → List ℕ
+abbrev content : tie.At-loop-at invariant-loop decreases-loop → List ℕ
 content c = (start c).args.content.now
 
-abbrev prefix : tie.At-loop invariant-loop decreases-loop → List ℕ
+abbrev prefix : tie.At-loop-at invariant-loop decreases-loop → List ℕ
 prefix c = (start c).args.prefix.now
 
 -- where a line is held against the prefix
-abbrev line : tie.After-begins-at invariant-loop decreases-loop → tie.At-loop invariant-loop decreases-loop
+abbrev line : tie.After-begins_at invariant-loop decreases-loop → tie.At-loop-at invariant-loop decreases-loop
 line c = c.before.before
 
-begins : (c : tie.Else1 invariant-loop decreases-loop) → begins_with (prefix (line c.before)) (drop (line c.before).loop.at (content (line c.before))) ≡ true
-begins c = let b = c.before.begins-at in sym b.ensures ∙ not_false b.result c.if1.false
+begins : (c : tie.Else-not-begins_at invariant-loop decreases-loop) → begins_with (prefix (line c.before)) (drop (line c.before).loop-at.at (content (line c.before))) ≡ true
+begins c = let b = c.before.begins_at in sym b.ensures ∙ c.if-not-begins_at.false
 
-inner : (c : tie.Else1 invariant-loop decreases-loop) → (line c.before).loop.at + length (prefix (line c.before)) ≤ length (content (line c.before))
+inner : (c : tie.Else-not-begins_at invariant-loop decreases-loop) → (line c.before).loop-at.at + length (prefix (line c.before)) ≤ length (content (line c.before))
 inner c =
     let l = line c.before in
-    inside (prefix l) (content l) (start l).pre.1 _ _ l.loop.inv c.before.before.loop-test.true (begins c)
+    inside (prefix l) (content l) (start l).requires.1 _ _ l.loop-at.invariant c.before.before.loop-at-test.true (begins c)
 
 -- ── what is asked on the way
-next-line-requires : tie.Need-next-line-requires invariant-loop decreases-loop
+next-line-requires : tie.Need-next_line-at-requires invariant-loop decreases-loop
 next-line-requires c κs = omega arith
 
-loop-holds : tie.Need-loop-init invariant-loop decreases-loop
-loop-holds c = scan_first _ _ _ c.next-line.ensures.0 c.next-line.ensures.1.1
+loop-holds : tie.Need-loop-at-init invariant-loop decreases-loop
+loop-holds c = scan_first _ _ _ c.next_line-at.ensures.0 c.next_line-at.ensures.1.1
 
-begins-at-requires : tie.Need-begins-at-requires invariant-loop decreases-loop
-begins-at-requires c κs = c.before.loop.invariant.within
+begins-at-requires : tie.Need-begins_at-requires invariant-loop decreases-loop
+begins-at-requires c κs = c.before.loop-at.invariant.within
 
-returns : tie.Need-returns invariant-loop decreases-loop
+returns : tie.Need-returns-then-not-begins_at invariant-loop decreases-loop
 unfolding fault_of Counted
 returns c =
     let l = line c.before in
-    let b = c.before.begins-at in
-    (sym (scan-refused (prefix l) (content l) (start l).pre.1 _ _ l.loop.inv c.before.before.loop-test.true (sym b.ensures ∙ not-true b.result c.if1.true)), tt)
+    let b = c.before.begins_at in
+    (sym (scan-refused (prefix l) (content l) (start l).requires.1 _ _ l.loop-at.invariant c.before.before.loop-at-test.true (sym b.ensures ∙ c.if-not-begins_at.true)), tt)
 
-sub-size : tie.Need-overflow-sub-size invariant-loop decreases-loop
+sub-size : tie.Need-overflow_sub-size invariant-loop decreases-loop
 sub-size c =
     let l = line c.before in
-    enough (prefix l) (content l) (start l).pre.1 _ _ l.loop.inv c.before.before.loop-test.true (begins c)
+    enough (prefix l) (content l) (start l).requires.1 _ _ l.loop-at.invariant c.before.before.loop-at-test.true (begins c)
 
-add-next-line : tie.Need-overflow-add-next-line invariant-loop decreases-loop
-add-next-line c = omega (arith, inner c, (start (line c.before)).pre.0)
+add-next-line : tie.Need-overflow_add-at invariant-loop decreases-loop
+add-next-line c = omega (arith, inner c, (start (line c.before)).requires.0)
 
-next-line-requires-2 : tie.Need-next-line-requires-2 invariant-loop decreases-loop
+next-line-requires-2 : tie.Need-next_line-at-requires-in-loop-at invariant-loop decreases-loop
 next-line-requires-2 c κs = inner c
 
-loop-less : tie.Need-loop-smaller invariant-loop decreases-loop
+loop-less : tie.Need-loop-at-smaller invariant-loop decreases-loop
 loop-less c =
     let l = line c.before.before in
-    let more = c.before.before.before.loop-test.true in
-    omega (arith, c.next-line2.ensures.0, more, moves (length (prefix l)) l.loop.at (content l) more)
+    let more = c.before.before.before.loop-at-test.true in
+    omega (arith, c.next_line-at-in-loop-at.ensures.0, more, moves (length (prefix l)) l.loop-at.at (content l) more)
 
-loop-again : tie.Need-loop-preserved invariant-loop decreases-loop
+loop-again : tie.Need-loop-at-preserved invariant-loop decreases-loop
 loop-again c =
     let l = line c.before.before in
-    let n = c.next-line2.ensures in
-    scan_next (prefix l) (content l) (start l).pre.1 _ _ l.loop.inv c.before.before.before.loop-test.true (begins c.before) _ _ refl n.0 n.1.1
+    let n = c.next_line-at-in-loop-at.ensures in
+    scan_next (prefix l) (content l) (start l).requires.1 _ _ l.loop-at.invariant c.before.before.before.loop-at-test.true (begins c.before) _ _ refl n.0 n.1.1
 
-returns-2 : tie.Need-returns-2 invariant-loop decreases-loop
+returns-2 : tie.Need-returns invariant-loop decreases-loop
 unfolding fault_of Counted
 returns-2 c =
     let l = c.before in
-    let past = c.loop-test.false in (
-      sym (scan_fine (prefix l) (content l) (start l).requires.1 _ _ l.loop.invariant past),
-      scan_size (prefix l) (content l) (start l).requires.1 _ _ l.loop.invariant past,
+    let past = c.loop-at-test.false in (
+      sym (scan_fine (prefix l) (content l) (start l).requires.1 _ _ l.loop-at.invariant past),
+      scan_size (prefix l) (content l) (start l).requires.1 _ _ l.loop-at.invariant past,
     )
 
-pub left-len-spec : {M : Type 1} → statement M
-left-len-spec =
+pub left_len_spec : {M : Type 1} → statement M
+left_len_spec =
     tie.close
     (tie.spec
     invariant-loop

@@ -21,28 +21,28 @@ use Rattle.indent.proofs.next_line.Reads as next-line-reads
 use Rattle.writer.proofs.keep.Reads as keep-reads
 use Rattle.writer.proofs.skip.Reads as skip-reads
 
-abbrev invariant-loop : tie.invariant-loop
+abbrev invariant-loop : tie.invariant-loop-p
 invariant-loop bytes₀ numbers₀ texts₀ content entries text prefix c₀ p₀ bytes numbers texts c p =
     State prefix content entries text (blank bytes₀ numbers₀ texts₀) (out bytes numbers texts c) c p
 
-abbrev decreases-loop : tie.decreases-loop
+abbrev decreases-loop : tie.decreases-loop-p
 decreases-loop bytes₀ numbers₀ texts₀ content entries text prefix c₀ p₀ bytes numbers texts c p =
     length content - p
 
 -- ── the places on the way, and what is known there
 -- at the loop: what the function asks
-abbrev start : tie.At-loop invariant-loop decreases-loop → tie.Start invariant-loop decreases-loop
+abbrev start : tie.At-loop-p invariant-loop decreases-loop → tie.Start invariant-loop decreases-loop
 start c = c.before.before.before.before.before.before.before.before.before
 
 -- in a turn, after the content up to the line and after the prefix
-abbrev turn : tie.After-keep invariant-loop decreases-loop → tie.In-loop invariant-loop decreases-loop
+abbrev turn : tie.After-keep-c invariant-loop decreases-loop → tie.In-loop-p invariant-loop decreases-loop
 turn c = c.before.before.before.before
 
-abbrev kept : tie.After-skip invariant-loop decreases-loop → tie.After-keep invariant-loop decreases-loop
+abbrev kept : tie.After-skip-c invariant-loop decreases-loop → tie.After-keep-c invariant-loop decreases-loop
 kept c = c.before.before.before.before.before.before.before.before.before.before
 
 -- after the loop and the rest of the content
-abbrev ended : tie.After-keep2 invariant-loop decreases-loop → tie.After-loop invariant-loop decreases-loop
+abbrev ended : tie.After-keep invariant-loop decreases-loop → tie.After-loop-p invariant-loop decreases-loop
 ended c = c.before.before.before.before
 
 -- every line that is not empty begins with the prefix, which has no 0A
@@ -69,102 +69,102 @@ room : (s : tie.Start invariant-loop decreases-loop) → Fits (all s) (empty s)
 room s = subst (λ (x : List Item). Fits x (empty s)) (same s) s.requires.1
 
 -- the prefix ends within the data
-inner : (t : tie.In-loop invariant-loop decreases-loop) → t.before.loop.p + length (start t.before).args.prefix.now ≤ length (start t.before).args.content.now
+inner : (t : tie.In-loop-p invariant-loop decreases-loop) → t.before.loop-p.p + length (start t.before).args.prefix.now ≤ length (start t.before).args.content.now
 inner t =
     let s = start t.before in
-    inside _ _ _ _ (fits s).one_line _ _ _ _ t.before.loop.invariant (room s) t.loop-test.true
+    inside _ _ _ _ (fits s).one_line _ _ _ _ t.before.loop-p.invariant (room s) t.loop-p-test.true
 
 short : (s : tie.Start invariant-loop decreases-loop) → length s.args.content.now ≤ 1048576
 short s = s.requires.0.0.short
 
 -- ── what is asked on the way
-next-line-requires : tie.Need-next-line-requires invariant-loop decreases-loop
+next-line-requires : tie.Need-next_line-p-requires invariant-loop decreases-loop
 next-line-requires c κs = omega arith
 
-loop-holds : tie.Need-loop-init invariant-loop decreases-loop
+loop-holds : tie.Need-loop-p-init invariant-loop decreases-loop
 unfolding out
 loop-holds c =
     let s = c.before.before.before.before.before.before.before.before in
-    state_first _ _ _ _ _ _ _ refl refl s.requires.0.0 (fits s).all c.next-line.ensures.0 c.next-line.ensures.1.1
+    state_first _ _ _ _ _ _ _ refl refl s.requires.0.0 (fits s).all c.next_line-p.ensures.0 c.next_line-p.ensures.1.1
 
-keep-requires : tie.Need-keep-requires invariant-loop decreases-loop
+keep-requires : tie.Need-keep-c-requires invariant-loop decreases-loop
 keep-requires c κs =
     let t = c.before.before.before in
-    let s = t.before.loop.invariant in
+    let s = t.before.loop-p.invariant in
     let z = start t.before in
-    (s.ready, ((before _ _ _ _ (fits z).one_line _ _ _ _ s (room z), s.within), room_keep _ _ _ _ (fits z).one_line _ _ _ _ s (room z) t.loop-test.true))
+    (s.ready, ((before _ _ _ _ (fits z).one_line _ _ _ _ s (room z), s.within), room_keep _ _ _ _ (fits z).one_line _ _ _ _ s (room z) t.loop-p-test.true))
 
-add-p : tie.Need-overflow-add-p invariant-loop decreases-loop
+add-p : tie.Need-overflow_add-p invariant-loop decreases-loop
 add-p c =
     let t = turn c.before.before.before.before.before.before in
     omega (arith, inner t, short (start t.before))
 
-skip-requires : tie.Need-skip-requires invariant-loop decreases-loop
+skip-requires : tie.Need-skip-c-requires invariant-loop decreases-loop
 skip-requires c κs =
     let k = c.before.before.before.before.before.before.before.before.before in
     let t = turn k in
     let z = start t.before in
-    let e = k.keep.ensures in (
+    let e = k.keep-c.ensures in (
       e.1.1.0,
       (
         (omega (arith, e.1.1.1), inner t),
-        room_skip _ _ _ _ (fits z).one_line _ _ _ _ t.before.loop.inv (room z) t.loop-test.taken _ _ e.0 e.1.0 e.1.1.1,
+        room_skip _ _ _ _ (fits z).one_line _ _ _ _ t.before.loop-p.invariant (room z) t.loop-p-test.true _ _ e.0 e.1.0 e.1.1.1,
       ),
     )
 
-next-line-requires-2 : tie.Need-next-line-requires-2 invariant-loop decreases-loop
+next-line-requires-2 : tie.Need-next_line-p-requires-in-loop-p invariant-loop decreases-loop
 next-line-requires-2 c κs = inner (turn (kept c.before.before.before.before.before.before))
 
-loop-less : tie.Need-loop-smaller invariant-loop decreases-loop
+loop-less : tie.Need-loop-p-smaller invariant-loop decreases-loop
 loop-less c =
     let t = turn (kept c.before.before.before.before.before.before.before) in
     let a = (start t.before).args in
-    omega (arith, c.next-line2.ensures.0, t.loop-test.taken, moves (length a.prefix.now) t.before.loop.p a.content.now t.loop-test.taken)
+    omega (arith, c.next_line-p-in-loop-p.ensures.0, t.loop-p-test.true, moves (length a.prefix.now) t.before.loop-p.p a.content.now t.loop-p-test.true)
 
-loop-again : tie.Need-loop-preserved invariant-loop decreases-loop
+loop-again : tie.Need-loop-p-preserved invariant-loop decreases-loop
 loop-again c =
     let w = c.before.before.before.before.before.before.before in
     let k = kept w in
     let t = turn k in
     let z = start t.before in
-    let e = k.keep.ensures in
-    let g = w.skip.ensures in
-    let n = c.next-line2.ensures in
-    step _ _ _ _ (fits z).one_line _ _ _ _ t.before.loop.inv (room z) t.loop-test.taken _ _ e.0 e.1.0 e.1.1.1 _ _ _ g.0 g.1.0 g.1.1.0 g.1.1.1 n.0 n.1.1
+    let e = k.keep-c.ensures in
+    let g = w.skip-c.ensures in
+    let n = c.next_line-p-in-loop-p.ensures in
+    step _ _ _ _ (fits z).one_line _ _ _ _ t.before.loop-p.invariant (room z) t.loop-p-test.true _ _ e.0 e.1.0 e.1.1.1 _ _ _ g.0 g.1.0 g.1.1.0 g.1.1.1 n.0 n.1.1
 
-keep-requires-2 : tie.Need-keep-requires-2 invariant-loop decreases-loop
+keep-requires-2 : tie.Need-keep-requires invariant-loop decreases-loop
 keep-requires-2 c κs =
     let l = c.before.before.before in
-    let s = l.before.loop.invariant in
+    let s = l.before.loop-p.invariant in
     let z = start l.before in
-    (s.ready, ((here _ _ _ _ (fits z).one_line _ _ _ _ s (room z) l.loop-test.false, omega arith), room_last _ _ _ _ (fits z).one_line _ _ _ _ s (room z) l.loop-test.false))
+    (s.ready, ((here _ _ _ _ (fits z).one_line _ _ _ _ s (room z) l.loop-p-test.false, omega arith), room_last _ _ _ _ (fits z).one_line _ _ _ _ s (room z) l.loop-p-test.false))
 
 -- the buffers are as long as they were
-longer : (l : tie.At-loop invariant-loop decreases-loop) → Long (out l.loop.bytes l.loop.numbers l.loop.texts l.loop.c) (empty (start l))
-longer l = long_now _ _ _ _ (fits (start l)).one_line _ _ _ _ l.loop.invariant (room (start l))
+longer : (l : tie.At-loop-p invariant-loop decreases-loop) → Long (out l.loop-p.bytes-1 l.loop-p.numbers-1 l.loop-p.texts-1 l.loop-p.c) (empty (start l))
+longer l = long_now _ _ _ _ (fits (start l)).one_line _ _ _ _ l.loop-p.invariant (room (start l))
 
-same_length : tie.Need-same-length invariant-loop decreases-loop
+same_length : tie.Need-shape_of-bytes invariant-loop decreases-loop
 unfolding out
-same_length c = let k = c.before.before.before.before.before.before in k.keep2.auto.0 ∙ (longer (ended k).before).data_bytes
+same_length c = let k = c.before.before.before.before.before.before in k.keep.auto.0 ∙ (longer (ended k).before).data_bytes
 
-same-length-2 : tie.Need-same-length-2 invariant-loop decreases-loop
+same-length-2 : tie.Need-shape_of-numbers invariant-loop decreases-loop
 unfolding out
-same-length-2 c = let k = c.before.before.before.before.before.before in k.keep2.auto.1.0 ∙ (longer (ended k).before).entry_numbers
+same-length-2 c = let k = c.before.before.before.before.before.before in k.keep.auto.1.0 ∙ (longer (ended k).before).entry_numbers
 
-same-length-3 : tie.Need-same-length-3 invariant-loop decreases-loop
+same-length-3 : tie.Need-shape_of-texts invariant-loop decreases-loop
 unfolding out
-same-length-3 c = let k = c.before.before.before.before.before.before in k.keep2.auto.1.1.0 ∙ (longer (ended k).before).text
+same-length-3 c = let k = c.before.before.before.before.before.before in k.keep.auto.1.1.0 ∙ (longer (ended k).before).text
 
 returns : tie.Need-returns invariant-loop decreases-loop
 returns c =
     let k = c.before.before.before.before.before.before in
     let l = ended k in
     let z = start l.before in
-    finish _ _ _ _ (fits z).one_line _ _ _ _ l.before.loop.inv (room z) l.loop-test.left _ k.keep2.ensures.0
+    finish _ _ _ _ (fits z).one_line _ _ _ _ l.before.loop-p.invariant (room z) l.loop-p-test.false _ k.keep.ensures.0
     ∙ ap (λ (x : List Item). add x (empty z)) (sym (same z))
 
-pub put-unindented-spec : {M : Type 1} → statement M
-put-unindented-spec =
+pub put_unindented_spec : {M : Type 1} → statement M
+put_unindented_spec =
     tie.close
     (tie.spec
     invariant-loop

@@ -44,139 +44,139 @@ given s =
       fs = a.prefix.now;
       gs = a.prefix-entries.now;
       us = a.prefix-text.now;
-      od = a.bytes.now;
-      oe = a.numbers.now;
-      ot = a.texts.now;
+      od = a.bytes-1.now;
+      oe = a.numbers-1.now;
+      ot = a.texts-1.now;
     }
 
 -- once both recordings are checked
-abbrev start : tie.After-checked2 → tie.Start
+abbrev start : tie.In-Fine-2 → tie.Start
 start c = c.before.before.before.before.before.before.before.before.before.before.before.before
 
-abbrev lengths : tie.After-checked2 → TextSizes
-lengths c = c.checked2.given.0.0
+abbrev lengths : tie.In-Fine-2 → TextSizes
+lengths c = c.checked-in-Fine-1.given.0.0
 
-fine : (c : tie.After-checked2) → BothFine (given (start c)) (lengths c)
-fine c = both_fine (given (start c)) c.before.before.check_both.result c.before.before.check_both.ensures (lengths c) c.checked2.given.1
+fine : (c : tie.In-Fine-2) → BothFine (given (start c)) (lengths c)
+fine c = both_fine (given (start c)) c.before.before.check_both-checked.result c.before.before.check_both-checked.ensures (lengths c) c.checked-in-Fine-1.given.1
 
 -- once the lines are held against the prefix
-abbrev checked : tie.After-left-len → tie.After-checked2
+abbrev checked : tie.After-left_len → tie.In-Fine-2
 checked c = c.before.before.before.before
 
-abbrev call : tie.After-left-len → Given
+abbrev call : tie.After-left_len → Given
 call c = given (start (checked c))
 
 -- and all begin with it
-abbrev scanned : tie.After-n → tie.After-left-len
+abbrev scanned : tie.In-Fine-left_len-2 → tie.After-left_len
 scanned c = c.before.before
 
-abbrev size : tie.After-n → ℕ
-size c = c.n.given.0.0
+abbrev size : tie.In-Fine-left_len-2 → ℕ
+size c = c.n-1.given.0.0
 
-abbrev result : tie.After-n → List Item
+abbrev result : tie.In-Fine-left_len-2 → List Item
 result c = sizes.result (call (scanned c)) (lengths (checked (scanned c))) (fine (checked (scanned c))) (size c)
 
-no-fault : (c : tie.After-n) → prefix_fault (call (scanned c)).fs (call (scanned c)).ds ≡ 0
+no-fault : (c : tie.In-Fine-left_len-2) → prefix_fault (call (scanned c)).fs (call (scanned c)).ds ≡ 0
 no-fault c =
-    let r = (scanned c).left-len in
-    sym r.ensures.0 ∙ fine_zero r.result (size c) c.n.given.1
+    let r = (scanned c).left_len in
+    sym r.ensures.0 ∙ fine_zero r.result (size c) c.n-1.given.1
 
 -- once the text is measured
-abbrev sized : tie.After-own-size → tie.After-n
+abbrev sized : tie.After-own_size-shared → tie.In-Fine-left_len-2
 sized c = c.before.before
 
-measured : (c : tie.After-own-size)
+measured : (c : tie.After-own_size-shared)
     → let n = sized c in
-    Measured (call (scanned n)) 0 (result n) (size n) (length (call (scanned n)).ns) c.own-size.result
+    Measured (call (scanned n)) 0 (result n) (size n) (length (call (scanned n)).ns) c.own_size-shared.result
 measured c =
     let n = sized c in
-    let r = (scanned n).left-len in
+    let r = (scanned n).left_len in
     let k = checked (scanned n) in
-    unindented_measured (call (scanned n)) (lengths k) (fine k) (size n) refl (no-fault n) (fine_count r.result (size n) _ n.n.given.1 r.ensures.1)
-    c.own-size.result c.own-size.ensures
+    unindented_measured (call (scanned n)) (lengths k) (fine k) (size n) refl (no-fault n) (fine_count r.result (size n) _ n.n-1.given.1 r.ensures.1)
+    c.own_size-shared.result c.own_size-shared.ensures
 
 -- ── what is asked on the way
-check-both-requires : tie.Need-check-both-requires
+check-both-requires : tie.Need-check_both-checked-requires
 check-both-requires c κs = search rules
 
-enum-known-checked : tie.Need-enum-known-checked
+enum-known-checked : tie.Need-enum_known-checked
 enum-known-checked c = search rules
 
-returns : tie.Need-returns
+returns : tie.Need-returns-in-Refused
 returns c =
     let k = c.before.before.before in
     let s = k.before.before.before.before.before.before.before.before.before.before in
-    both_refused (given s) k.check_both.result k.check_both.ensures c.before.checked.given.0.0 c.before.checked.given.1
+    both_refused (given s) k.check_both-checked.result k.check_both-checked.ensures c.before.checked-1.given.0.0 c.before.checked-1.given.1
 
-enum-known-checked-2 : tie.Need-enum-known-checked-2
+enum-known-checked-2 : tie.Need-enum_known-checked-in-Fine-1
 enum-known-checked-2 c = search rules
 
-has-newline-requires : tie.Need-has-newline-requires
+has-newline-requires : tie.Need-has_newline-requires
 has-newline-requires c κs = search rules
 
-returns-2 : tie.Need-returns-2
+returns-2 : tie.Need-returns-then-has_newline
 returns-2 c =
     let k = c.before.before.before in
     let x = given (start k) in
-    own_refused x (lengths k) (fine k) PrefixNewline (newline_refused x.fs x.ds (sym c.before.has-newline.ensures ∙ c.if1.true))
+    own_refused x (lengths k) (fine k) PrefixNewline (newline_refused x.fs x.ds (sym c.before.has_newline.ensures ∙ c.if-has_newline.true))
 
-left-len-requires : tie.Need-left-len-requires
-left-len-requires c κs = ((fine c.before.before.before).0.data_short, sym c.before.has-newline.ensures ∙ c.if1.false)
+left-len-requires : tie.Need-left_len-requires
+left-len-requires c κs = ((fine c.before.before.before).0.data_short, sym c.before.has_newline.ensures ∙ c.if-has_newline.false)
 
-enum-known-f : tie.Need-enum-known-f
+enum-known-f : tie.Need-enum_known-f
 enum-known-f c = search rules
 
-returns-3 : tie.Need-returns-3
+returns-3 : tie.Need-returns-in-Refused-left_len
 returns-3 c =
     let l = c.before.before.before in
-    let r = l.left-len in
-    let f = c.before.f.given in
+    let r = l.left_len in
+    let f = c.before.f-1.given in
     own_refused (call l) (lengths (checked l)) (fine (checked l)) f.0.0 (sym r.ensures.0 ∙ refused-number r.result f.0.0 f.1)
 
-enum-known-n : tie.Need-enum-known-n
+enum-known-n : tie.Need-enum_known-n
 enum-known-n c = search rules
 
-own-size-requires : tie.Need-own-size-requires
+own-size-requires : tie.Need-own_size-shared-requires
 own-size-requires c κs =
     let k = checked (scanned c.before) in
     let x = call (scanned c.before) in
     let f = (fine k).0 in
     ((f.entries_short, f.own_short, f.parts), rw f.text_size_lem (own_less x.ds x.ns x.ts f.passed))
 
-settle-requires : tie.Need-settle-requires
+settle-requires : tie.Need-settle-verdict-requires
 settle-requires c κs = search rules
 
-enum-known-verdict : tie.Need-enum-known-verdict
+enum-known-verdict : tie.Need-enum_known-verdict
 enum-known-verdict c = search rules
 
-returns-4 : tie.Need-returns-4
+returns-4 : tie.Need-returns-in-Refused-verdict
 returns-4 c =
     let p = c.before.before.before in
     let n = sized p.before in
     let k = checked (scanned n) in
-    sizes_refused (call (scanned n)) (lengths k) (fine k) 0 (result n) _ _ _ (measured p.before) p.settle.result p.settle.ensures c.before.verdict.given.0.0 c.before.verdict.given.1
+    sizes_refused (call (scanned n)) (lengths k) (fine k) 0 (result n) _ _ _ (measured p.before) p.settle-verdict.result p.settle-verdict.ensures c.before.verdict-1.given.0.0 c.before.verdict-1.given.1
 
-enum_told : tie.Need-enum-told
+enum_told : tie.Need-enum_told-1
 enum_told c = search rules
 
-put-unindented-requires : tie.Need-put-unindented-requires
+put-unindented-requires : tie.Need-put_unindented-c-requires
 put-unindented-requires c κs =
     let told = c.before.before.before in
     let p = told.before.before in
     let n = sized p.before in
     let k = checked (scanned n) in
-    (((fine k).0.whole, no-fault n), has_room (call (scanned n)) (lengths k) (fine k) 0 (result n) _ _ _ (measured p.before) p.settle.result p.settle.ensures told.enum_told.given.1)
+    (((fine k).0.whole, no-fault n), has_room (call (scanned n)) (lengths k) (fine k) 0 (result n) _ _ _ (measured p.before) p.settle-verdict.result p.settle-verdict.ensures told.enum_told-1.given.1)
 
-same_length : tie.Need-same-length
+same_length : tie.Need-shape_of-bytes
 same_length c = search rules
 
-same-length-2 : tie.Need-same-length-2
+same-length-2 : tie.Need-shape_of-numbers
 same-length-2 c = search rules
 
-same-length-3 : tie.Need-same-length-3
+same-length-3 : tie.Need-shape_of-texts
 same-length-3 c = search rules
 
-returns-5 : tie.Need-returns-5
+returns-5 : tie.Need-returns
 returns-5 c =
     let w = c.before.before.before.before.before.before in
     let told = w.before.before.before.before in
@@ -184,11 +184,11 @@ returns-5 c =
     let n = sized p.before in
     let k = checked (scanned n) in
     let x = call (scanned n) in
-    written x (lengths k) (fine k) 0 (result n) _ _ _ (measured p.before) p.settle.result p.settle.ensures told.enum_told.given.1
-    0 _ _ _ w.put-unindented.result (number_of_refusal (second x) (content x)) w.put-unindented.ensures
+    written x (lengths k) (fine k) 0 (result n) _ _ _ (measured p.before) p.settle-verdict.result p.settle-verdict.ensures told.enum_told-1.given.1
+    0 _ _ _ w.put_unindented-c.result (number_of_refusal (second x) (content x)) w.put_unindented-c.ensures
 
-pub write-unindented-spec : {M : Type 1} → statement M
-write-unindented-spec =
+pub write_unindented_spec : {M : Type 1} → statement M
+write_unindented_spec =
     tie.close
     (tie.spec
     check-both-requires

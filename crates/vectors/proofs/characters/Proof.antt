@@ -7,89 +7,89 @@ use Rattle.vectors.proofs.characters.Lts as lts
 use Rattle.chars.proofs.read_char.Reads as read-char-reads
 use Rattle.chars.proofs.seen_at.Reads as seen-at-reads
 
-abbrev invariant-loop : tie.invariant-loop
+abbrev invariant-loop : tie.invariant-loop-at
 invariant-loop t s out₀ at₀ k₀ out at k = (at ≤ length s) × (k ≤ length out) × (length out ≡ length out₀)
 
-abbrev decreases-loop : tie.decreases-loop
+abbrev decreases-loop : tie.decreases-loop-at
 decreases-loop t s out₀ at₀ k₀ out at k = length s - at
 
-loop-holds : tie.Need-loop-init invariant-loop decreases-loop
+loop-holds : tie.Need-loop-at-init invariant-loop decreases-loop
 loop-holds c = search rules
 
-add-if1 : tie.Need-overflow-add-if1 invariant-loop decreases-loop
+add-if1 : tie.Need-overflow_add-k invariant-loop decreases-loop
 add-if1 c = search rules
 
-same_length : tie.Need-same-length invariant-loop decreases-loop
+same_length : tie.Need-shape_of-out-then-out-k invariant-loop decreases-loop
 same_length c = search rules
 
-returns : tie.Need-returns invariant-loop decreases-loop
+returns : tie.Need-returns-then-out-k invariant-loop decreases-loop
 returns c = search rules
 
-read-char-requires : tie.Need-read-char-requires invariant-loop decreases-loop
+read-char-requires : tie.Need-read_char-c-requires invariant-loop decreases-loop
 read-char-requires c κs = search rules
 
-seen-at-requires : tie.Need-seen-at-requires invariant-loop decreases-loop
+seen-at-requires : tie.Need-seen_at-w-requires invariant-loop decreases-loop
 seen-at-requires c κs = search rules
 
-mul-out : tie.Need-overflow-mul-out invariant-loop decreases-loop
+mul-out : tie.Need-offset_bounds-out-k invariant-loop decreases-loop
 mul-out c = search rules
 
-slice-write-out : tie.Need-slice-write-out invariant-loop decreases-loop
+slice-write-out : tie.Need-bounds-out-k invariant-loop decreases-loop
 slice-write-out c = search rules
 
-cast-out : tie.Need-overflow-cast-out invariant-loop decreases-loop
+cast-out : tie.Need-overflow_cast-out invariant-loop decreases-loop
 cast-out c = search rules
 
-add-out : tie.Need-overflow-add-out invariant-loop decreases-loop
+add-out : tie.Need-overflow_add-out invariant-loop decreases-loop
 add-out c = search rules
 
-mul-out-2 : tie.Need-overflow-mul-out-2 invariant-loop decreases-loop
+mul-out-2 : tie.Need-offset_bounds-out-k-in-loop-at invariant-loop decreases-loop
 mul-out-2 c = search rules
 
-slice-write-out-2 : tie.Need-slice-write-out-2 invariant-loop decreases-loop
+slice-write-out-2 : tie.Need-bounds-out-k-in-loop-at invariant-loop decreases-loop
 slice-write-out-2 c = simp length-set (omega arith)
 
-cast-out-2 : tie.Need-overflow-cast-out-2 invariant-loop decreases-loop
+cast-out-2 : tie.Need-overflow_cast-out-in-loop-at invariant-loop decreases-loop
 cast-out-2 c = search rules
 
-add-out-2 : tie.Need-overflow-add-out-2 invariant-loop decreases-loop
+add-out-2 : tie.Need-overflow_add-out-in-loop-at invariant-loop decreases-loop
 add-out-2 c = search rules
 
-mul-out-3 : tie.Need-overflow-mul-out-3 invariant-loop decreases-loop
+mul-out-3 : tie.Need-offset_bounds-out-k-in-loop-at-2 invariant-loop decreases-loop
 mul-out-3 c = search rules
 
-slice-write-out-3 : tie.Need-slice-write-out-3 invariant-loop decreases-loop
+slice-write-out-3 : tie.Need-bounds-out-k-in-loop-at-2 invariant-loop decreases-loop
 slice-write-out-3 c = simp length-set (omega arith)
 
-add-out-3 : tie.Need-overflow-add-out-3 invariant-loop decreases-loop
+add-out-3 : tie.Need-overflow_add-out-in-loop-at-2 invariant-loop decreases-loop
 add-out-3 c = search rules
 
-mul-out-4 : tie.Need-overflow-mul-out-4 invariant-loop decreases-loop
+mul-out-4 : tie.Need-offset_bounds-out-k-in-loop-at-3 invariant-loop decreases-loop
 mul-out-4 c = search rules
 
-slice-write-out-4 : tie.Need-slice-write-out-4 invariant-loop decreases-loop
+slice-write-out-4 : tie.Need-bounds-out-k-in-loop-at-3 invariant-loop decreases-loop
 slice-write-out-4 c = simp length-set (omega arith)
 
-add-k : tie.Need-overflow-add-k invariant-loop decreases-loop
+add-k : tie.Need-overflow_add-k-in-loop-at invariant-loop decreases-loop
 add-k c = search rules
 
-add_at : tie.Need-overflow-add-at invariant-loop decreases-loop
+add_at : tie.Need-overflow_add-at invariant-loop decreases-loop
 add_at c = search rules
 
-loop-less : tie.Need-loop-smaller invariant-loop decreases-loop
+loop-less : tie.Need-loop-at-smaller invariant-loop decreases-loop
 loop-less c = search rules
 
-loop-again : tie.Need-loop-preserved invariant-loop decreases-loop
+loop-again : tie.Need-loop-at-preserved invariant-loop decreases-loop
 loop-again c = simp length-set (search rules, search rules, search rules)
 
-same-length-2 : tie.Need-same-length-2 invariant-loop decreases-loop
+same-length-2 : tie.Need-shape_of-out invariant-loop decreases-loop
 same-length-2 c = search rules
 
-returns-2 : tie.Need-returns-2 invariant-loop decreases-loop
+returns-2 : tie.Need-returns invariant-loop decreases-loop
 returns-2 c = search rules
 
-pub characters-spec : {M : Type 1} → statement M
-characters-spec =
+pub characters_spec : {M : Type 1} → statement M
+characters_spec =
     tie.close
     (tie.spec
     invariant-loop

@@ -8,20 +8,20 @@ use Rattle.vectors.proofs.characters_agree.Lts as lts
 use Rattle.vectors.proofs.characters.Reads as characters-reads
 use Rattle.vectors.proofs.exactly.Reads as exactly-Reads
 
-slice-aggregate-characters : tie.Need-slice-aggregate-characters
+slice-aggregate-characters : tie.Need-slice_bounds-characters-end
 slice-aggregate-characters c = search rules
 
-characters-requires : tie.Need-characters-requires
+characters-requires : tie.Need-characters-n-requires
 unfolding lead_table
 characters-requires c κs = refl
 
-sub-exactly : tie.Need-overflow-sub-exactly
+sub-exactly : tie.Need-slice_bounds-exactly-count
 sub-exactly c = search rules
 
-part-exactly-start : tie.Need-slice-bounds-exactly-start
+part-exactly-start : tie.Need-slice_bounds-exactly-start
 part-exactly-start c = search rules
 
-part-exactly-end : tie.Need-slice-bounds-exactly-end
+part-exactly-end : tie.Need-slice_bounds-exactly-end
 part-exactly-end c = search rules
 
 exactly-requires : tie.Need-exactly-requires
@@ -30,8 +30,8 @@ exactly-requires c κs = search rules
 returns : tie.Need-returns
 returns c = search rules
 
-pub characters-agree-spec : {M : Type 1} → statement M
-characters-agree-spec =
+pub characters_agree_spec : {M : Type 1} → statement M
+characters_agree_spec =
     tie.close
     (tie.spec
     slice-aggregate-characters

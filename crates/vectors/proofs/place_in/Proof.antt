@@ -7,50 +7,50 @@ use Rattle.vectors.proofs.place_in.Lts as lts
 use Rattle.check.proofs.same.Reads as same_Reads
 use Rattle.sheet.proofs.find.Reads as find-reads
 
-abbrev invariant-loop : tie.invariant-loop
+abbrev invariant-loop : tie.invariant-loop-at
 invariant-loop list word at₀ k₀ at k = (at ≤ length list + 1) × (k ≤ at)
 
-abbrev decreases-loop : tie.decreases-loop
+abbrev decreases-loop : tie.decreases-loop-at
 decreases-loop list word at₀ k₀ at k = length list + 1 - at
 
-loop-holds : tie.Need-loop-init invariant-loop decreases-loop
+loop-holds : tie.Need-loop-at-init invariant-loop decreases-loop
 loop-holds c = search rules
 
-find-requires : tie.Need-find-requires invariant-loop decreases-loop
+find-requires : tie.Need-find-e-requires invariant-loop decreases-loop
 find-requires c κs = search rules
 
-sub_same : tie.Need-overflow-sub-same invariant-loop decreases-loop
+sub_same : tie.Need-slice_bounds-same-count invariant-loop decreases-loop
 sub_same c = search rules
 
-part-same-start : tie.Need-slice-bounds-same-start invariant-loop decreases-loop
+part-same-start : tie.Need-slice_bounds-same-start invariant-loop decreases-loop
 part-same-start c = search rules
 
-part-same-end : tie.Need-slice-bounds-same-end invariant-loop decreases-loop
+part-same-end : tie.Need-slice_bounds-same-end invariant-loop decreases-loop
 part-same-end c = search rules
 
 same-requires : tie.Need-same-requires invariant-loop decreases-loop
 same-requires c κs = search rules
 
-returns : tie.Need-returns invariant-loop decreases-loop
+returns : tie.Need-returns-then-same invariant-loop decreases-loop
 returns c = search rules
 
-add_at : tie.Need-overflow-add-at invariant-loop decreases-loop
+add_at : tie.Need-overflow_add-at invariant-loop decreases-loop
 add_at c = search rules
 
-add-k : tie.Need-overflow-add-k invariant-loop decreases-loop
+add-k : tie.Need-overflow_add-k invariant-loop decreases-loop
 add-k c = search rules
 
-loop-less : tie.Need-loop-smaller invariant-loop decreases-loop
+loop-less : tie.Need-loop-at-smaller invariant-loop decreases-loop
 loop-less c = search rules
 
-loop-again : tie.Need-loop-preserved invariant-loop decreases-loop
+loop-again : tie.Need-loop-at-preserved invariant-loop decreases-loop
 loop-again c = search rules
 
-returns-2 : tie.Need-returns-2 invariant-loop decreases-loop
+returns-2 : tie.Need-returns invariant-loop decreases-loop
 returns-2 c = search rules
 
-pub place-in-spec : {M : Type 1} → statement M
-place-in-spec =
+pub place_in_spec : {M : Type 1} → statement M
+place_in_spec =
     tie.close
     (tie.spec
     invariant-loop

@@ -14,34 +14,34 @@ use Rattle.well_formed.proofs.fitting_block.Reads as fitting-block-reads
 use Rattle.well_formed.proofs.last_boundary.Reads as last-boundary-reads
 use Rattle.well_formed.proofs.plain_block.Reads as plain-block-reads
 
-plain-block-requires : tie.Need-plain-block-requires
+plain-block-requires : tie.Need-plain_block-requires
 plain-block-requires c κs = search rules
 
-sub-last-boundary : tie.Need-overflow-sub-last-boundary
+sub-last-boundary : tie.Need-overflow_sub-at
 sub-last-boundary c = search rules
 
-last-boundary-requires : tie.Need-last-boundary-requires
+last-boundary-requires : tie.Need-last_boundary-requires
 last-boundary-requires c κs = search rules
 
-returns : tie.Need-returns
+returns : tie.Need-returns-then-plain_block
 returns c =
     let x = c.before.before.before.before.args in
-    let b = c.last-boundary in
+    let b = c.last_boundary in
     let k : x.at - 3 + 3 ≡ x.at = omega arith in
     λ e. plain_fits x.s.now 32 x.at (subst (λ (n : ℕ). EndsAt n x.s.now) k (b.ensures.0.0 (omega (arith, k, eqb-true b.result x.at e))))
-    (c.before.before.plain-block.ensures c.before.if1.true)
+    (c.before.before.plain_block.ensures c.before.if-plain_block.true)
 
-sub-fitting-block : tie.Need-overflow-sub-fitting-block
+sub-fitting-block : tie.Need-overflow_sub-at-2
 sub-fitting-block c = search rules
 
-fitting-block-requires : tie.Need-fitting-block-requires
+fitting-block-requires : tie.Need-fitting_block-requires
 fitting-block-requires c κs = search rules
 
-returns-2 : tie.Need-returns-2
-returns-2 c = λ e i p q. c.fitting-block.ensures e i (omega (arith, p)) (omega (arith, q))
+returns-2 : tie.Need-returns
+returns-2 c = λ e i p q. c.fitting_block.ensures e i (omega (arith, p)) (omega (arith, q))
 
-pub block-fits-spec : {M : Type 1} → statement M
-block-fits-spec =
+pub block_fits_spec : {M : Type 1} → statement M
+block_fits_spec =
     tie.close
     (tie.spec
     plain-block-requires

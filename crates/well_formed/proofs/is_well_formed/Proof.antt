@@ -20,53 +20,53 @@ record So-far (s : List ℕ) (at : ℕ) : Type 0 where
   -- the characters from here on decide
   rest : all_ok (chars (drop at s)) ≡ well_formed_of s
 
-abbrev invariant-loop : tie.invariant-loop
+abbrev invariant-loop : tie.invariant-loop-at
 invariant-loop s at₀ at = So-far s at
 
-abbrev decreases-loop : tie.decreases-loop
+abbrev decreases-loop : tie.decreases-loop-at
 decreases-loop s at₀ at = length s - at
 
-well-formed-by-table-requires : tie.Need-well-formed-by-table-requires invariant-loop decreases-loop
+well-formed-by-table-requires : tie.Need-well_formed_by_table-requires invariant-loop decreases-loop
 well-formed-by-table-requires c κs = search rules
 
-returns : tie.Need-returns invariant-loop decreases-loop
+returns : tie.Need-returns-then-s-ge35 invariant-loop decreases-loop
 returns c = search rules
 
-loop-holds : tie.Need-loop-init invariant-loop decreases-loop
+loop-holds : tie.Need-loop-at-init invariant-loop decreases-loop
 unfolding well_formed_of
 loop-holds c = record { within = omega arith; rest = refl }
 
-shared-slice-read-if2 : tie.Need-shared-slice-read-if2 invariant-loop decreases-loop
+shared-slice-read-if2 : tie.Need-bounds-s-at invariant-loop decreases-loop
 shared-slice-read-if2 c = search rules
 
-well-formed-by-table-requires-2 : tie.Need-well-formed-by-table-requires-2 invariant-loop decreases-loop
+well-formed-by-table-requires-2 : tie.Need-well_formed_by_table-requires-then-s-at-gt127 invariant-loop decreases-loop
 well-formed-by-table-requires-2 c κs = search rules
 
-returns-2 : tie.Need-returns-2 invariant-loop decreases-loop
+returns-2 : tie.Need-returns-then-s-at-gt127 invariant-loop decreases-loop
 returns-2 c = search rules
 
-add_at : tie.Need-overflow-add-at invariant-loop decreases-loop
+add_at : tie.Need-overflow_add-at invariant-loop decreases-loop
 add_at c = search rules
 
-loop-less : tie.Need-loop-smaller invariant-loop decreases-loop
+loop-less : tie.Need-loop-at-smaller invariant-loop decreases-loop
 loop-less c = search rules
 
-loop-again : tie.Need-loop-preserved invariant-loop decreases-loop
+loop-again : tie.Need-loop-at-preserved invariant-loop decreases-loop
 loop-again c =
     let l = c.before.before.before in
     let s = l.before.before.before.args.s.now in
-    let at = l.loop.at in
-    let ascii : get_or s at 0 < 128 = omega (arith, c.if2.false) in
-    let n = ok_next s at 1 c.before.before.loop-test.true (sym (ascii_len s at ascii)) true (ascii_ok s at ascii) in
-    record { within = omega arith; rest = sym n ∙ l.loop.invariant.rest }
+    let at = l.loop-at.at in
+    let ascii : get_or s at 0 < 128 = omega (arith, c.if-s-at-gt127.false) in
+    let n = ok_next s at 1 c.before.before.loop-at-test.true (sym (ascii_len s at ascii)) true (ascii_ok s at ascii) in
+    record { within = omega arith; rest = sym n ∙ l.loop-at.invariant.rest }
 
-returns-3 : tie.Need-returns-3 invariant-loop decreases-loop
+returns-3 : tie.Need-returns invariant-loop decreases-loop
 returns-3 c =
     let l = c.before in
-    sym (ap all_ok (chars_end l.before.before.before.args.s.now l.loop.at c.loop-test.false)) ∙ l.loop.invariant.rest
+    sym (ap all_ok (chars_end l.before.before.before.args.s.now l.loop-at.at c.loop-at-test.false)) ∙ l.loop-at.invariant.rest
 
-pub is-well-formed-spec : {M : Type 1} → statement M
-is-well-formed-spec =
+pub is_well_formed_spec : {M : Type 1} → statement M
+is_well_formed_spec =
     tie.close
     (tie.spec
     invariant-loop

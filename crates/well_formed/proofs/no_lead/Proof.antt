@@ -6,14 +6,14 @@ use Rattle.well_formed.proofs.no_lead.Reads as reads
 use Rattle.well_formed.proofs.no_lead.Lts as lts
 use Rattle.well_formed.proofs.outside.Reads as outside-reads
 
-returns : tie.Need-returns
+returns : tie.Need-returns-then-z-lt128
 returns c = search rules
 
 outside-requires : tie.Need-outside-requires
 outside-requires c κs = search rules
 
-returns-2 : tie.Need-returns-2
+returns-2 : tie.Need-returns
 returns-2 c = (λ z h. c.outside.ensures.0 z, c.outside.ensures.1)
 
-pub no-lead-spec : {M : Type 1} → statement M
-no-lead-spec = tie.close (tie.spec returns outside-requires returns-2)
+pub no_lead_spec : {M : Type 1} → statement M
+no_lead_spec = tie.close (tie.spec returns outside-requires returns-2)

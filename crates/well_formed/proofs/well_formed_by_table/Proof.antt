@@ -4,12 +4,12 @@ use Rattle.chars.specs.Leads.{lead_table}
 use Rattle.well_formed.proofs.well_formed_by_table.Statement.{statement}
 use Rattle.well_formed.proofs.well_formed_by_table.Tie as tie
 
-long-well-formed-requires : tie.Need-long-well-formed-requires
+long-well-formed-requires : tie.Need-long_well_formed-requires
 unfolding lead_table
 long-well-formed-requires c κs = search rules
 
 returns : tie.Need-returns
 returns c = search rules
 
-pub well-formed-by-table-spec : {M : Type 1} → statement M
-well-formed-by-table-spec = tie.close (tie.spec long-well-formed-requires returns)
+pub well_formed_by_table_spec : {M : Type 1} → statement M
+well_formed_by_table_spec = tie.close (tie.spec long-well-formed-requires returns)

@@ -12,10 +12,10 @@ use Rattle.writer.proofs.keep.Reads as keep-reads
 use Rattle.writer.proofs.skip.Reads as skip-reads
 
 -- once the bytes before the line are left out: where the function started
-abbrev start : tie.After-skip → tie.Start
+abbrev start : tie.After-skip-c → tie.Start
 start c = c.before.before.before.before.before.before.before.before.before.before
 
-skip-requires : tie.Need-skip-requires
+skip-requires : tie.Need-skip-c-requires
 skip-requires c κs =
     let p = c.before.before.before.before.before.before.before.before.before.requires in
     (p.0, ((p.1.0.0, omega (arith, p.1.0.1, p.1.0.2)), laws.skip_fits _ _ _ _ p.1.1))
@@ -25,17 +25,17 @@ keep-requires c κs =
     let q = c.before.before.before.before.before.before.before.before.before in
     let a = (start q).args in
     let p = (start q).requires in
-    let s = q.skip in
+    let s = q.skip-c in
     let n = ap (λ (x : ℕ). a.end - x) s.ensures.1.1.1 in
     (s.ensures.1.1.0, ((omega (arith, s.ensures.1.1.1, p.1.0.1), p.1.0.2), laws.keep_fits _ _ _ _ _ _ _ p.1.1 s.ensures.0 s.ensures.1.0 n))
 
-same_length : tie.Need-same-length
+same_length : tie.Need-shape_of-bytes
 same_length c = search rules
 
-same-length-2 : tie.Need-same-length-2
+same-length-2 : tie.Need-shape_of-numbers
 same-length-2 c = search rules
 
-same-length-3 : tie.Need-same-length-3
+same-length-3 : tie.Need-shape_of-texts
 same-length-3 c = search rules
 
 returns : tie.Need-returns
@@ -43,14 +43,14 @@ returns c =
     let q = c.before.before.before.before.before.before.before.before.before.before.before.before.before.before.before.before in
     let a = (start q).args in
     let p = (start q).requires in
-    let s = q.skip in
+    let s = q.skip-c in
     let k = c.before.before.before.before.before.before.keep in
     let n = ap (λ (x : ℕ). a.end - x) s.ensures.1.1.1 in (
       laws.line_wrote _ _ _ _ _ _ _ p.1.1 s.ensures.0 s.ensures.1.0 n _ k.ensures.0,
       (laws.line_left_lem _ _ _ _ _ _ _ p.1.1 s.ensures.0 s.ensures.1.0 n _ k.ensures.1.0, (k.ensures.1.1.0, k.ensures.1.1.1)),
     )
 
-pub put-line-spec : {M : Type 1} → statement M
-put-line-spec =
+pub put_line_spec : {M : Type 1} → statement M
+put_line_spec =
     tie.close
     (tie.spec skip-requires keep-requires same_length same-length-2 same-length-3 returns)

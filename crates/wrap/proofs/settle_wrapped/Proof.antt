@@ -19,27 +19,27 @@ use Rattle.wrap_lines.proofs.numbers_of.Reads as numbers-of-reads
 use Rattle.wrap.proofs.most_bytes.Reads as most-bytes-reads
 use Rattle.writer.proofs.settle.Reads as settle-reads
 
-most-bytes-requires : tie.Need-most-bytes-requires
+most-bytes-requires : tie.Need-most_bytes-requires
 most-bytes-requires c κs = search rules
 
-add-numbers-of : tie.Need-overflow-add-numbers-of
+add-numbers-of : tie.Need-overflow_add-content
 add-numbers-of c = search rules
 
-numbers-of-requires : tie.Need-numbers-of-requires
+numbers-of-requires : tie.Need-numbers_of-requires
 numbers-of-requires c κs = search rules
 
-settle-requires : tie.Need-settle-requires
+settle-requires : tie.Need-settle-largest-requires
 settle-requires c κs = search rules
 
-enum_told : tie.Need-enum-told
+enum_told : tie.Need-enum_told-1
 enum_told c = search rules
 
-returns : tie.Need-returns
+returns : tie.Need-returns-in-Room
 unfolding settled_fault
 returns c =
     let a = c.before.before.before.before.before.before.args in
     let ls = wrap_lines_of a.width a.break-words a.content.now in
-    let h = sym c.before.before.settle.ensures ∙ ap settled_fault c.enum_told.given.1 in
+    let h = sym c.before.before.settle-largest.ensures ∙ ap settled_fault c.enum_told-1.given.1 in
     sym (smaller_fits _ _ _ _ _ _ _ h c.before.before.before.before.most_bytes.ensures
     (omega (
       arith,
@@ -48,35 +48,35 @@ returns c =
       c.before.before.before.numbers_of.ensures,
     )))
 
-enum-told-2 : tie.Need-enum-told-2
+enum-told-2 : tie.Need-enum_told-in-Refused
 enum-told-2 c = search rules
 
-count-lines-requires : tie.Need-count-lines-requires
+count-lines-requires : tie.Need-count_lines-found-requires
 count-lines-requires c κs = search rules
 
-sub-settle : tie.Need-overflow-sub-settle
+sub-settle : tie.Need-overflow_sub-count
 sub-settle c = search rules
 
-add-settle : tie.Need-overflow-add-settle
+add-settle : tie.Need-overflow_add-found
 add-settle c = search rules
 
-numbers-of-requires-2 : tie.Need-numbers-of-requires-2
+numbers-of-requires-2 : tie.Need-numbers_of-requires-2
 numbers-of-requires-2 c κs = search rules
 
-settle-requires-2 : tie.Need-settle-requires-2
+settle-requires-2 : tie.Need-settle-requires
 settle-requires-2 c κs = search rules
 
-returns-2 : tie.Need-returns-2
+returns-2 : tie.Need-returns
 unfolding lines_of
 returns-2 c =
     let a = c.before.before.before.before.before.before.before.before.before.before.args in
-    let e = c.before.before.before.count-lines.ensures.0 in
+    let e = c.before.before.before.count_lines-found.ensures.0 in
     let d = ap (λ (x : Lines). x.bytes + (x.count - 1)) e in
-    let l = c.before.numbers-of2.ensures ∙ ap (λ (x : Lines). x.count * line_size) e ∙ sym (numbers_length a.content.now (wrap_lines_of a.width a.break-words a.content.now)) in
-    c.settle2.ensures ∙ (λ i. sizes_fault (d i) a.e a.t (l i) (room_of_state a.bytes a.numbers a.texts a.lines))
+    let l = c.before.numbers_of-2.ensures ∙ ap (λ (x : Lines). x.count * line_size) e ∙ sym (numbers_length a.content.now (wrap_lines_of a.width a.break-words a.content.now)) in
+    c.settle.ensures ∙ (λ i. sizes_fault (d i) a.e a.t (l i) (room_of_state a.bytes a.numbers a.texts a.lines))
 
-pub settle-wrapped-spec : {M : Type 1} → statement M
-settle-wrapped-spec =
+pub settle_wrapped_spec : {M : Type 1} → statement M
+settle_wrapped_spec =
     tie.close
     (tie.spec
     most-bytes-requires

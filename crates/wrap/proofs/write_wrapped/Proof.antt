@@ -42,100 +42,100 @@ abbrev lent : tie.Start → Lent
 lent s = lent_lined s.args.bytes.now s.args.numbers.now s.args.texts.now s.args.lines.now
 
 -- once the content is checked
-abbrev start : tie.After-checked2 → tie.Start
+abbrev start : tie.In-Fine-2 → tie.Start
 start c = c.before.before.before.before.before.before.before.before.before.before
 
-abbrev size : tie.After-checked2 → ℕ
-size c = c.checked2.given.0.0
+abbrev size : tie.In-Fine-2 → ℕ
+size c = c.checked-in-Fine-1.given.0.0
 
-fine : (c : tie.After-checked2) → Fine (ds (start c)) (ns (start c)) (ts (start c)) (size c)
+fine : (c : tie.In-Fine-2) → Fine (ds (start c)) (ns (start c)) (ts (start c)) (size c)
 fine c =
     let s = start c in
-    let k = c.before.before.check in
-    content_fine (call s) (ds s) (ns s) (ts s) (lent s) k.result k.ensures.0 k.ensures.1.0 k.ensures.1.1 (size c) c.checked2.given.1
+    let k = c.before.before.check-checked in
+    content_fine (call s) (ds s) (ns s) (ts s) (lent s) k.result k.ensures.0 k.ensures.1.0 k.ensures.1.1 (size c) c.checked-in-Fine-1.given.1
 
 -- once the sizes are settled
-abbrev measured : tie.After-settle-wrapped → tie.After-own-size
+abbrev measured : tie.After-settle_wrapped-verdict → tie.After-own_size-shared
 measured c = c.before.before
 
-abbrev checked : tie.After-settle-wrapped → tie.After-checked2
+abbrev checked : tie.After-settle_wrapped-verdict → tie.In-Fine-2
 checked c = (measured c).before.before
 
 -- ── what is asked on the way
-check-requires : tie.Need-check-requires
+check-requires : tie.Need-check-checked-requires
 check-requires c κs = search rules
 
-enum-known-checked : tie.Need-enum-known-checked
+enum-known-checked : tie.Need-enum_known-checked
 enum-known-checked c = search rules
 
-returns : tie.Need-returns
+returns : tie.Need-returns-in-Refused
 returns c =
     let k = c.before.before.before in
     let s = k.before.before.before.before.before.before.before.before in
-    content-refused (call s) (ds s) (ns s) (ts s) (lent s) k.check.result k.check.ensures.0 c.before.checked.given.0.0 c.before.checked.given.1
+    content-refused (call s) (ds s) (ns s) (ts s) (lent s) k.check-checked.result k.check-checked.ensures.0 c.before.checked-1.given.0.0 c.before.checked-1.given.1
 
-enum-known-checked-2 : tie.Need-enum-known-checked-2
+enum-known-checked-2 : tie.Need-enum_known-checked-in-Fine-1
 enum-known-checked-2 c = search rules
 
-own-size-requires : tie.Need-own-size-requires
+own-size-requires : tie.Need-own_size-shared-requires
 own-size-requires c κs =
     let s = start c.before in
     let f = fine c.before in
     ((f.entries_short, f.own_short, f.parts), omega (arith, own_less (ds s) (ns s) (ts s) f.passed, f.text_size_lem))
 
-settle-wrapped-requires : tie.Need-settle-wrapped-requires
+settle-wrapped-requires : tie.Need-settle_wrapped-verdict-requires
 unfolding lead_table
 settle-wrapped-requires c κs = (search rules, (fine c.before.before.before).data_short)
 
-enum-known-verdict : tie.Need-enum-known-verdict
+enum-known-verdict : tie.Need-enum_known-verdict
 enum-known-verdict c = search rules
 
-returns-2 : tie.Need-returns-2
+returns-2 : tie.Need-returns-in-Refused-verdict
 returns-2 c =
     let p = c.before.before.before in
     let s = start (checked p) in
-    sizes_refused (call s) (ds s) (ns s) (ts s) (lent s) (fine (checked p)).passed refl _ _ _ (data_size _ _ _) (measured p).own-size.ensures refl
-    p.settle-wrapped.result p.settle-wrapped.ensures
-    c.before.verdict.given.0.0 c.before.verdict.given.1
+    sizes_refused (call s) (ds s) (ns s) (ts s) (lent s) (fine (checked p)).passed refl _ _ _ (data_size _ _ _) (measured p).own_size-shared.ensures refl
+    p.settle_wrapped-verdict.result p.settle_wrapped-verdict.ensures
+    c.before.verdict-1.given.0.0 c.before.verdict-1.given.1
 
-enum_told : tie.Need-enum-told
+enum_told : tie.Need-enum_told-1
 enum_told c = search rules
 
-put-wrapped-requires : tie.Need-put-wrapped-requires
+put-wrapped-requires : tie.Need-put_wrapped-w-requires
 unfolding lead_table result_items settled_fault
 put-wrapped-requires c κs =
     let p = c.before.before.before.before.before.before.before in
     let s = start (checked p) in
-    let q = c.before.before.before.before.before.enum_told.given.1 in
-    let room = has_room (call s) (ds s) (ns s) (ts s) (lent s) (fine (checked p)).passed refl _ _ _ (data_size _ _ _) (measured p).own-size.ensures refl
-    p.settle-wrapped.result p.settle-wrapped.ensures q in
-    (search rules, ((fine (checked p)).whole, (room, (within _ _ _ _ _ (sym p.settle-wrapped.ensures ∙ ap settled_fault q)).line_room_lem)))
+    let q = c.before.before.before.before.before.enum_told-1.given.1 in
+    let room = has_room (call s) (ds s) (ns s) (ts s) (lent s) (fine (checked p)).passed refl _ _ _ (data_size _ _ _) (measured p).own_size-shared.ensures refl
+    p.settle_wrapped-verdict.result p.settle_wrapped-verdict.ensures q in
+    (search rules, ((fine (checked p)).whole, (room, (within _ _ _ _ _ (sym p.settle_wrapped-verdict.ensures ∙ ap settled_fault q)).line_room_lem)))
 
-same_length : tie.Need-same-length
+same_length : tie.Need-shape_of-bytes
 same_length c = search rules
 
-same-length-2 : tie.Need-same-length-2
+same-length-2 : tie.Need-shape_of-numbers
 same-length-2 c = search rules
 
-same-length-3 : tie.Need-same-length-3
+same-length-3 : tie.Need-shape_of-texts
 same-length-3 c = search rules
 
-same-length-4 : tie.Need-same-length-4
+same-length-4 : tie.Need-shape_of-lines
 same-length-4 c = search rules
 
-returns-3 : tie.Need-returns-3
+returns-3 : tie.Need-returns
 unfolding result_items number
 returns-3 c =
-    let w = c.before.before.before.before.before.before.before.before.before.put-wrapped in
+    let w = c.before.before.before.before.before.before.before.before.before.put_wrapped-w in
     let t = c.before.before.before.before.before.before.before.before.before.before.before.before.before.before.before in
     let p = t.before.before in
     let s = start (checked p) in
-    written (call s) (ds s) (ns s) (ts s) (lent s) (fine (checked p)).passed refl _ _ _ (data_size _ _ _) (measured p).own-size.ensures refl p.settle-wrapped.result
-    p.settle-wrapped.ensures t.enum_told.given.1
+    written (call s) (ds s) (ns s) (ts s) (lent s) (fine (checked p)).passed refl _ _ _ (data_size _ _ _) (measured p).own_size-shared.ensures refl p.settle_wrapped-verdict.result
+    p.settle_wrapped-verdict.ensures t.enum_told-1.given.1
     w.result.count _ _ _ _ w.result.cursor (sym w.ensures.1.1) w.ensures.0 w.ensures.1.0
 
-pub write-wrapped-spec : {M : Type 1} → statement M
-write-wrapped-spec =
+pub write_wrapped_spec : {M : Type 1} → statement M
+write_wrapped_spec =
     tie.close
     (tie.spec
     check-requires

@@ -12,54 +12,54 @@ use Rattle.wrap_lines.proofs.count_lines.Reads as reads
 use Rattle.wrap_lines.proofs.count_lines.Lts as lts
 use Rattle.line.proofs.next_line.Reads as next-line-reads
 
-abbrev invariant-loop : tie.invariant-loop
+abbrev invariant-loop : tie.invariant-loop-l
 invariant-loop t «data» width break-words count₀ bytes₀ at₀ count bytes at = laws.Counted width break-words «data» count bytes at
 
-abbrev decreases-loop : tie.decreases-loop
+abbrev decreases-loop : tie.decreases-loop-l
 decreases-loop t «data» width break-words count₀ bytes₀ at₀ count bytes at = length «data» - at
 
-loop-holds : tie.Need-loop-init invariant-loop decreases-loop
+loop-holds : tie.Need-loop-l-init invariant-loop decreases-loop
 loop-holds c =
     laws.count_start _ _ _
 
-next-line-requires : tie.Need-next-line-requires invariant-loop decreases-loop
+next-line-requires : tie.Need-next_line-l-requires invariant-loop decreases-loop
 next-line-requires c κs =
-    (c.before.before.requires.0, c.loop.invariant.within)
+    (c.before.before.requires.0, c.loop-l.invariant.within)
 
-add-count : tie.Need-overflow-add-count invariant-loop decreases-loop
+add-count : tie.Need-overflow_add-count invariant-loop decreases-loop
 add-count c =
     search rules
 
-sub-bytes : tie.Need-overflow-sub-bytes invariant-loop decreases-loop
+sub-bytes : tie.Need-overflow_sub-bytes invariant-loop decreases-loop
 sub-bytes c =
-    omega (arith, c.before.next-line.ensures.1.0.0)
+    omega (arith, c.before.next_line-l.ensures.1.0.0)
 
-add-bytes : tie.Need-overflow-add-bytes invariant-loop decreases-loop
+add-bytes : tie.Need-overflow_add-bytes invariant-loop decreases-loop
 add-bytes c =
-    omega (arith, c.before.next-line.ensures.1.0.0, c.before.next-line.ensures.1.0.1, c.before.before.loop.invariant.shown)
+    omega (arith, c.before.next_line-l.ensures.1.0.0, c.before.next_line-l.ensures.1.0.1, c.before.before.loop-l.invariant.shown)
 
-loop-less : tie.Need-loop-smaller invariant-loop decreases-loop
+loop-less : tie.Need-loop-l-smaller invariant-loop decreases-loop
 loop-less c =
-    let l = c.before.before.before.next-line in
-    omega (arith, l.ensures.1.0.2, (l.ensures.1.0.3 (not_false l.result.more c.if1.false)).0)
+    let l = c.before.before.before.next_line-l in
+    omega (arith, l.ensures.1.0.2, (l.ensures.1.0.3 c.if-not-l.false).0)
 
-loop-again : tie.Need-loop-preserved invariant-loop decreases-loop
+loop-again : tie.Need-loop-l-preserved invariant-loop decreases-loop
 loop-again c =
-    let l = c.before.before.before.next-line in
-    let m = not_false l.result.more c.if1.false in
+    let l = c.before.before.before.next_line-l in
+    let m = c.if-not-l.false in
     let p = l.ensures.1.0.3 m in
-    laws.count_on _ _ _ _ _ _ c.before.before.before.before.loop.invariant l.result l.ensures.0 m l.ensures.1.0.2 p.0 l.ensures.1.0.0 p.1
+    laws.count_on _ _ _ _ _ _ c.before.before.before.before.loop-l.invariant l.result l.ensures.0 m l.ensures.1.0.2 p.0 l.ensures.1.0.0 p.1
 
 returns : tie.Need-returns invariant-loop decreases-loop
 unfolding lines_of
 returns c =
-    let l = c.before.before.before.next-line in
-    let S = c.before.before.before.before.loop.invariant in
-    let k = laws.count_last _ _ _ _ _ _ S l.result l.ensures.0 (not-true l.result.more c.if1.true) in
+    let l = c.before.before.before.next_line-l in
+    let S = c.before.before.before.before.loop-l.invariant in
+    let k = laws.count_last _ _ _ _ _ _ S l.result l.ensures.0 c.if-not-l.true in
     (λ i. record { count = k.0 i; bytes = k.1 i }, (omega arith, omega (arith, S.few, S.within), omega (arith, S.shown, l.ensures.1.0.0, l.ensures.1.0.1)))
 
-pub count-lines-spec : {M : Type 1} → statement M
-count-lines-spec =
+pub count_lines_spec : {M : Type 1} → statement M
+count_lines_spec =
     tie.close
     (tie.spec
     invariant-loop

@@ -18,13 +18,13 @@ use Rattle.wrap_lines.proofs.lines_fit.Lts as lts
 use Rattle.wrap_lines.proofs.count_lines.Reads as count-lines-reads
 use Rattle.wrap_lines.proofs.numbers_of.Reads as numbers-of-reads
 
-add-numbers-of : tie.Need-overflow-add-numbers-of
+add-numbers-of : tie.Need-overflow_add-data
 add-numbers-of c = search rules
 
-numbers-of-requires : tie.Need-numbers-of-requires
+numbers-of-requires : tie.Need-numbers_of-requires
 numbers-of-requires c κs = search rules
 
-returns : tie.Need-returns
+returns : tie.Need-returns-then-numbers_of-room
 returns c =
     let a = c.before.before.before.args in
     sym (le-leb (length (line_numbers a.«data».now (wrap_lines_of a.width a.break-words a.«data».now))) a.room
@@ -33,24 +33,24 @@ returns c =
       numbers_length a.«data».now (wrap_lines_of a.width a.break-words a.«data».now),
       lines_few a.width a.break-words a.«data».now c.before.before.before.requires.1,
       c.before.numbers_of.ensures,
-      c.if1.true,
+      c.if-numbers_of-room.true,
     )))
 
-count-lines-requires : tie.Need-count-lines-requires
+count-lines-requires : tie.Need-count_lines-found-requires
 count-lines-requires c κs = search rules
 
-numbers-of-requires-2 : tie.Need-numbers-of-requires-2
+numbers-of-requires-2 : tie.Need-numbers_of-requires-2
 numbers-of-requires-2 c κs = search rules
 
-returns-2 : tie.Need-returns-2
+returns-2 : tie.Need-returns
 unfolding lines_of
 returns-2 c =
     let a = c.before.before.before.before.before.args in
-    let e = ap (λ (x : Lines). x.count * line_size) c.before.count-lines.ensures.0 in
-    ap (λ (n : ℕ). leb n a.room) (c.numbers-of2.ensures ∙ e ∙ sym (numbers_length a.«data».now (wrap_lines_of a.width a.break-words a.«data».now)))
+    let e = ap (λ (x : Lines). x.count * line_size) c.before.count_lines-found.ensures.0 in
+    ap (λ (n : ℕ). leb n a.room) (c.numbers_of-2.ensures ∙ e ∙ sym (numbers_length a.«data».now (wrap_lines_of a.width a.break-words a.«data».now)))
 
-pub lines-fit-spec : {M : Type 1} → statement M
-lines-fit-spec =
+pub lines_fit_spec : {M : Type 1} → statement M
+lines_fit_spec =
     tie.close
     (tie.spec
     add-numbers-of

@@ -9,36 +9,36 @@ use Rattle.wrap_lines.proofs.set_line.Tie as tie
 use Rattle.wrap_lines.proofs.set_line.Reads as reads
 use Rattle.wrap_lines.proofs.set_line.Lts as lts
 
-mul-lines : tie.Need-overflow-mul-lines
+mul-lines : tie.Need-offset_bounds-lines-k
 mul-lines c = search rules
 
-slice-write-lines : tie.Need-slice-write-lines
+slice-write-lines : tie.Need-bounds-lines-k
 slice-write-lines c = search rules
 
-add-lines : tie.Need-overflow-add-lines
+add-lines : tie.Need-overflow_add-lines
 add-lines c = search rules
 
-mul-lines-2 : tie.Need-overflow-mul-lines-2
+mul-lines-2 : tie.Need-offset_bounds-lines-k-2
 mul-lines-2 c = search rules
 
-slice-write-lines-2 : tie.Need-slice-write-lines-2
+slice-write-lines-2 : tie.Need-bounds-lines-k-2
 slice-write-lines-2 c =
     simp length-set (omega arith)
 
-add-lines-2 : tie.Need-overflow-add-lines-2
+add-lines-2 : tie.Need-overflow_add-lines-2
 add-lines-2 c = search rules
 
-mul-lines-3 : tie.Need-overflow-mul-lines-3
+mul-lines-3 : tie.Need-offset_bounds-lines-k-3
 mul-lines-3 c = search rules
 
-slice-write-lines-3 : tie.Need-slice-write-lines-3
+slice-write-lines-3 : tie.Need-bounds-lines-k-3
 slice-write-lines-3 c =
     simp (length-set, length-set) (omega arith)
 
-add-result : tie.Need-overflow-add-result
+add-result : tie.Need-overflow_add-result
 add-result c = search rules
 
-same_length : tie.Need-same-length
+same_length : tie.Need-shape_of-lines
 same_length c =
     simp length-set
 
@@ -46,8 +46,8 @@ returns : tie.Need-returns
 returns c =
     (refl, laws.three_stores _ _ _ _ _ c.requires)
 
-pub set-line-spec : {M : Type 1} → statement M
-set-line-spec =
+pub set_line_spec : {M : Type 1} → statement M
+set_line_spec =
     tie.close
     (tie.spec
     mul-lines

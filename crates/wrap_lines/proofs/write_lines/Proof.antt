@@ -12,76 +12,76 @@ use Rattle.wrap_lines.proofs.write_lines.Lts as lts
 use Rattle.line.proofs.next_line.Reads as next-line-reads
 use Rattle.wrap_lines.proofs.set_line.Reads as set-line-reads
 
-abbrev invariant-loop : tie.invariant-loop
+abbrev invariant-loop : tie.invariant-loop-l
 invariant-loop t «data» width break-words lines₀ k₀ at₀ lines k at = laws.Written width break-words «data» lines₀ lines k at
 
-abbrev decreases-loop : tie.decreases-loop
+abbrev decreases-loop : tie.decreases-loop-l
 decreases-loop t «data» width break-words lines₀ k₀ at₀ lines k at = length «data» - at
 
 -- where a line is found, and where it is listed
-abbrev found : tie.After-struct-known invariant-loop decreases-loop → tie.After-next-line invariant-loop decreases-loop
+abbrev found : tie.After-struct_known-1 invariant-loop decreases-loop → tie.After-next_line-l invariant-loop decreases-loop
 found c = c.before.before
 
-abbrev set : tie.After-struct-known2 invariant-loop decreases-loop → tie.After-set-line invariant-loop decreases-loop
+abbrev set : tie.After-struct_known-in-loop-l-1 invariant-loop decreases-loop → tie.After-set_line-k invariant-loop decreases-loop
 set c = c.before.before.before
 
-loop-holds : tie.Need-loop-init invariant-loop decreases-loop
+loop-holds : tie.Need-loop-l-init invariant-loop decreases-loop
 loop-holds c =
     laws.start _ _ _ _
 
-next-line-requires : tie.Need-next-line-requires invariant-loop decreases-loop
+next-line-requires : tie.Need-next_line-l-requires invariant-loop decreases-loop
 next-line-requires c κs =
-    (c.before.before.before.requires.0, c.loop.invariant.within)
+    (c.before.before.before.requires.0, c.loop-l.invariant.within)
 
-cast-set-line : tie.Need-overflow-cast-set-line invariant-loop decreases-loop
+cast-set-line : tie.Need-overflow_cast-at invariant-loop decreases-loop
 cast-set-line c =
-    omega (arith, c.before.before.loop.invariant.within)
+    omega (arith, c.before.before.loop-l.invariant.within)
 
-cast-set-line-2 : tie.Need-overflow-cast-set-line-2 invariant-loop decreases-loop
+cast-set-line-2 : tie.Need-overflow_cast-end invariant-loop decreases-loop
 cast-set-line-2 c =
-    omega (arith, c.before.next-line.ensures.1.0.1)
+    omega (arith, c.before.next_line-l.ensures.1.0.1)
 
-cast-set-line-3 : tie.Need-overflow-cast-set-line-3 invariant-loop decreases-loop
+cast-set-line-3 : tie.Need-overflow_cast-l invariant-loop decreases-loop
 cast-set-line-3 c =
-    let e = (found c).next-line.ensures in
+    let e = (found c).next_line-l.ensures in
     omega (arith, e.1.0.1, e.1.1.1)
 
-set-line-requires : tie.Need-set-line-requires invariant-loop decreases-loop
+set-line-requires : tie.Need-set_line-k-requires invariant-loop decreases-loop
 set-line-requires c κs =
     let f = found c in
-    let l = f.next-line in
-    laws.room _ _ _ _ _ _ _ f.before.loop.inv l.result l.ensures.0 l.ensures.1.1.0 f.before.before.before.before.pre.1.1
+    let l = f.next_line-l in
+    laws.room _ _ _ _ _ _ _ f.before.loop-l.invariant l.result l.ensures.0 l.ensures.1.1.0 f.before.before.before.before.requires.1.1
 
-loop-less : tie.Need-loop-smaller invariant-loop decreases-loop
+loop-less : tie.Need-loop-l-smaller invariant-loop decreases-loop
 loop-less c =
-    let l = (found (set c.before).before).next-line in
-    omega (arith, l.ensures.1.0.2, (l.ensures.1.0.3 (not_false l.result.more c.if1.false)).0)
+    let l = (found (set c.before).before).next_line-l in
+    omega (arith, l.ensures.1.0.2, (l.ensures.1.0.3 c.if-not-l.false).0)
 
-loop-again : tie.Need-loop-preserved invariant-loop decreases-loop
+loop-again : tie.Need-loop-l-preserved invariant-loop decreases-loop
 loop-again c =
     let a = set c.before in
     let f = found a.before in
-    let l = f.next-line in
-    let s = a.set_line in
-    laws.next _ _ _ _ _ _ _ f.before.loop.inv l.result l.ensures.0 l.ensures.1.1.0 _ _ s.ensures.0 s.ensures.1 s.kept.0 (not_false l.result.more c.if1.false)
+    let l = f.next_line-l in
+    let s = a.set_line-k in
+    laws.next _ _ _ _ _ _ _ f.before.loop-l.invariant l.result l.ensures.0 l.ensures.1.1.0 _ _ s.ensures.0 s.ensures.1 s.kept.0 c.if-not-l.false
     l.ensures.1.0.2
 
-same_length : tie.Need-same-length invariant-loop decreases-loop
+same_length : tie.Need-shape_of-lines invariant-loop decreases-loop
 same_length c =
     let a = set c.before in
-    a.set_line.kept.0 ∙ (found a.before).before.loop.inv.filled.long
+    a.set_line-k.kept.0 ∙ (found a.before).before.loop-l.invariant.filled.long
 
 returns : tie.Need-returns invariant-loop decreases-loop
 returns c =
     let a = set c.before in
     let f = found a.before in
-    let S = f.before.loop.inv in
-    let l = f.next-line in
-    let s = a.set_line in
-    laws.last _ _ _ _ _ _ _ S l.result l.ensures.0 l.ensures.1.1.0 _ s.result s.ensures.0 s.ensures.1 s.kept.0 (not-true l.result.more c.if1.true)
+    let S = f.before.loop-l.invariant in
+    let l = f.next_line-l in
+    let s = a.set_line-k in
+    laws.last _ _ _ _ _ _ _ S l.result l.ensures.0 l.ensures.1.1.0 _ s.result s.ensures.0 s.ensures.1 s.kept.0 c.if-not-l.true
 
-pub write-lines-spec : {M : Type 1} → statement M
-write-lines-spec =
+pub write_lines_spec : {M : Type 1} → statement M
+write_lines_spec =
     tie.close
     (tie.spec
     invariant-loop

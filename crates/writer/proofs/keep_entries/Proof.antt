@@ -119,18 +119,18 @@ module _ (ds ns ts : List ℕ) (n : ℕ) (c₀ : Cursor) (od₀ oe₀ ot₀ od o
     unfolding out
     run-kept od' c₂ w = added_held (front (n - c₀.at) (left ds ns ts c₀)) (part c₀.at n ds) (out od₀ oe₀ ot₀ c₀) (out od' oe ot c₂) w (data_left ds ns ts c₀ n)
 
-abbrev invariant-loop : tie.invariant-loop
+abbrev invariant-loop : tie.invariant-loop-p
 invariant-loop bytes₀ numbers₀ texts₀ content entries text n c₀ p₀ bytes numbers texts c p =
     State same content entries text n (out bytes₀ numbers₀ texts₀ c₀) c₀ (out bytes numbers texts c) c p
 
-abbrev decreases-loop : tie.decreases-loop
+abbrev decreases-loop : tie.decreases-loop-p
 decreases-loop bytes₀ numbers₀ texts₀ content entries text n c₀ p₀ bytes numbers texts c p =
     length entries - c.k
 
-place-at-requires : tie.Need-place-at-requires invariant-loop decreases-loop
+place-at-requires : tie.Need-place_at-p-requires invariant-loop decreases-loop
 place-at-requires c κs = search rules
 
-loop-holds : tie.Need-loop-init invariant-loop decreases-loop
+loop-holds : tie.Need-loop-p-init invariant-loop decreases-loop
 loop-holds c =
     record {
       done = [];
@@ -140,23 +140,23 @@ loop-holds c =
       ready = c.before.before.before.before.before.before.before.requires.0;
       here =
           c.before.before.before.before.before.before.before.requires.1.0.0;
-      next = c.place_at.ensures;
+      next = c.place_at-p.ensures;
     }
 
-entry-at-requires : tie.Need-entry-at-requires invariant-loop decreases-loop
+entry-at-requires : tie.Need-entry_at-e-requires invariant-loop decreases-loop
 entry-at-requires c κs =
-    entire _ _ _ _ _ _ _ _ _ _ _ _ _ c.before.loop.invariant c.before.before.before.before.before.before.before.before.before.requires.1.0.1
-    c.before.before.before.before.before.before.before.before.before.requires.1.1 c.loop-test.true
+    entire _ _ _ _ _ _ _ _ _ _ _ _ _ c.before.loop-p.invariant c.before.before.before.before.before.before.before.before.before.requires.1.0.1
+    c.before.before.before.before.before.before.before.before.before.requires.1.1 c.loop-p-test.true
 
-put-bytes-requires : tie.Need-put-bytes-requires invariant-loop decreases-loop
+put-bytes-requires : tie.Need-put_bytes-c-requires invariant-loop decreases-loop
 put-bytes-requires c κs =
     let pre = c.before.before.before.before.before.before.before.before.before.before.before.requires in
-    let more = c.before.before.loop-test.true in
-    let f = fine _ _ _ _ _ _ _ _ _ _ _ _ _ c.before.before.before.loop.invariant pre.1.0.1 pre.1.1 more _ c.before.entry_at.ensures in
-    let r = roomy _ _ _ _ _ _ _ _ _ _ _ _ _ c.before.before.before.loop.invariant pre.1.0.1 pre.1.1 more _ c.before.entry_at.ensures in
+    let more = c.before.before.loop-p-test.true in
+    let f = fine _ _ _ _ _ _ _ _ _ _ _ _ _ c.before.before.before.loop-p.invariant pre.1.0.1 pre.1.1 more _ c.before.entry_at-e.ensures in
+    let r = roomy _ _ _ _ _ _ _ _ _ _ _ _ _ c.before.before.before.loop-p.invariant pre.1.0.1 pre.1.1 more _ c.before.entry_at-e.ensures in
     (omega (arith, f.0, f.3), omega (arith, more, pre.1.0.1), r.data_bytes)
 
-put-entry-requires : tie.Need-put-entry-requires invariant-loop decreases-loop
+put-entry-requires : tie.Need-put_entry-c-requires invariant-loop decreases-loop
 put-entry-requires c κs =
     let at-put-bytes = c.before.before.before.before in
     let at-entry-at = at-put-bytes.before.before in
@@ -164,12 +164,12 @@ put-entry-requires c κs =
     let at-loop = at-loop-test.before in
     let start = at-loop.before.before.before.before.before.before.before.before in
     let pre = start.requires in
-    asked _ _ _ _ _ _ _ _ _ _ _ _ _ at-loop.loop.invariant pre.1.0.1 pre.1.1
-    at-loop-test.loop-test.true _ at-entry-at.entry_at.ensures _
-    at-put-bytes.put-bytes.ensures.0
-    (omega (arith, start.well-formed))
+    asked _ _ _ _ _ _ _ _ _ _ _ _ _ at-loop.loop-p.invariant pre.1.0.1 pre.1.1
+    at-loop-test.loop-p-test.true _ at-entry-at.entry_at-e.ensures _
+    at-put-bytes.put_bytes-c.ensures.0
+    (omega (arith, start.well_formed))
 
-place-at-requires-2 : tie.Need-place-at-requires-2 invariant-loop decreases-loop
+place-at-requires-2 : tie.Need-place_at-p-requires-in-loop-p invariant-loop decreases-loop
 place-at-requires-2 c κs =
     let at-put-entry = c.before.before.before.before in
     let at-put-bytes = at-put-entry.before.before.before.before.before in
@@ -177,11 +177,11 @@ place-at-requires-2 c κs =
     let at-loop = at-loop-test.before in
     let start = at-loop.before.before.before.before.before.before.before.before in
     let pre = start.requires in
-    let w = entire _ _ _ _ _ _ _ _ _ _ _ _ _ at-loop.loop.invariant pre.1.0.1
-    pre.1.1 at-loop-test.loop-test.true in
-    omega (arith, w, at-put-bytes.put-bytes.ensures.0.1, at-put-entry.put-entry.ensures.0.1)
+    let w = entire _ _ _ _ _ _ _ _ _ _ _ _ _ at-loop.loop-p.invariant pre.1.0.1
+    pre.1.1 at-loop-test.loop-p-test.true in
+    omega (arith, w, at-put-bytes.put_bytes-c.ensures.0.1, at-put-entry.put_entry-c.ensures.0.1)
 
-loop-less : tie.Need-loop-smaller invariant-loop decreases-loop
+loop-less : tie.Need-loop-p-smaller invariant-loop decreases-loop
 loop-less c =
     let at-put-entry = c.before.before.before.before.before in
     let at-put-bytes = at-put-entry.before.before.before.before.before in
@@ -189,11 +189,11 @@ loop-less c =
     let at-loop = at-loop-test.before in
     let start = at-loop.before.before.before.before.before.before.before.before in
     let pre = start.requires in
-    let w = entire _ _ _ _ _ _ _ _ _ _ _ _ _ at-loop.loop.invariant
-    pre.1.0.1 pre.1.1 at-loop-test.loop-test.true in
-    omega (arith, w, at-put-bytes.put-bytes.ensures.0.1, at-put-entry.put-entry.ensures.0.1)
+    let w = entire _ _ _ _ _ _ _ _ _ _ _ _ _ at-loop.loop-p.invariant
+    pre.1.0.1 pre.1.1 at-loop-test.loop-p-test.true in
+    omega (arith, w, at-put-bytes.put_bytes-c.ensures.0.1, at-put-entry.put_entry-c.ensures.0.1)
 
-loop-again : tie.Need-loop-preserved invariant-loop decreases-loop
+loop-again : tie.Need-loop-p-preserved invariant-loop decreases-loop
 loop-again c =
     let at-put-entry = c.before.before.before.before.before in
     let at-put-bytes = at-put-entry.before.before.before.before.before in
@@ -202,48 +202,48 @@ loop-again c =
     let at-loop = at-loop-test.before in
     let start = at-loop.before.before.before.before.before.before.before.before in
     let pre = start.requires in
-    let b = at-put-bytes.put-bytes.ensures in
-    let e = at-put-entry.put-entry.ensures in
-    turned _ _ _ _ _ _ _ _ _ _ _ _ _ at-loop.loop.invariant pre.1.0.1
-    pre.1.1 at-loop-test.loop-test.true _
-    at-entry-at.entry_at.ensures _ _ _ _ _ _ b.1.0 b.0 e.0 e.1.0 e.1.1
-    c.place-at2.ensures
+    let b = at-put-bytes.put_bytes-c.ensures in
+    let e = at-put-entry.put_entry-c.ensures in
+    turned _ _ _ _ _ _ _ _ _ _ _ _ _ at-loop.loop-p.invariant pre.1.0.1
+    pre.1.1 at-loop-test.loop-p-test.true _
+    at-entry-at.entry_at-e.ensures _ _ _ _ _ _ b.1.0 b.0 e.0 e.1.0 e.1.1
+    c.place_at-p-in-loop-p.ensures
 
-put-bytes-requires-2 : tie.Need-put-bytes-requires-2 invariant-loop decreases-loop
+put-bytes-requires-2 : tie.Need-put_bytes-c-requires-2 invariant-loop decreases-loop
 put-bytes-requires-2 c κs =
-    let s = c.before.before.loop.invariant in
+    let s = c.before.before.loop-p.invariant in
     let pre = c.before.before.before.before.before.before.before.before.before.before.requires in
-    (s.here, pre.1.0.1, last-room _ _ _ _ _ _ _ _ _ _ _ _ _ s pre.1.0.1 pre.1.1 c.before.loop-test.false)
+    (s.here, pre.1.0.1, last-room _ _ _ _ _ _ _ _ _ _ _ _ _ s pre.1.0.1 pre.1.1 c.before.loop-p-test.false)
 
-same_length : tie.Need-same-length invariant-loop decreases-loop
+same_length : tie.Need-shape_of-bytes invariant-loop decreases-loop
 same_length c =
-    c.before.before.put-bytes2.auto.0 ∙ (now-long _ _ _ _ _ _ _ _ _ _ _ _ _ c.before.before.before.before.before.loop.invariant
+    c.before.before.put_bytes-c-2.auto.0 ∙ (now-long _ _ _ _ _ _ _ _ _ _ _ _ _ c.before.before.before.before.before.loop-p.invariant
     c.before.before.before.before.before.before.before.before.before.before.before.before.before.requires.1.0.1
     c.before.before.before.before.before.before.before.before.before.before.before.before.before.requires.1.1).0
 
-same-length-2 : tie.Need-same-length-2 invariant-loop decreases-loop
+same-length-2 : tie.Need-shape_of-numbers invariant-loop decreases-loop
 same-length-2 c =
-    (now-long _ _ _ _ _ _ _ _ _ _ _ _ _ c.before.before.before.before.before.loop.invariant
+    (now-long _ _ _ _ _ _ _ _ _ _ _ _ _ c.before.before.before.before.before.loop-p.invariant
     c.before.before.before.before.before.before.before.before.before.before.before.before.before.requires.1.0.1
     c.before.before.before.before.before.before.before.before.before.before.before.before.before.requires.1.1).1
 
-same-length-3 : tie.Need-same-length-3 invariant-loop decreases-loop
+same-length-3 : tie.Need-shape_of-texts invariant-loop decreases-loop
 same-length-3 c =
-    (now-long _ _ _ _ _ _ _ _ _ _ _ _ _ c.before.before.before.before.before.loop.invariant
+    (now-long _ _ _ _ _ _ _ _ _ _ _ _ _ c.before.before.before.before.before.loop-p.invariant
     c.before.before.before.before.before.before.before.before.before.before.before.before.before.requires.1.0.1
     c.before.before.before.before.before.before.before.before.before.before.before.before.before.requires.1.1).2
 
 returns : tie.Need-returns invariant-loop decreases-loop
 returns c =
     let pre = c.before.before.before.before.before.before.before.before.before.before.before.before.before.requires in
-    let b = c.before.before.put-bytes2.ensures in
-    let s = c.before.before.before.before.before.loop.invariant in
-    let past = c.before.before.before.before.loop-test.false in
+    let b = c.before.before.put_bytes-c-2.ensures in
+    let s = c.before.before.before.before.before.loop-p.invariant in
+    let past = c.before.before.before.before.loop-p-test.false in
     let e = ended _ _ _ _ _ _ _ _ _ _ _ _ _ s pre.1.0.1 pre.1.1 past _ _ _ b.1.0 b.0 (refl, refl, refl, refl, refl) in
     (e.0, (e.1, (e.2, refl, run-kept _ _ _ _ _ _ _ _ _ _ _ _ _ s pre.1.0.1 pre.1.1 past _ _ e.0)))
 
-pub keep-entries-spec : {M : Type 1} → statement M
-keep-entries-spec =
+pub keep_entries_spec : {M : Type 1} → statement M
+keep_entries_spec =
     tie.close
     (tie.spec
     invariant-loop

@@ -10,31 +10,31 @@ use Rattle.writer.proofs.place_at.Tie as tie
 use Rattle.writer.proofs.place_at.Reads as reads
 use Rattle.writer.proofs.place_at.Lts as lts
 
-sub-if1 : tie.Need-overflow-sub-if1
+sub-if1 : tie.Need-overflow_sub-entries
 sub-if1 c = search rules
 
-returns : tie.Need-returns
+returns : tie.Need-returns-then-entries-k-lt4
 unfolding place_for
 returns c =
     let a = c.before.args in
-    let z = entries_few (drop a.k a.entries.now) (omega (arith, length-drop a.k a.entries.now, c.if1.true)) in rw z
+    let z = entries_few (drop a.k a.entries.now) (omega (arith, length-drop a.k a.entries.now, c.if-entries-k-lt4.true)) in rw z
 
-mul-result : tie.Need-overflow-mul-result
+mul-result : tie.Need-offset_bounds-entries-k
 mul-result c = search rules
 
-shared-slice-read-result : tie.Need-shared-slice-read-result
+shared-slice-read-result : tie.Need-bounds-entries-k
 shared-slice-read-result c = search rules
 
-cast-result : tie.Need-overflow-cast-result
+cast-result : tie.Need-overflow_cast-result
 cast-result c =
-    omega (arith, c.shared-slice-known.given c.before.before.args.k)
+    omega (arith, c.shared_slice_known-1.given c.before.before.args.k)
 
-returns-2 : tie.Need-returns-2
+returns-2 : tie.Need-returns
 unfolding place_for
 returns-2 c =
     let a = c.before.before.args in
-    let z = entries_next a.entries.now a.k (omega (arith, c.before.if1.false, c.before.before.requires)) in rw z
+    let z = entries_next a.entries.now a.k (omega (arith, c.before.if-entries-k-lt4.false, c.before.before.requires)) in rw z
 
-pub place-at-spec : {M : Type 1} → statement M
-place-at-spec =
+pub place_at_spec : {M : Type 1} → statement M
+place_at_spec =
     tie.close (tie.spec sub-if1 returns mul-result shared-slice-read-result cast-result returns-2)

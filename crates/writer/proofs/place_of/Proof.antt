@@ -10,30 +10,30 @@ use Rattle.writer.proofs.place_of.Lts as lts
 use Rattle.share.proofs.place_in_result.Reads as place-in-result-reads
 
 -- src/lib.rt:67:9
-place-in-result-requires : tie.Need-place-in-result-requires
+place-in-result-requires : tie.Need-place_in_result-requires
 place-in-result-requires c κs = search rules
 
 -- src/lib.rt:67:9
-returns : tie.Need-returns
+returns : tie.Need-returns-then-kind-eq0
 returns c =
     let a = c.before.before.before.before.before.args in
-    place_label_lem a.part.now a.texts.now (entries_of a.numbers.now) a.kind _ _ c.before.if1.true c.place-in-result.ensures.0 c.place-in-result.ensures.1
+    place_label_lem a.part.now a.texts.now (entries_of a.numbers.now) a.kind _ _ c.before.if-kind-eq0.true c.place_in_result.ensures.0 c.place_in_result.ensures.1
 
 -- src/lib.rt:70:9
-returns-2 : tie.Need-returns-2
+returns-2 : tie.Need-returns-then-kind-eq1
 returns-2 c =
     let a = c.before.before.before.before.before.args in
-    place-pop a.part.now a.texts.now (entries_of a.numbers.now) a.kind c.if2.true
+    place-pop a.part.now a.texts.now (entries_of a.numbers.now) a.kind c.if-kind-eq1.true
 
 -- src/lib.rt:76:16
-cast-t7 : tie.Need-overflow-cast-t7
+cast-t7 : tie.Need-overflow_cast-result
 cast-t7 c = search rules
 
 -- src/lib.rt:62:1
-returns-3 : tie.Need-returns-3
+returns-3 : tie.Need-returns
 returns-3 c =
     let a = c.before.before.before.before.before.args in
-    place-raw a.part.now a.texts.now (entries_of a.numbers.now) a.kind c.before.if1.false c.if2.false
+    place-raw a.part.now a.texts.now (entries_of a.numbers.now) a.kind c.before.if-kind-eq0.false c.if-kind-eq1.false
 
-pub place-of-spec : {M : Type 1} → statement M
-place-of-spec = tie.close (tie.spec place-in-result-requires returns returns-2 cast-t7 returns-3)
+pub place_of_spec : {M : Type 1} → statement M
+place_of_spec = tie.close (tie.spec place-in-result-requires returns returns-2 cast-t7 returns-3)

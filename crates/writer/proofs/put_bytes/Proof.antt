@@ -10,19 +10,19 @@ use Rattle.writer.proofs.put_bytes.Reads as reads
 use Rattle.writer.proofs.put_bytes.Lts as lts
 use Rattle.buffer.proofs.put.Reads as put_reads
 
-put-requires : tie.Need-put-requires
+put-requires : tie.Need-put-d-requires
 put-requires c κs = search rules
 
-same_length : tie.Need-same-length
+same_length : tie.Need-shape_of-bytes
 same_length c = search rules
 
 returns : tie.Need-returns
 returns c =
-    let e = c.before.before.put.ensures in
+    let e = c.before.before.put-d.ensures in
     ((refl, refl, e.0, refl, refl), (e.1, e.2))
 
-pub put-bytes-spec : {M : Type 1} → statement M
-put-bytes-spec = tie.close (tie.spec put-requires same_length returns)
+pub put_bytes_spec : {M : Type 1} → statement M
+put_bytes_spec = tie.close (tie.spec put-requires same_length returns)
 
 -- the run goes by one `put`
 pub put-bytes-lends-on : LendsOn code.function [] 0 ("buffer::put" ∷ [])

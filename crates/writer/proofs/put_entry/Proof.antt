@@ -17,104 +17,104 @@ use Rattle.writer.proofs.place_of.Reads as place-of-reads
 use Rattle.share.proofs.set_entry.Reads as set-entry-reads
 
 -- src/lib.rt:107:17
-cast-start : tie.Need-overflow-cast-start
+cast-start : tie.Need-overflow_cast-start
 cast-start c = search rules
 
 -- src/lib.rt:108:23
-cast-end : tie.Need-overflow-cast-end
+cast-end : tie.Need-overflow_cast-end
 cast-end c = search rules
 
 -- src/lib.rt:108:15
-add-end : tie.Need-overflow-add-end
+add-end : tie.Need-overflow_add-end
 add-end c = search rules
 
 -- src/lib.rt:111:30
-sub-place-of : tie.Need-overflow-sub-place-of
+sub-place-of : tie.Need-slice_bounds-place_of-count
 sub-place-of c = search rules
 
 -- src/lib.rt:111:30
-part-place-of-start : tie.Need-slice-bounds-place-of-start
+part-place-of-start : tie.Need-slice_bounds-place_of-start
 part-place-of-start c = search rules
 
 -- src/lib.rt:111:30
-part-place-of-end : tie.Need-slice-bounds-place-of-end
+part-place-of-end : tie.Need-slice_bounds-place_of-end
 part-place-of-end c = search rules
 
 -- src/lib.rt:111:46
-sub-place-of-2 : tie.Need-overflow-sub-place-of-2
+sub-place-of-2 : tie.Need-slice_bounds-place_of-count-2
 sub-place-of-2 c = search rules
 
 -- src/lib.rt:111:46
-part-place-of-start-2 : tie.Need-slice-bounds-place-of-start-2
+part-place-of-start-2 : tie.Need-slice_bounds-place_of-start-2
 part-place-of-start-2 c = search rules
 
 -- src/lib.rt:111:46
-part-place-of-end-2 : tie.Need-slice-bounds-place-of-end-2
+part-place-of-end-2 : tie.Need-slice_bounds-place_of-end-2
 part-place-of-end-2 c = search rules
 
 -- src/lib.rt:111:63
-sub-place-of-3 : tie.Need-overflow-sub-place-of-3
+sub-place-of-3 : tie.Need-slice_bounds-place_of-count-3
 sub-place-of-3 c = search rules
 
 -- src/lib.rt:111:63
-part-place-of-start-3 : tie.Need-slice-bounds-place-of-start-3
+part-place-of-start-3 : tie.Need-slice_bounds-place_of-start-3
 part-place-of-start-3 c = search rules
 
 -- src/lib.rt:111:63
-part-place-of-end-3 : tie.Need-slice-bounds-place-of-end-3
+part-place-of-end-3 : tie.Need-slice_bounds-place_of-end-3
 part-place-of-end-3 c = search rules
 
 -- src/lib.rt:111:9
-place-of-requires : tie.Need-place-of-requires
+place-of-requires : tie.Need-place_of-p-requires
 place-of-requires c κs =
     (search rules, lent_placed c.before.before.before.before.before.before.before.before.before.before.args.c.e c.before.before.before.before.before.before.before.before.before.before.args.numbers.now c.before.before.before.before.before.before.before.before.before.before.requires.1.1.1.1)
 
 -- src/lib.rt:116:23
-cast-t27 : tie.Need-overflow-cast-t27
+cast-t27 : tie.Need-overflow_cast-c
 cast-t27 c = search rules
 
 -- src/lib.rt:112:5
-set-entry-requires : tie.Need-set-entry-requires
+set-entry-requires : tie.Need-set_entry-requires
 set-entry-requires c κs = search rules
 
 -- src/lib.rt:122:42
-add-put : tie.Need-overflow-add-put
+add-put : tie.Need-overflow_add-start
 add-put c =
     let pre = c.before.before.before.before.before.before.before.before.before.before.before.before.before.before.before.before.before.before.requires in
     let a = c.before.before.before.before.before.before.before.before.before.before.before.before.before.before.before.before.before.before.args in
-    let q = c.before.before.before.before.before.before.before.place_of.ensures in
-    omega (arith, add_short a.c.d _ _ a.c a.text.now a.numbers.now a.texts.now a.e pre.0 pre.1.0 q.0 q.1, pre.1.0, c.before.before.before.before.before.before.before.before.before.before.before.before.before.before.before.before.before.before.well-formed)
+    let q = c.before.before.before.before.before.before.before.place_of-p.ensures in
+    omega (arith, add_short a.c.d _ _ a.c a.text.now a.numbers-1.now a.texts-1.now a.e pre.0 pre.1.0 q.0 q.1, pre.1.0, c.before.before.before.before.before.before.before.before.before.before.before.before.before.before.before.before.before.before.well_formed)
 
 -- src/lib.rt:122:9
-put-requires : tie.Need-put-requires
+put-requires : tie.Need-put-t-requires
 put-requires c κs =
     let pre = c.before.before.before.before.before.before.before.before.before.before.before.before.before.before.before.before.before.before.requires in
     let a = c.before.before.before.before.before.before.before.before.before.before.before.before.before.before.before.before.before.before.args in
-    let q = c.before.before.before.before.before.before.before.place_of.ensures in
-    let s = add_short a.c.d _ _ a.c a.text.now a.numbers.now a.texts.now a.e pre.0 pre.1.0 q.0 q.1 in
-    let m = add-length a.c.d _ _ a.c a.text.now a.numbers.now a.texts.now a.e pre.0 pre.1.0 q.0 q.1 in
+    let q = c.before.before.before.before.before.before.before.place_of-p.ensures in
+    let s = add_short a.c.d _ _ a.c a.text.now a.numbers-1.now a.texts-1.now a.e pre.0 pre.1.0 q.0 q.1 in
+    let m = add-length a.c.d _ _ a.c a.text.now a.numbers-1.now a.texts-1.now a.e pre.0 pre.1.0 q.0 q.1 in
     (omega arith, omega (arith, s, pre.1.0), omega (arith, s, m, pre.1.1.0.1))
 
 -- src/lib.rt:124:13
-cast-t17 : tie.Need-overflow-cast-t17
+cast-t17 : tie.Need-overflow_cast-result
 cast-t17 c = search rules
 
 -- src/lib.rt:125:12
-add-t12 : tie.Need-overflow-add-t12
+add-t12 : tie.Need-overflow_add-result
 add-t12 c =
     omega (arith, c.before.before.before.before.before.before.before.before.before.before.before.before.before.before.before.before.before.before.before.before.before.before.before.requires)
 
 -- src/lib.rt:127:12
-add-t21 : tie.Need-overflow-add-t21
+add-t21 : tie.Need-overflow_add-result-2
 add-t21 c =
-    omega (arith, c.before.before.before.before.before.before.before.before.before.before.before.before.before.before.before.before.before.before.before.before.before.before.before.before.requires, c.before.before.before.before.before.before.before.before.before.before.before.before.before.before.before.before.before.before.before.before.before.before.before.before.well-formed)
+    omega (arith, c.before.before.before.before.before.before.before.before.before.before.before.before.before.before.before.before.before.before.before.before.before.before.before.before.requires, c.before.before.before.before.before.before.before.before.before.before.before.before.before.before.before.before.before.before.before.before.before.before.before.before.well_formed)
 
 -- src/lib.rt:98:1
-same_length : tie.Need-same-length
+same_length : tie.Need-shape_of-numbers
 same_length c = search rules
 
 -- src/lib.rt:98:1
-same-length-2 : tie.Need-same-length-2
+same-length-2 : tie.Need-shape_of-texts
 same-length-2 c = search rules
 
 -- src/lib.rt:98:1
@@ -122,18 +122,18 @@ returns : tie.Need-returns
 returns c =
     let pre = c.before.before.before.before.before.before.before.before.before.before.before.before.before.before.before.before.before.before.before.before.before.before.before.before.requires in
     let a = c.before.before.before.before.before.before.before.before.before.before.before.before.before.before.before.before.before.before.before.before.before.before.before.before.args in
-    let q = c.before.before.before.before.before.before.before.before.before.before.before.before.before.place_of.ensures in
-    let p = c.before.before.before.before.before.put.ensures in
-    let m = add-length a.c.d _ _ a.c a.text.now a.numbers.now a.texts.now a.e pre.0 pre.1.0 q.0 q.1 in (
+    let q = c.before.before.before.before.before.before.before.before.before.before.before.before.before.place_of-p.ensures in
+    let p = c.before.before.before.before.before.put-t.ensures in
+    let m = add-length a.c.d _ _ a.c a.text.now a.numbers-1.now a.texts-1.now a.e pre.0 pre.1.0 q.0 q.1 in (
       (refl, refl, refl, refl, omega (arith, p.0, m)),
       (
-        c.before.before.before.before.before.before.before.before.before.before.set-entry.ensures ∙ ap (λ (l : List ℕ). over_at a.c.e l a.numbers.now) (entry-written a.c.d _ _ a.c a.text.now a.numbers.now a.texts.now a.e pre.0 pre.1.0 q.0 q.1),
-        p.1 ∙ ap (λ (l : List ℕ). over_at a.c.t l a.texts.now) (text_written a.c.d _ _ a.c a.text.now a.numbers.now a.texts.now a.e pre.0 pre.1.0 q.0 q.1),
+        c.before.before.before.before.before.before.before.before.before.before.set_entry.ensures ∙ ap (λ (l : List ℕ). over_at a.c.e l a.numbers-1.now) (entry-written a.c.d _ _ a.c a.text.now a.numbers-1.now a.texts-1.now a.e pre.0 pre.1.0 q.0 q.1),
+        p.1 ∙ ap (λ (l : List ℕ). over_at a.c.t l a.texts-1.now) (text_written a.c.d _ _ a.c a.text.now a.numbers-1.now a.texts-1.now a.e pre.0 pre.1.0 q.0 q.1),
       ),
     )
 
-pub put-entry-spec : {M : Type 1} → statement M
-put-entry-spec =
+pub put_entry_spec : {M : Type 1} → statement M
+put_entry_spec =
     tie.close
     (tie.spec
     cast-start

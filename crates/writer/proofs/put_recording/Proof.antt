@@ -17,7 +17,7 @@ use Rattle.writer.proofs.put_recording.Reads as reads
 use Rattle.writer.proofs.put_recording.Lts as lts
 use Rattle.writer.proofs.keep.Reads as keep-reads
 
-keep-requires : tie.Need-keep-requires
+keep-requires : tie.Need-keep-r-requires
 unfolding out
 keep-requires c κs =
     let s = c.before.before.before.before.before.before.before.before.before.args in
@@ -27,13 +27,13 @@ keep-requires c κs =
       ((omega arith, omega arith), rw e c.before.before.before.before.before.before.before.before.before.requires.1),
     )
 
-same_length : tie.Need-same-length
+same_length : tie.Need-shape_of-bytes
 same_length c = search rules
 
-same-length-2 : tie.Need-same-length-2
+same-length-2 : tie.Need-shape_of-numbers
 same-length-2 c = search rules
 
-same-length-3 : tie.Need-same-length-3
+same-length-3 : tie.Need-shape_of-texts
 same-length-3 c = search rules
 
 returns : tie.Need-returns
@@ -45,12 +45,12 @@ returns c =
     let e = front_start s.content.now s.entries.now s.text.now (record { at = 0; k = 0; d = s.c.d; e = s.c.e; t = s.c.t }) refl refl (length s.content.now)
     ∙ keep_all s.content.now s.entries.now s.text.now in
     let r = recording s.content.now s.entries.now s.text.now in
-    let o = out s.bytes.now s.numbers.now s.texts.now s.c in
-    let w = at-keep.keep.ensures.0 ∙ ap (λ (x : List Item). add x o) e in
+    let o = out s.bytes-1.now s.numbers-1.now s.texts-1.now s.c in
+    let w = at-keep.keep-r.ensures.0 ∙ ap (λ (x : List Item). add x o) e in
     (w, (refl, refl, added_held (items r) s.content.now o _ w (data_items r)))
 
-pub put-recording-spec : {M : Type 1} → statement M
-put-recording-spec =
+pub put_recording_spec : {M : Type 1} → statement M
+put_recording_spec =
     tie.close (tie.spec keep-requires same_length same-length-2 same-length-3 returns)
 
 -- the bytes go by one `keep`

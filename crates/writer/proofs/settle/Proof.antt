@@ -8,50 +8,50 @@ use Rattle.writer.proofs.settle.Tie as tie
 use Rattle.writer.proofs.settle.Reads as reads
 use Rattle.writer.proofs.settle.Lts as lts
 
-returns : tie.Need-returns
+returns : tie.Need-returns-then-d-gt1048576
 unfolding settled_fault number_of_refusal
 returns c =
-    sym (over_d _ _ _ _ _ c.if1.true)
+    sym (over_d _ _ _ _ _ c.if-d-gt1048576.true)
 
-returns-2 : tie.Need-returns-2
+returns-2 : tie.Need-returns-then-e-gt16384
 unfolding settled_fault number_of_refusal
 returns-2 c =
-    sym (over_e _ _ _ _ _ c.before.if1.false c.if2.true)
+    sym (over_e _ _ _ _ _ c.before.if-d-gt1048576.false c.if-e-gt16384.true)
 
-returns-3 : tie.Need-returns-3
+returns-3 : tie.Need-returns-then-t-gt65536
 unfolding settled_fault number_of_refusal
 returns-3 c =
-    sym (over_t _ _ _ _ _ c.before.before.if1.false c.before.if2.false c.if3.true)
+    sym (over_t _ _ _ _ _ c.before.before.if-d-gt1048576.false c.before.if-e-gt16384.false c.if-t-gt65536.true)
 
-returns-4 : tie.Need-returns-4
+returns-4 : tie.Need-returns-then-bytes-d
 unfolding settled_fault number_of_refusal
 returns-4 c =
-    sym (none_d _ _ _ _ _ c.before.before.before.if1.false c.before.before.if2.false c.before.if3.false c.if4.true)
+    sym (none_d _ _ _ _ _ c.before.before.before.if-d-gt1048576.false c.before.before.if-e-gt16384.false c.before.if-t-gt65536.false c.if-bytes-d.true)
 
-returns-5 : tie.Need-returns-5
+returns-5 : tie.Need-returns-then-numbers-e
 unfolding settled_fault number_of_refusal
 returns-5 c =
-    sym (none_e _ _ _ _ _ c.before.before.before.before.if1.false c.before.before.before.if2.false c.before.before.if3.false c.before.if4.false c.if5.true)
+    sym (none_e _ _ _ _ _ c.before.before.before.before.if-d-gt1048576.false c.before.before.before.if-e-gt16384.false c.before.before.if-t-gt65536.false c.before.if-bytes-d.false c.if-numbers-e.true)
 
-returns-6 : tie.Need-returns-6
+returns-6 : tie.Need-returns-then-texts-t
 unfolding settled_fault number_of_refusal
 returns-6 c =
-    sym (none_t _ _ _ _ _ c.before.before.before.before.before.if1.false c.before.before.before.before.if2.false c.before.before.before.if3.false
-    c.before.before.if4.false c.before.if5.false c.if6.true)
+    sym (none_t _ _ _ _ _ c.before.before.before.before.before.if-d-gt1048576.false c.before.before.before.before.if-e-gt16384.false c.before.before.before.if-t-gt65536.false
+    c.before.before.if-bytes-d.false c.before.if-numbers-e.false c.if-texts-t.true)
 
-returns-7 : tie.Need-returns-7
+returns-7 : tie.Need-returns-then-lines-l
 unfolding settled_fault number_of_refusal
 returns-7 c =
-    sym (none_l _ _ _ _ _ c.before.before.before.before.before.before.if1.false c.before.before.before.before.before.if2.false
-    c.before.before.before.before.if3.false c.before.before.before.if4.false c.before.before.if5.false c.before.if6.false c.if7.true)
+    sym (none_l _ _ _ _ _ c.before.before.before.before.before.before.if-d-gt1048576.false c.before.before.before.before.before.if-e-gt16384.false
+    c.before.before.before.before.if-t-gt65536.false c.before.before.before.if-bytes-d.false c.before.before.if-numbers-e.false c.before.if-texts-t.false c.if-lines-l.true)
 
-returns-8 : tie.Need-returns-8
+returns-8 : tie.Need-returns
 unfolding settled_fault number_of_refusal
 returns-8 c =
-    sym (all_fit_in _ _ _ _ _ c.before.before.before.before.before.before.if1.false c.before.before.before.before.before.if2.false
-    c.before.before.before.before.if3.false c.before.before.before.if4.false c.before.before.if5.false c.before.if6.false c.if7.false)
+    sym (all_fit_in _ _ _ _ _ c.before.before.before.before.before.before.if-d-gt1048576.false c.before.before.before.before.before.if-e-gt16384.false
+    c.before.before.before.before.if-t-gt65536.false c.before.before.before.if-bytes-d.false c.before.before.if-numbers-e.false c.before.if-texts-t.false c.if-lines-l.false)
 
-pub settle-spec : {M : Type 1} → statement M
-settle-spec =
+pub settle_spec : {M : Type 1} → statement M
+settle_spec =
     tie.close
     (tie.spec returns returns-2 returns-3 returns-4 returns-5 returns-6 returns-7 returns-8)

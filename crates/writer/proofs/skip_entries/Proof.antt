@@ -82,18 +82,18 @@ module _ (ds ns ts : List ℕ) (n : ℕ) (c₀ : Cursor) (od oe₀ ot₀ oe ot :
         (bytes_wrote od od oe ot [] c c₂ (sym (over_none c.d od)) (omega (arith, q.2)) q.3 q.4 ∙ ap (λ (x : List Item). add x (out od oe ot c)) (sym (only_none (part c.at n ds))))
         q.0 q.1
 
-abbrev invariant-loop : tie.invariant-loop
+abbrev invariant-loop : tie.invariant-loop-p
 invariant-loop bytes numbers₀ texts₀ content entries text n c₀ p₀ numbers texts c p =
     State entries_only content entries text n (out bytes numbers₀ texts₀ c₀) c₀ (out bytes numbers texts c) c p
 
-abbrev decreases-loop : tie.decreases-loop
+abbrev decreases-loop : tie.decreases-loop-p
 decreases-loop bytes numbers₀ texts₀ content entries text n c₀ p₀ numbers texts c p =
     length entries - c.k
 
-place-at-requires : tie.Need-place-at-requires invariant-loop decreases-loop
+place-at-requires : tie.Need-place_at-p-requires invariant-loop decreases-loop
 place-at-requires c κs = search rules
 
-loop-holds : tie.Need-loop-init invariant-loop decreases-loop
+loop-holds : tie.Need-loop-p-init invariant-loop decreases-loop
 loop-holds c =
     record {
       done = [];
@@ -103,21 +103,21 @@ loop-holds c =
       ready = c.before.before.before.before.before.before.before.requires.0;
       here =
           c.before.before.before.before.before.before.before.requires.1.0.0;
-      next = c.place_at.ensures;
+      next = c.place_at-p.ensures;
     }
 
-entry-at-requires : tie.Need-entry-at-requires invariant-loop decreases-loop
+entry-at-requires : tie.Need-entry_at-e-requires invariant-loop decreases-loop
 entry-at-requires c κs =
-    entire _ _ _ _ _ _ _ _ _ _ _ _ c.before.loop.invariant c.before.before.before.before.before.before.before.before.before.requires.1.0.1
-    c.before.before.before.before.before.before.before.before.before.requires.1.1 c.loop-test.true
+    entire _ _ _ _ _ _ _ _ _ _ _ _ c.before.loop-p.invariant c.before.before.before.before.before.before.before.before.before.requires.1.0.1
+    c.before.before.before.before.before.before.before.before.before.requires.1.1 c.loop-p-test.true
 
-put-entry-requires : tie.Need-put-entry-requires invariant-loop decreases-loop
+put-entry-requires : tie.Need-put_entry-c-requires invariant-loop decreases-loop
 put-entry-requires c κs =
     let pre = c.before.before.before.before.before.before.before.before.before.before.before.before.requires in
-    asked _ _ _ _ _ _ _ _ _ _ _ _ c.before.before.before.before.loop.invariant pre.1.0.1 pre.1.1 c.before.before.before.loop-test.true _
-    c.before.before.entry_at.ensures (omega (arith, c.before.before.before.before.before.before.before.before.before.before.before.before.well-formed))
+    asked _ _ _ _ _ _ _ _ _ _ _ _ c.before.before.before.before.loop-p.invariant pre.1.0.1 pre.1.1 c.before.before.before.loop-p-test.true _
+    c.before.before.entry_at-e.ensures (omega (arith, c.before.before.before.before.before.before.before.before.before.before.before.before.well_formed))
 
-place-at-requires-2 : tie.Need-place-at-requires-2 invariant-loop decreases-loop
+place-at-requires-2 : tie.Need-place_at-p-requires-in-loop-p invariant-loop decreases-loop
 place-at-requires-2 c κs =
     let at-put-entry = c.before.before.before.before in
     let at-loop-test = at-put-entry.before.before.before.before in
@@ -126,12 +126,12 @@ place-at-requires-2 c κs =
     let pre = start.requires in
     omega (
       arith,
-      entire _ _ _ _ _ _ _ _ _ _ _ _ at-loop.loop.invariant pre.1.0.1 pre.1.1
-          at-loop-test.loop-test.true,
-      at-put-entry.put-entry.ensures.0.1,
+      entire _ _ _ _ _ _ _ _ _ _ _ _ at-loop.loop-p.invariant pre.1.0.1 pre.1.1
+          at-loop-test.loop-p-test.true,
+      at-put-entry.put_entry-c.ensures.0.1,
     )
 
-loop-less : tie.Need-loop-smaller invariant-loop decreases-loop
+loop-less : tie.Need-loop-p-smaller invariant-loop decreases-loop
 loop-less c =
     let at-put-entry = c.before.before.before.before.before in
     let at-loop-test = at-put-entry.before.before.before.before in
@@ -140,12 +140,12 @@ loop-less c =
     let pre = start.requires in
     omega (
       arith,
-      entire _ _ _ _ _ _ _ _ _ _ _ _ at-loop.loop.invariant pre.1.0.1 pre.1.1
-          at-loop-test.loop-test.true,
-      at-put-entry.put-entry.ensures.0.1,
+      entire _ _ _ _ _ _ _ _ _ _ _ _ at-loop.loop-p.invariant pre.1.0.1 pre.1.1
+          at-loop-test.loop-p-test.true,
+      at-put-entry.put_entry-c.ensures.0.1,
     )
 
-loop-again : tie.Need-loop-preserved invariant-loop decreases-loop
+loop-again : tie.Need-loop-p-preserved invariant-loop decreases-loop
 loop-again c =
     let at-put-entry = c.before.before.before.before.before in
     let at-entry-at = at-put-entry.before.before.before in
@@ -153,29 +153,29 @@ loop-again c =
     let at-loop = at-loop-test.before in
     let start = at-loop.before.before.before.before.before.before.before.before in
     let pre = start.requires in
-    let e = at-put-entry.put-entry.ensures in
-    turned _ _ _ _ _ _ _ _ _ _ _ _ at-loop.loop.invariant pre.1.0.1 pre.1.1
-    at-loop-test.loop-test.true _
-    at-entry-at.entry_at.ensures _ _ _ _ e.0 e.1.0 e.1.1 c.place-at2.ensures
+    let e = at-put-entry.put_entry-c.ensures in
+    turned _ _ _ _ _ _ _ _ _ _ _ _ at-loop.loop-p.invariant pre.1.0.1 pre.1.1
+    at-loop-test.loop-p-test.true _
+    at-entry-at.entry_at-e.ensures _ _ _ _ e.0 e.1.0 e.1.1 c.place_at-p-in-loop-p.ensures
 
-same_length : tie.Need-same-length invariant-loop decreases-loop
+same_length : tie.Need-shape_of-numbers invariant-loop decreases-loop
 same_length c =
-    (now-long _ _ _ _ _ _ _ _ _ _ _ _ c.before.loop.invariant c.before.before.before.before.before.before.before.before.before.requires.1.0.1
+    (now-long _ _ _ _ _ _ _ _ _ _ _ _ c.before.loop-p.invariant c.before.before.before.before.before.before.before.before.before.requires.1.0.1
     c.before.before.before.before.before.before.before.before.before.requires.1.1).0
 
-same-length-2 : tie.Need-same-length-2 invariant-loop decreases-loop
+same-length-2 : tie.Need-shape_of-texts invariant-loop decreases-loop
 same-length-2 c =
-    (now-long _ _ _ _ _ _ _ _ _ _ _ _ c.before.loop.invariant c.before.before.before.before.before.before.before.before.before.requires.1.0.1
+    (now-long _ _ _ _ _ _ _ _ _ _ _ _ c.before.loop-p.invariant c.before.before.before.before.before.before.before.before.before.requires.1.0.1
     c.before.before.before.before.before.before.before.before.before.requires.1.1).1
 
 returns : tie.Need-returns invariant-loop decreases-loop
 returns c =
-    let e = ended _ _ _ _ _ _ _ _ _ _ _ _ c.before.loop.invariant c.before.before.before.before.before.before.before.before.before.requires.1.0.1
-    c.before.before.before.before.before.before.before.before.before.requires.1.1 c.loop-test.false _ (refl, refl, refl, refl, refl) in
+    let e = ended _ _ _ _ _ _ _ _ _ _ _ _ c.before.loop-p.invariant c.before.before.before.before.before.before.before.before.before.requires.1.0.1
+    c.before.before.before.before.before.before.before.before.before.requires.1.1 c.loop-p-test.false _ (refl, refl, refl, refl, refl) in
     (e.0, (e.1, (e.2, refl)))
 
-pub skip-entries-spec : {M : Type 1} → statement M
-skip-entries-spec =
+pub skip_entries_spec : {M : Type 1} → statement M
+skip_entries_spec =
     tie.close
     (tie.spec
     invariant-loop
