@@ -62,7 +62,7 @@ pub enum Refusal {
 }
 
 // The documents' number of a refusal, from 31 on document 02's; 61 and above are those of a list of calls, which neither numbers.
-#[tactic(auto, unfolding(crate::specs::Refusals::number_of))]
+#[tactic(auto, unfolding(crate::specs::Refusals::number_of_refusal))]
 pub fn number_of(f: Refusal) -> u64
     ensures { result ≡ number_of_refusal f }
 {

@@ -37,15 +37,15 @@ returns-2 c =
 
 returns-3 : tie.Need-returns-then-kind-ne1
 returns-3 c =
-    high _ _ _ c.before.before.if-kind-eq0.false c.before.if-kind-eq2.false c.if-kind-ne1.true
+    high _ _ _ c.if-kind-eq0.false c.if-kind-eq2.false c.if-kind-ne1.true
 
 returns-4 : tie.Need-returns-then-start-ne0
 returns-4 c =
-    pop_start _ _ _ c.before.if-kind-ne1.false c.if-start-ne0.true
+    pop_start _ _ _ c.if-kind-ne1.false c.if-start-ne0.true
 
 returns-5 : tie.Need-returns
 returns-5 c =
-    pop-len _ _ _ c.before.if-kind-ne1.false c.if-start-ne0.false
+    pop-len _ _ _ c.if-kind-ne1.false c.if-start-ne0.false
 
 pub bad_shape_spec : {M : Type 1} → statement M
 bad_shape_spec = tie.close (tie.spec returns returns-2 returns-3 returns-4 returns-5)

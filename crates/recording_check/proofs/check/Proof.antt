@@ -18,25 +18,25 @@ returns c =
 returns-2 : tie.Need-returns-then-entries-ne0
 unfolding fault_of Counted Within number_of_refusal
 returns-2 c =
-    (sym (fault_2a _ _ _ c.before.if-content-gt1048576.false c.if-entries-ne0.true), (tt, tt))
+    (sym (fault_2a _ _ _ c.if-content-gt1048576.false c.if-entries-ne0.true), (tt, tt))
 
 returns-3 : tie.Need-returns-then-entries-gt16384
 unfolding fault_of Counted Within number_of_refusal
 returns-3 c =
-    (sym (fault_2b _ _ _ c.before.before.if-content-gt1048576.false c.before.if-entries-ne0.false c.if-entries-gt16384.true), (tt, tt))
+    (sym (fault_2b _ _ _ c.if-content-gt1048576.false c.if-entries-ne0.false c.if-entries-gt16384.true), (tt, tt))
 
 returns-4 : tie.Need-returns-then-text-gt65536
 unfolding fault_of Counted Within number_of_refusal
 returns-4 c =
-    (sym (fault_5 _ _ _ c.before.before.before.if-content-gt1048576.false c.before.before.if-entries-ne0.false c.before.if-entries-gt16384.false c.if-text-gt65536.true), (tt, tt))
+    (sym (fault_5 _ _ _ c.if-content-gt1048576.false c.if-entries-ne0.false c.if-entries-gt16384.false c.if-text-gt65536.true), (tt, tt))
 
 check-entries-requires : tie.Need-check_entries-requires
 check-entries-requires c κs = search rules
 
 returns-5 : tie.Need-returns
 returns-5 c = (
-  c.check_entries.ensures.0 ∙ sym (fault_entries _ _ _ c.before.before.before.before.if-content-gt1048576.false c.before.before.before.if-entries-ne0.false c.before.before.if-entries-gt16384.false
-      c.before.if-text-gt65536.false),
+  c.check_entries.ensures.0 ∙ sym (fault_entries _ _ _ c.if-content-gt1048576.false c.if-entries-ne0.false c.if-entries-gt16384.false
+      c.if-text-gt65536.false),
   c.check_entries.ensures.1,
 )
 

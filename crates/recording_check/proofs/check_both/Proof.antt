@@ -13,7 +13,7 @@ content : tie.Start → Recording
 content s = recording s.args.content.now s.args.entries.now s.args.text.now
 
 second : tie.Start → Recording
-second s = recording s.args.second.now s.args.second-entries.now s.args.second-text.now
+second s = recording s.args.second.now s.args.second_entries.now s.args.second_text.now
 
 check-requires : tie.Need-check-first-requires
 check-requires c κs = search rules
@@ -24,10 +24,8 @@ enum-known-first c = search rules
 returns : tie.Need-returns-in-Refused
 unfolding content second
 returns c =
-    let s = c.before.before.before.before.before.before.before.before.before.before in
-    let k = c.before.before.before.check-first in
-    let x = c.before.first-1.given in
-    first_refused (content s) (second s) k.result k.ensures.0 x.0.0 x.1
+    let k = c.check-first in
+    first_refused (content c.before.before.before.before.before.before.before.before) (second c.before.before.before.before.before.before.before.before) k.result k.ensures.0 c.in-Refused.f c.in-Refused.is
 
 enum-known-first-2 : tie.Need-enum_known-first-in-Fine-1
 enum-known-first-2 c = search rules
@@ -44,22 +42,16 @@ enum-known-next-2 c = search rules
 returns-2 : tie.Need-returns-in-Refused-next
 unfolding content second
 returns-2 c =
-    let s = c.before.before.before.before.before.before.before.before.before.before.before.before.before.before in
-    let k = c.before.before.before.before.before.before.before.check-first in
-    let x = c.before.before.before.before.before.first-in-Fine-1.given in
-    let l = c.before.before.before.check-next in
-    let y = c.before.next-1.given in
-    next_refused (content s) (second s) k.result k.ensures.0 x.0.0 x.1 k.ensures.1.0 k.ensures.1.1 l.result l.ensures.0 y.0.0 y.1
+    let k = c.check-first in
+    let l = c.check-next in
+    next_refused (content c.before.before.before.before.before.before.before.before.before.before) (second c.before.before.before.before.before.before.before.before.before.before) k.result k.ensures.0 c.in-Fine.n c.in-Fine.is k.ensures.1.0 k.ensures.1.1 l.result l.ensures.0 c.in-Refused-next.f c.in-Refused-next.is
 
 returns-3 : tie.Need-returns-in-Fine-next
 unfolding content second
 returns-3 c =
-    let s = c.before.before.before.before.before.before.before.before.before.before.before.before.before.before in
-    let k = c.before.before.before.before.before.before.before.check-first in
-    let x = c.before.before.before.before.before.first-in-Fine-1.given in
-    let l = c.before.before.before.check-next in
-    let y = c.before.next-in-Fine-next-1.given in
-    both_fine (content s) (second s) k.result k.ensures.0 x.0.0 x.1 k.ensures.1.0 k.ensures.1.1 l.result l.ensures.0 y.0.0 y.1
+    let k = c.check-first in
+    let l = c.check-next in
+    both_fine (content c.before.before.before.before.before.before.before.before.before.before) (second c.before.before.before.before.before.before.before.before.before.before) k.result k.ensures.0 c.in-Fine.n c.in-Fine.is k.ensures.1.0 k.ensures.1.1 l.result l.ensures.0 c.in-Fine-next.n c.in-Fine-next.is
     l.ensures.1.0 l.ensures.1.1
 
 pub check_both_spec : {M : Type 1} → statement M

@@ -27,7 +27,7 @@ loop-holds c =
 
 entry-at-requires : tie.Need-entry_at-e-requires invariant-loop decreases-loop
 entry-at-requires c κs =
-    whole _ _ _ _ _ _ c.before.loop-k.invariant c.before.before.before.before.before.requires.0 c.loop-k-test.true
+    whole _ _ _ _ _ _ c.loop-k.invariant c.requires.0 c.loop-k-test.true
 
 check-entry-requires : tie.Need-check_entry-got-requires invariant-loop decreases-loop
 check-entry-requires c κs = search rules
@@ -37,11 +37,10 @@ enum_told c = search rules
 
 returns : tie.Need-returns-in-Refused invariant-loop decreases-loop
 returns c =
-    let g = c.enum_told-1.given in
-    let k = c.before.before.check_entry-got in (
-      stops _ _ _ _ _ _ c.before.before.before.before.before.loop-k.invariant c.before.before.before.before.before.before.before.before.before.requires.0
-          c.before.before.before.before.loop-k-test.true _ c.before.before.before.entry_at-e.ensures k.result k.ensures.0 g.0.0 g.1,
-      (refused-count k.result g.0.0 _ g.1, refused-within k.result g.0.0 _ g.1),
+    let k = c.check_entry-got in (
+      stops _ _ _ _ _ _ c.loop-k.invariant c.requires.0
+          c.loop-k-test.true _ c.entry_at-e.ensures k.result k.ensures.0 c.in-Refused.field-0 c.in-Refused.is,
+      (refused-count k.result c.in-Refused.field-0 _ c.in-Refused.is, refused-within k.result c.in-Refused.field-0 _ c.in-Refused.is),
     )
 
 enum-known-got : tie.Need-enum_known-got invariant-loop decreases-loop
@@ -49,25 +48,24 @@ enum-known-got c = search rules
 
 add-size : tie.Need-overflow_add-size invariant-loop decreases-loop
 add-size c =
-    let g = c.before.got-1.given in
-    let k = c.before.before.before.check_entry-got in
+    let k = c.check_entry-got in
     omega (
       arith,
-      fits_size _ _ _ _ _ _ c.before.before.before.before.before.before.loop-k.invariant
-          c.before.before.before.before.before.before.before.before.before.before.requires.0 c.before.before.before.before.before.loop-k-test.true _
-          c.before.before.before.before.entry_at-e.ensures k.result k.ensures.0 g.0.0 g.1 k.ensures.1
-          c.before.before.before.before.before.before.before.before.before.before.requires.2,
-      c.before.before.before.before.before.before.before.before.before.before.requires,
-      c.before.before.before.before.before.loop-k-test.true,
+      fits_size _ _ _ _ _ _ c.loop-k.invariant
+          c.requires.0 c.loop-k-test.true _
+          c.entry_at-e.ensures k.result k.ensures.0 c.in-Fine.len c.in-Fine.is k.ensures.1
+          c.requires.2,
+      c.requires,
+      c.loop-k-test.true,
     )
 
 add-k : tie.Need-overflow_add-k invariant-loop decreases-loop
 add-k c =
     omega (
       arith,
-      whole _ _ _ _ _ _ c.before.before.before.before.before.before.loop-k.invariant
-          c.before.before.before.before.before.before.before.before.before.before.requires.0 c.before.before.before.before.before.loop-k-test.true,
-      c.before.before.before.before.before.before.before.before.before.before.requires,
+      whole _ _ _ _ _ _ c.loop-k.invariant
+          c.requires.0 c.loop-k-test.true,
+      c.requires,
     )
 
 loop-less : tie.Need-loop-k-smaller invariant-loop decreases-loop
@@ -75,18 +73,17 @@ loop-less c = search rules
 
 loop-again : tie.Need-loop-k-preserved invariant-loop decreases-loop
 loop-again c =
-    let g = c.before.got-1.given in
-    let k = c.before.before.before.check_entry-got in
-    goes _ _ _ _ _ _ c.before.before.before.before.before.before.loop-k.invariant c.before.before.before.before.before.before.before.before.before.before.requires.0
-    c.before.before.before.before.before.loop-k-test.true _ c.before.before.before.before.entry_at-e.ensures k.result k.ensures.0 g.0.0 g.1
-    k.ensures.1 c.before.before.before.before.before.before.before.before.before.before.requires.2 _ refl
+    let k = c.check_entry-got in
+    goes _ _ _ _ _ _ c.loop-k.invariant c.requires.0
+    c.loop-k-test.true _ c.entry_at-e.ensures k.result k.ensures.0 c.in-Fine.len c.in-Fine.is
+    k.ensures.1 c.requires.2 _ refl
 
 returns-2 : tie.Need-returns invariant-loop decreases-loop
 unfolding fault_of Counted Within
 returns-2 c =
-    let s = c.before.loop-k.invariant in
+    let s = c.loop-k.invariant in
     let l = seen_last _ _ _ _ _ _ s c.loop-k-test.false in
-    (l.0, (l.1, omega (arith, s.small, s.within, c.before.before.before.before.before.requires)))
+    (l.0, (l.1, omega (arith, s.small, s.within, c.requires)))
 
 pub check_entries_spec : {M : Type 1} → statement M
 check_entries_spec =

@@ -18,14 +18,14 @@ bad-shape-requires c κs = search rules
 returns : tie.Need-returns-then-bad_shape
 unfolding fault_of Counted number_of_refusal
 returns c =
-    let s = c.before.before.before.before.args in
-    (sym (ill_shaped s.content.now s.text.now s.e s.at (sym c.before.bad_shape.ensures ∙ c.if-bad_shape.true)), tt)
+    let s = c.args in
+    (sym (ill_shaped s.content.now s.text.now s.e s.at (sym c.bad_shape.ensures ∙ c.if-bad_shape.true)), tt)
 
 returns-2 : tie.Need-returns-then-e-at
 unfolding fault_of Counted number_of_refusal
 returns-2 c =
-    let s = c.before.before.before.before.before.before.args in
-    (sym (falling s.content.now s.text.now s.e s.at (sym c.before.before.before.bad_shape.ensures ∙ c.before.before.if-bad_shape.false) c.if-e-at.true), tt)
+    let s = c.args in
+    (sym (falling s.content.now s.text.now s.e s.at (sym c.bad_shape.ensures ∙ c.if-bad_shape.false) c.if-e-at.true), tt)
 
 cast-if3 : tie.Need-overflow_cast-e
 cast-if3 c = search rules
@@ -33,9 +33,9 @@ cast-if3 c = search rules
 returns-3 : tie.Need-returns-then-content-e
 unfolding fault_of Counted number_of_refusal
 returns-3 c =
-    let s = c.before.before.before.before.before.before.before.before.args in (
+    let s = c.args in (
       sym (beyond s.content.now s.text.now s.e s.at
-          (sym c.before.before.before.before.before.bad_shape.ensures ∙ c.before.before.before.before.if-bad_shape.false) c.before.before.if-e-at.false c.if-content-e.true),
+          (sym c.bad_shape.ensures ∙ c.if-bad_shape.false) c.if-e-at.false c.if-content-e.true),
       tt,
     )
 
@@ -51,10 +51,10 @@ add-end c = search rules
 returns-4 : tie.Need-returns-then-text-end
 unfolding fault_of Counted number_of_refusal
 returns-4 c =
-    let s = c.before.before.before.before.before.before.before.before.before.before.before.args in (
+    let s = c.args in (
       sym (outside s.content.now s.text.now s.e s.at
-          (sym c.before.before.before.before.before.before.before.before.bad_shape.ensures ∙ c.before.before.before.before.before.before.before.if-bad_shape.false)
-          c.before.before.before.before.before.if-e-at.false c.before.before.before.if-content-e.false c.if-text-end.true),
+          (sym c.bad_shape.ensures ∙ c.if-bad_shape.false)
+          c.if-e-at.false c.if-content-e.false c.if-text-end.true),
       tt,
     )
 
@@ -64,12 +64,12 @@ cast-t15 c = search rules
 returns-5 : tie.Need-returns-then-e-ne0
 unfolding fault_of Counted number_of_refusal
 returns-5 c =
-    let s = c.before.before.before.before.before.before.before.before.before.before.before.before.before.before.args in (
+    let s = c.args in (
       sym (no_label s.content.now s.text.now s.e s.at
-          (sym c.before.before.before.before.before.before.before.before.before.before.before.bad_shape.ensures
-          ∙ c.before.before.before.before.before.before.before.before.before.before.if-bad_shape.false)
-          c.before.before.before.before.before.before.before.before.if-e-at.false c.before.before.before.before.before.before.if-content-e.false
-          c.before.before.before.if-text-end.false c.before.if-e-ne0.true),
+          (sym c.bad_shape.ensures
+          ∙ c.if-bad_shape.false)
+          c.if-e-at.false c.if-content-e.false
+          c.if-text-end.false c.if-e-ne0.true),
       refl,
     )
 
@@ -88,13 +88,13 @@ is-well-formed-requires c κs = search rules
 returns-6 : tie.Need-returns-then-not-is_well_formed
 unfolding fault_of Counted number_of_refusal
 returns-6 c =
-    let s = c.before.before.before.before.before.before.before.before.before.before.before.before.before.before.before.before.args in (
+    let s = c.args in (
       sym (ill s.content.now s.text.now s.e s.at
-          (sym c.before.before.before.before.before.before.before.before.before.before.before.before.before.bad_shape.ensures
-          ∙ c.before.before.before.before.before.before.before.before.before.before.before.before.if-bad_shape.false)
-          c.before.before.before.before.before.before.before.before.before.before.if-e-at.false
-          c.before.before.before.before.before.before.before.before.if-content-e.false c.before.before.before.before.before.if-text-end.false c.before.before.before.if-e-ne0.false
-          c.before.is_well_formed.result c.before.is_well_formed.ensures c.if-not-is_well_formed.true),
+          (sym c.bad_shape.ensures
+          ∙ c.if-bad_shape.false)
+          c.if-e-at.false
+          c.if-content-e.false c.if-text-end.false c.if-e-ne0.false
+          c.is_well_formed.result c.is_well_formed.ensures (not-true c.is_well_formed.result c.if-not-is_well_formed.true)),
       tt,
     )
 
@@ -104,14 +104,14 @@ cast-t12 c = search rules
 returns-7 : tie.Need-returns
 unfolding fault_of Counted number_of_refusal
 returns-7 c =
-    let s = c.before.before.before.before.before.before.before.before.before.before.before.before.before.before.before.before.before.args in (
+    let s = c.args in (
       sym (well s.content.now s.text.now s.e s.at
-          (sym c.before.before.before.before.before.before.before.before.before.before.before.before.before.before.bad_shape.ensures
-          ∙ c.before.before.before.before.before.before.before.before.before.before.before.before.before.if-bad_shape.false)
-          c.before.before.before.before.before.before.before.before.before.before.before.if-e-at.false
-          c.before.before.before.before.before.before.before.before.before.if-content-e.false c.before.before.before.before.before.before.if-text-end.false
-          c.before.before.before.before.if-e-ne0.false c.before.before.is_well_formed.result c.before.before.is_well_formed.ensures
-          c.before.if-not-is_well_formed.false),
+          (sym c.bad_shape.ensures
+          ∙ c.if-bad_shape.false)
+          c.if-e-at.false
+          c.if-content-e.false c.if-text-end.false
+          c.if-e-ne0.false c.is_well_formed.result c.is_well_formed.ensures
+          (not_false c.is_well_formed.result c.if-not-is_well_formed.false)),
       refl,
     )
 
