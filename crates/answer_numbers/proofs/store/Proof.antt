@@ -21,13 +21,13 @@ enum-known-a-2 c = search rules
 returns : tie.Need-returns-in-Refused
 unfolding five answer_of
 returns c =
-    ap (λ (n : ℕ). n ∷ 0 ∷ 0 ∷ 0 ∷ 0 ∷ []) c.before.number_of.ensures
-    ∙ sym (ap (λ (x : Answer). five (answer_of x)) c.before.before.before.a-1.given.1)
+    ap (λ (n : ℕ). n ∷ 0 ∷ 0 ∷ 0 ∷ 0 ∷ []) c.number_of.ensures
+    ∙ sym (ap (λ (x : Answer). five (answer_of x)) c.in-Refused.is)
 
 returns-2 : tie.Need-returns-in-Done
 unfolding five answer_of
 returns-2 c =
-    sym (ap (λ (x : Answer). five (answer_of x)) c.before.before.a-in-Done-1.given.1)
+    sym (ap (λ (x : Answer). five (answer_of x)) c.in-Done.is)
 
 pub store_spec : {M : Type 1} → statement M
 store_spec = tie.close (tie.spec enum-known-a number-of-requires enum-known-a-2 returns returns-2)

@@ -15,11 +15,11 @@ abbrev first : tie.Start → Lent
 first s = lent_of s.args.bytes.now s.args.numbers.now s.args.texts.now
 
 abbrev other : tie.Start → Lent
-other s = lent_of s.args.other-bytes.now s.args.other_numbers.now s.args.other_texts.now
+other s = lent_of s.args.other_bytes.now s.args.other_numbers.now s.args.other_texts.now
 
 -- ── what is asked on the way
 returns : tie.Need-returns-then-s
-returns c = let s = c.before.before.before.before.before.before.before in stays s.args.s (first s) (other s) c.if-s.true
+returns c = stays c.args.s (first c.before.before.before.before.before.before.before) (other c.before.before.before.before.before.before.before) c.if-s.true
 
 put-requires : tie.Need-put-requires
 put-requires c κs = search rules
@@ -41,13 +41,8 @@ same-length-3 c = search rules
 
 returns-2 : tie.Need-returns
 returns-2 c =
-    let z = c.before.before in
-    let y = z.before.before.before.before in
-    let x = y.before.before.before.before in
-    let e = x.before.before in
-    let s = e.before.before.before.before.before.before.before in
-    copied s.args.s s.args.bytes.now s.args.numbers.now s.args.texts.now s.args.other-bytes.now s.args.other_numbers.now s.args.other_texts.now _ _ _
-    e.if-s.false x.put.ensures.1 y.put_numbers.ensures z.put-2.ensures.1
+    copied c.args.s c.args.bytes.now c.args.numbers.now c.args.texts.now c.args.other_bytes.now c.args.other_numbers.now c.args.other_texts.now _ _ _
+    c.if-s.false c.put.ensures.1 c.put_numbers.ensures c.put-2.ensures.1
 
 pub bring_back_spec : {M : Type 1} → statement M
 bring_back_spec =

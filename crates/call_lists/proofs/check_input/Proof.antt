@@ -17,14 +17,12 @@ returns c = rw c.if-long.true
 returns-2 : tie.Need-returns-then-not-same
 unfolding input_fault settled_fault
 returns-2 c =
-    let s = c.before.before.before in
-    rw (c.before.if-long.false, c.if-not-same.true)
+    rw (c.if-long.false, c.if-not-same.true)
 
 returns-3 : tie.Need-returns-then-calls-ne0
 unfolding input_fault settled_fault
 returns-3 c =
-    let s = c.before.before.before.before in
-    rw (c.before.before.if-long.false, c.before.if-not-same.false, ne_eqb _ _ c.if-calls-ne0.true)
+    rw (c.if-long.false, not_false c.args.same c.if-not-same.false, ne_eqb _ _ c.if-calls-ne0.true)
 
 all-fit-requires : tie.Need-all_fit-requires
 all-fit-requires c κs = search rules
@@ -32,12 +30,11 @@ all-fit-requires c κs = search rules
 returns-4 : tie.Need-returns-then-not-all_fit
 unfolding input_fault settled_fault
 returns-4 c =
-    let s = c.before.before.before.before.before.before in
-    let a = c.before.all_fit in
+    let a = c.all_fit in
     rw (
-      c.before.before.before.before.if-long.false,
-      c.before.before.before.if-not-same.false,
-      eq-eqb _ _ c.before.before.if-calls-ne0.false,
+      c.if-long.false,
+      not_false c.args.same c.if-not-same.false,
+      eq-eqb _ _ c.if-calls-ne0.false,
       sym a.ensures,
       c.if-not-all_fit.true,
     )
@@ -48,28 +45,26 @@ mul-if5 c = search rules
 returns-5 : tie.Need-returns-then-n-calls
 unfolding input_fault settled_fault
 returns-5 c =
-    let s = c.before.before.before.before.before.before.before in
-    let a = c.before.before.all_fit in
+    let a = c.all_fit in
     rw (
-      c.before.before.before.before.before.if-long.false,
-      c.before.before.before.before.if-not-same.false,
-      eq-eqb _ _ c.before.before.before.if-calls-ne0.false,
+      c.if-long.false,
+      not_false c.args.same c.if-not-same.false,
+      eq-eqb _ _ c.if-calls-ne0.false,
       sym a.ensures,
-      c.before.if-not-all_fit.false,
+      not_false a.result c.if-not-all_fit.false,
       lt-ltb _ _ c.if-n-calls.true,
     )
 
 returns-6 : tie.Need-returns
 unfolding input_fault settled_fault
 returns-6 c =
-    let s = c.before.before.before.before.before.before.before in
-    let a = c.before.before.all_fit in
+    let a = c.all_fit in
     rw (
-      c.before.before.before.before.before.if-long.false,
-      c.before.before.before.before.if-not-same.false,
-      eq-eqb _ _ c.before.before.before.if-calls-ne0.false,
+      c.if-long.false,
+      not_false c.args.same c.if-not-same.false,
+      eq-eqb _ _ c.if-calls-ne0.false,
       sym a.ensures,
-      c.before.if-not-all_fit.false,
+      not_false a.result c.if-not-all_fit.false,
       le-ltb _ _ c.if-n-calls.false,
     )
 

@@ -18,11 +18,11 @@ add-t8 : tie.Need-overflow_add-result
 add-t8 c = search rules
 
 returns : tie.Need-returns-in-Refused
-returns c = rw c.enum_told-1.given.1 (held_refused _ _)
+returns c = rw c.in-Refused.is (held_refused _ _)
 
 returns-2 : tie.Need-returns-in-Done
 unfolding held_by answer_of
-returns-2 c = rw c.before.before.before.a-1.given.1
+returns-2 c = rw c.in-Done.is
 
 pub moved_spec : {M : Type 1} → statement M
 moved_spec = tie.close (tie.spec enum_told enum-known-a add-t8 returns returns-2)

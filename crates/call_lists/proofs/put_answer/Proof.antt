@@ -29,14 +29,14 @@ same_length c = search rules
 
 returns : tie.Need-returns-in-Refused
 unfolding answer_of
-returns c = rw (c.before.before.before.before.before.before.a-1.given.1, sym c.before.before.before.number_of.ensures) c.before.before.put_two.ensures
+returns c = rw (c.in-Refused.is, sym c.number_of.ensures) c.put_two.ensures
 
 same-length-2 : tie.Need-shape_of-answers-in-Done
 same-length-2 c = search rules
 
 returns-2 : tie.Need-returns-in-Done
 unfolding answer_of
-returns-2 c = rw c.before.before.before.before.before.a-in-Done-1.given.1 c.before.before.put_two-in-Done.ensures
+returns-2 c = rw c.in-Done.is c.put_two-in-Done.ensures
 
 pub put_answer_spec : {M : Type 1} → statement M
 put_answer_spec =

@@ -42,18 +42,16 @@ loop-less c = search rules
 
 loop-again : tie.Need-loop-i-preserved invariant-loop decreases-loop
 loop-again c =
-    let s = c.before.before.before in
-    let l = c.before.before.loop-i in
-    (search rules, search rules, cc (store_next s.args.from.now s.args.to.now l.i (omega arith) (omega arith)))
+    let l = c.loop-i in
+    (search rules, search rules, cc (store_next c.args.from.now c.args.to.now l.i (omega arith) (omega arith)))
 
 same_length : tie.Need-shape_of-to invariant-loop decreases-loop
-same_length c = c.before.loop-i.invariant.1
+same_length c = c.loop-i.invariant.1
 
 returns : tie.Need-returns invariant-loop decreases-loop
 returns c =
-    let s = c.before.before in
-    let l = c.before.loop-i in
-    all_stored s.args.n s.args.from.now s.args.to.now l.to l.i s.requires.0 l.invariant.0 c.loop-i-test.false l.invariant.2
+    let l = c.loop-i in
+    all_stored c.args.n c.args.from.now c.args.to.now l.to l.i c.requires.0 l.invariant.0 c.loop-i-test.false l.invariant.2
 
 pub put_numbers_spec : {M : Type 1} → statement M
 put_numbers_spec =

@@ -9,10 +9,10 @@ returns : tie.Need-returns-then-bytes-d
 returns c = rw (lt-ltb _ _ c.if-bytes-d.true)
 
 returns-2 : tie.Need-returns-then-numbers-e
-returns-2 c = rw (le-ltb _ _ c.before.if-bytes-d.false, lt-ltb _ _ c.if-numbers-e.true)
+returns-2 c = rw (le-ltb _ _ c.if-bytes-d.false, lt-ltb _ _ c.if-numbers-e.true)
 
 returns-3 : tie.Need-returns
-returns-3 c = rw (le-ltb _ _ c.before.if-bytes-d.false, le-ltb _ _ c.if-numbers-e.false)
+returns-3 c = rw (le-ltb _ _ c.if-bytes-d.false, le-ltb _ _ c.if-numbers-e.false)
 
 pub too_long_spec : {M : Type 1} → statement M
 too_long_spec = tie.close (tie.spec returns returns-2 returns-3)

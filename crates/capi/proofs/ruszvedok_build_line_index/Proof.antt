@@ -17,7 +17,7 @@ same_length c = search rules
 
 returns : tie.Need-returns
 returns c =
-    let k = c.before.before.before.before.build_line_index-a in
+    let k = c.build_line_index-a in
     (c.store.ensures ∙ ap five k.ensures.0, k.ensures.1)
 
 pub ruszvedok_build_line_index_spec : {M : Type 1} → statement M

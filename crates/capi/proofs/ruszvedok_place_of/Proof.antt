@@ -14,7 +14,7 @@ store-reply-requires c κs = search rules
 
 returns : tie.Need-returns
 returns c =
-    c.store_reply.ensures ∙ ap three c.before.before.place_of-a.ensures
+    c.store_reply.ensures ∙ ap three c.place_of-a.ensures
 
 pub ruszvedok_place_of_spec : {M : Type 1} → statement M
 ruszvedok_place_of_spec =

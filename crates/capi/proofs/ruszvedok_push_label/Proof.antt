@@ -20,7 +20,7 @@ same-length-2 c = search rules
 
 returns : tie.Need-returns
 returns c =
-    let k = c.before.before.before.before.before.before.push_label-a in
+    let k = c.push_label-a in
     (c.store.ensures ∙ ap five k.ensures.0, k.ensures.1)
 
 pub ruszvedok_push_label_spec : {M : Type 1} → statement M

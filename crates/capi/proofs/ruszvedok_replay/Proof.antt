@@ -23,7 +23,7 @@ same-length-3 c = search rules
 
 returns : tie.Need-returns
 returns c =
-    let k = c.before.before.before.before.before.before.before.before.replay-a in
+    let k = c.replay-a in
     (c.store.ensures ∙ ap five k.ensures.0, k.ensures.1)
 
 pub ruszvedok_replay_spec : {M : Type 1} → statement M

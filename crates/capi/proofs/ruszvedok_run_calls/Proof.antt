@@ -49,7 +49,7 @@ as-numbers g b b' a res e p =
 
 returns : tie.Need-returns
 returns c =
-    let k = c.before.before.before.before.before.before.before.before.before.before.before.before.before.before.before.before.before.before.run_calls-a in
+    let k = c.run_calls-a in
     as-numbers _ _ _ _ _ c.store.ensures k.ensures
 
 pub ruszvedok_run_calls_spec : {M : Type 1} → statement M

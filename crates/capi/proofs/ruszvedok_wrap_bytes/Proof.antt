@@ -17,7 +17,7 @@ same_length c = search rules
 
 returns : tie.Need-returns
 returns c =
-    let k = c.before.before.before.before.wrap_bytes-a in
+    let k = c.wrap_bytes-a in
     (c.store.ensures ∙ ap five k.ensures.0.0, k.ensures.0.1)
 
 pub ruszvedok_wrap_bytes_spec : {M : Type 1} → statement M

@@ -17,7 +17,7 @@ same_length c = search rules
 
 returns : tie.Need-returns
 returns c =
-    let k = c.before.before.before.before.write-a in
+    let k = c.write-a in
     (c.store.ensures ∙ ap five k.ensures.0, k.ensures.1)
 
 pub ruszvedok_write_spec : {M : Type 1} → statement M

@@ -23,7 +23,7 @@ same-length-3 c = search rules
 
 returns : tie.Need-returns
 returns c =
-    let k = c.before.before.before.before.before.before.before.before.write_replaced_flat-a in
+    let k = c.write_replaced_flat-a in
     (c.store.ensures ∙ ap five k.ensures.0, k.ensures.1)
 
 pub ruszvedok_write_replaced_spec : {M : Type 1} → statement M

@@ -17,7 +17,7 @@ same_length c = search rules
 
 returns : tie.Need-returns
 returns c =
-    let k = c.before.before.before.before.write_tally-a in
+    let k = c.write_tally-a in
     (c.store.ensures ∙ ap five k.ensures.0.0, k.ensures.0.1)
 
 pub ruszvedok_write_tally_spec : {M : Type 1} → statement M

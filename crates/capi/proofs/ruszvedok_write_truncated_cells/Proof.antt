@@ -20,7 +20,7 @@ same-length-2 c = search rules
 
 returns : tie.Need-returns
 returns c =
-    let k = c.before.before.before.before.before.before.write_truncated_cells-a in
+    let k = c.write_truncated_cells-a in
     (c.store.ensures ∙ ap five k.ensures.0.0, k.ensures.0.1)
 
 pub ruszvedok_write_truncated_cells_spec : {M : Type 1} → statement M

@@ -23,7 +23,7 @@ same-length-3 c = search rules
 
 returns : tie.Need-returns
 returns c =
-    let k = c.before.before.before.before.before.before.before.before.write_truncated_start-a in
+    let k = c.write_truncated_start-a in
     (c.store.ensures ∙ ap five k.ensures.0, k.ensures.1)
 
 pub ruszvedok_write_truncated_start_spec : {M : Type 1} → statement M

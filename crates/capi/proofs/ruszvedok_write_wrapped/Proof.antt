@@ -26,7 +26,7 @@ same-length-4 c = search rules
 
 returns : tie.Need-returns
 returns c =
-    let k = c.before.before.before.before.before.before.before.before.before.before.write_wrapped-a in
+    let k = c.write_wrapped-a in
     (c.store.ensures ∙ ap five k.ensures.0, k.ensures.1)
 
 pub ruszvedok_write_wrapped_spec : {M : Type 1} → statement M

@@ -21,35 +21,34 @@ abbrev decreases-loop : tie.decreases-loop-k
 decreases-loop t content ends m max total₀ from₀ k₀ total from k = length ends - k
 
 -- what is known of the end that is read
-above : (c : tie.In-loop-k invariant-loop decreases-loop) → c.before.loop-k.from ≤ get_or c.before.before.before.before.args.ends.now c.before.loop-k.k 0
-above c = end_above _ _ _ _ c.before.loop-k.invariant.ahead c.loop-k-test.true
+above : (c : tie.In-loop-k invariant-loop decreases-loop) → c.loop-k.from ≤ get_or c.args.ends.now c.loop-k.k 0
+above c = end_above _ _ _ _ c.loop-k.invariant.ahead c.loop-k-test.true
 
-within : (c : tie.In-loop-k invariant-loop decreases-loop) → get_or c.before.before.before.before.args.ends.now c.before.loop-k.k 0 ≤ length c.before.before.before.before.args.content.now
-within c = end_within _ _ _ _ c.before.loop-k.invariant.ahead c.loop-k-test.true
+within : (c : tie.In-loop-k invariant-loop decreases-loop) → get_or c.args.ends.now c.loop-k.k 0 ≤ length c.args.content.now
+within c = end_within _ _ _ _ c.loop-k.invariant.ahead c.loop-k-test.true
 
 -- where a cell is measured
 abbrev found : tie.After-struct_known-1 invariant-loop decreases-loop → tie.After-measure_cell-p invariant-loop decreases-loop
 found c = c.before
 
 -- the numbers that are added are small
-kept_small : (c : tie.After-struct_known-1 invariant-loop decreases-loop) → (found c).measure_cell-p.result.content + (found c).measure_cell-p.result.ellipsis ≤ 2097152
+kept_small : (c : tie.After-struct_known-1 invariant-loop decreases-loop) → (found c).measure-cell.result.content + (found c).measure-cell.result.ellipsis ≤ 2097152
 kept_small c =
     let f = found c in
-    let s = f.before.before.before.before.before.before.before in
     let n = within f.before.before.before in
-    let l = length_part f.before.before.before.before.loop-k.from (get_or s.args.ends.now f.before.before.before.before.loop-k.k 0) s.args.content.now n in
+    let l = length_part f.loop-k.from (get_or f.args.ends.now f.loop-k.k 0) f.args.content.now n in
     let k = f.measure_cell-p.ensures.1 in
-    omega (arith, k.0, k.1, l, n, s.requires.1.1.1, s.requires.1.1.2)
+    omega (arith, k.0, k.1, l, n, f.requires.1.1.1, f.requires.1.1.2)
 
-total-small : (c : tie.After-struct_known-1 invariant-loop decreases-loop) → (found c).before.before.before.before.loop-k.total ≤ 68157440
+total-small : (c : tie.After-struct_known-1 invariant-loop decreases-loop) → (found c).before.before.before.before.loop.total ≤ 68157440
 total-small c =
     let l = (found c).before.before.before in
     let s = l.before.before.before.before in
-    omega (arith, l.before.loop-k.invariant.small, above l, within l, l.loop-k-test.true, few _ _ s.requires.1.1.0, s.requires.1.1.1)
+    omega (arith, l.before.loop.invariant.small, above l, within l, l.loop-test.true, few _ _ s.requires.1.1.0, s.requires.1.1.1)
 
 loop-holds : tie.Need-loop-k-init invariant-loop decreases-loop
 loop-holds c =
-    sum_start _ _ _ _ c.before.before.requires.1.1.0
+    sum_start _ _ _ _ c.requires.1.1.0
 
 mul-end : tie.Need-offset_bounds-ends-k invariant-loop decreases-loop
 mul-end c = search rules
@@ -59,7 +58,7 @@ shared-slice-read-end c = search rules
 
 cast-end : tie.Need-overflow_cast-end invariant-loop decreases-loop
 cast-end c =
-    omega (arith, within c.before, c.before.before.before.before.before.requires.1.1.1)
+    omega (arith, within c.before, c.requires.1.1.1)
 
 sub-measure-cell : tie.Need-slice_bounds-measure_cell-count invariant-loop decreases-loop
 sub-measure-cell c = omega (arith, above c.before)
@@ -90,13 +89,13 @@ loop-less c = search rules
 loop-again : tie.Need-loop-k-preserved invariant-loop decreases-loop
 loop-again c =
     let f = found c in
-    let a = f.before.before.before.before.before.before.before.args in
+    let a = f.args in
     let k = f.measure_cell-p in
-    sum_next _ _ _ _ _ _ _ f.before.before.before.before.loop-k.invariant f.before.before.before.loop-k-test.true k.result _ _ refl refl k.ensures.0 k.ensures.1.0
-    (omega (arith, k.ensures.1.1, f.before.before.before.before.before.before.before.requires.1.1.2))
+    sum_next _ _ _ _ _ _ _ f.loop-k.invariant f.loop-k-test.true k.result _ _ refl refl k.ensures.0 k.ensures.1.0
+    (omega (arith, k.ensures.1.1, f.requires.1.1.2))
 
 returns : tie.Need-returns invariant-loop decreases-loop
-returns c = sum_end _ _ _ _ _ _ _ c.before.loop-k.invariant c.loop-k-test.false
+returns c = sum_end _ _ _ _ _ _ _ c.loop-k.invariant c.loop-k-test.false
 
 pub joined_len_spec : {M : Type 1} → statement M
 joined_len_spec =

@@ -15,9 +15,9 @@ text-width-requires c κs = search rules
 
 returns : tie.Need-returns-then-cell-max
 returns c =
-    let x = c.before.before.before.args in
+    let x = c.args in
     let w = c.text_width in
-    let k = cell_short x.m x.max w.result x.cell.now c.before.if-cell-max.true w.ensures.0 in
+    let k = cell_short x.m x.max w.result x.cell.now c.if-cell-max.true w.ensures.0 in
     (k.0, (omega arith, omega arith, k.1))
 
 truncate-end-pos-requires : tie.Need-truncate_end_pos-k-requires
@@ -46,12 +46,11 @@ add-t18 c = search rules
 
 returns-2 : tie.Need-returns-then-at-more
 returns-2 c =
-    let s = c.before.before.before.before.before.before.before.before.before.before in
-    let x = s.args in
-    let k = c.before.before.before.before.before.before.before.truncate_end_pos-k in
-    let r = c.before.before.before.before.truncate_end_pos-more in (
-      cell_whole x.m x.max x.cell.now _ _ _ _ _ s.requires.1 k.ensures.0.0 k.ensures.0.1 (part_to_end x.cell.now k.result.pos) r.ensures.0.0 r.ensures.0.1
-          c.before.before.if-at-more.true,
+    let x = c.args in
+    let k = c.truncate_end_pos-k in
+    let r = c.truncate_end_pos-more in (
+      cell_whole x.m x.max x.cell.now _ _ _ _ _ c.requires.1 k.ensures.0.0 k.ensures.0.1 (part_to_end x.cell.now k.result.pos) r.ensures.0.0 r.ensures.0.1
+          c.if-at-more.true,
       (omega arith, omega arith, omega (arith, k.ensures.1.1, r.ensures.1.1)),
     )
 
@@ -60,12 +59,11 @@ add-t9 c = search rules
 
 returns-3 : tie.Need-returns
 returns-3 c =
-    let s = c.before.before.before.before.before.before.before.before.before.before in
-    let x = s.args in
-    let k = c.before.before.before.before.before.before.before.truncate_end_pos-k in
-    let r = c.before.before.before.before.truncate_end_pos-more in (
-      cell_cut x.m x.max x.cell.now _ _ _ _ _ s.requires.1 k.ensures.0.0 k.ensures.0.1 (part_to_end x.cell.now k.result.pos) r.ensures.0.0 r.ensures.0.1
-          c.before.before.if-at-more.false,
+    let x = c.args in
+    let k = c.truncate_end_pos-k in
+    let r = c.truncate_end_pos-more in (
+      cell_cut x.m x.max x.cell.now _ _ _ _ _ c.requires.1 k.ensures.0.0 k.ensures.0.1 (part_to_end x.cell.now k.result.pos) r.ensures.0.0 r.ensures.0.1
+          c.if-at-more.false,
       (k.ensures.1.0, omega arith, omega (arith, k.ensures.1.1)),
     )
 

@@ -20,9 +20,9 @@ truncate-end-pos-requires c κs = search rules
 
 returns : tie.Need-returns
 returns c =
-    let a = c.before.before.before.before.args in
-    let w = c.before.before.text_width in
-    let l = c.before.less-room in
+    let a = c.args in
+    let w = c.text_width in
+    let l = c.less-room in
     let k = c.truncate_end_pos-k in
     let x = measured a.max w.result l.result k.result.pos k.result.width a.ellipsis.now w.ensures.0 l.ensures k.ensures.0.0 k.ensures.0.1 in
     (x.0, (k.ensures.1.0, x.1))

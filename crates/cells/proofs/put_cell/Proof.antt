@@ -14,42 +14,38 @@ add-put c = search rules
 
 put-requires : tie.Need-put-end-requires
 put-requires c κs =
-    let s = c.before.before.before.before.before in
-    let a = s.args in
-    let f = first_fits a.p a.content.now a.ellipsis.now a.from a.to a.at a.bytes-1.now s.requires.0.2 s.requires.0.1 _ s.requires.1.1 s.requires.1.0 in
-    (omega arith, omega (arith, s.requires.0), omega (arith, f))
+    let a = c.args in
+    let f = first_fits a.p a.content.now a.ellipsis.now a.from a.to a.at a.bytes.now c.requires.0.2 c.requires.0.1 _ c.requires.1.1 c.requires.1.0 in
+    (omega arith, omega (arith, c.requires.0), omega (arith, f))
 
 same_length : tie.Need-shape_of-bytes-then-not-p
 same_length c = search rules
 
 returns : tie.Need-returns-then-not-p
 returns c =
-    let s = c.before.before.before.before.before.before.before.before.before.before in
-    let a = s.args in
+    let a = c.args in
     let z = c.if-not-p.true in
-    let k = c.before.before.before.before.put-end in
-    put_whole a.p a.content.now a.ellipsis.now a.from a.to a.at a.bytes-1.now s.requires.0.2 s.requires.0.1 _ _ z (s.requires.1.0 z) k.ensures.0 k.ensures.1
+    let k = c.put-end in
+    put_whole a.p a.content.now a.ellipsis.now a.from a.to a.at a.bytes.now c.requires.0.2 c.requires.0.1 _ _ z (c.requires.1.0 z) k.ensures.0 k.ensures.1
 
 put-requires-2 : tie.Need-put-requires
 put-requires-2 c κs =
-    let s = c.before.before.before.before.before.before.before.before.before.before.before in
-    let a = s.args in
-    let z = c.before.if-not-p.false in
-    let k = c.before.before.before.before.before.put-end in
-    let f = second_fits a.p a.content.now a.ellipsis.now a.from a.to a.at a.bytes-1.now s.requires.0.2 s.requires.0.1 z s.requires.0.3 _ s.requires.1.1 in
-    (omega arith, s.requires.0.3, omega (arith, f, k.ensures.0, k.auto.0))
+    let a = c.args in
+    let z = not_false a.p.cut c.if-not-p.false in
+    let k = c.put-end in
+    let f = second_fits a.p a.content.now a.ellipsis.now a.from a.to a.at a.bytes.now c.requires.0.2 c.requires.0.1 z c.requires.0.3 _ c.requires.1.1 in
+    (omega arith, c.requires.0.3, omega (arith, f, k.ensures.0, k.auto.0))
 
 same-length-2 : tie.Need-shape_of-bytes
 same-length-2 c = search rules
 
 returns-2 : tie.Need-returns
 returns-2 c =
-    let s = c.before.before.before.before.before.before.before.before.before.before.before.before.before.before in
-    let a = s.args in
-    let z = c.before.before.before.before.if-not-p.false in
-    let k = c.before.before.before.before.before.before.before.before.put-end in
-    let l = c.before.before.put in
-    put_cut a.p a.content.now a.ellipsis.now a.from a.to a.at a.bytes-1.now s.requires.0.2 s.requires.0.1 z s.requires.0.3 _ _ _ _ (omega (arith, s.requires.1.1)) k.ensures.0
+    let a = c.args in
+    let z = not_false a.p.cut c.if-not-p.false in
+    let k = c.put-end in
+    let l = c.put in
+    put_cut a.p a.content.now a.ellipsis.now a.from a.to a.at a.bytes.now c.requires.0.2 c.requires.0.1 z c.requires.0.3 _ _ _ _ (omega (arith, c.requires.1.1)) k.ensures.0
     k.ensures.1 l.ensures.0 l.ensures.1
 
 pub put_cell_spec : {M : Type 1} → statement M

@@ -39,18 +39,18 @@ abbrev put : tie.After-struct_known-1 invariant-loop decreases-loop → tie.Afte
 put c = c.before.before.before.before
 
 -- what is known of the end that is read
-above : (c : tie.In-loop-k invariant-loop decreases-loop) → c.before.loop-k.from ≤ get_or (start c).args.ends.now c.before.loop-k.k 0
-above c = end_above _ _ _ _ c.before.loop-k.invariant.ahead c.loop-k-test.true
+above : (c : tie.In-loop-k invariant-loop decreases-loop) → c.loop-k.from ≤ get_or (start c).args.ends.now c.loop-k.k 0
+above c = end_above _ _ _ _ c.loop-k.invariant.ahead c.loop-k-test.true
 
-within : (c : tie.In-loop-k invariant-loop decreases-loop) → get_or (start c).args.ends.now c.before.loop-k.k 0 ≤ length (start c).args.content.now
-within c = end_within _ _ _ _ c.before.loop-k.invariant.ahead c.loop-k-test.true
+within : (c : tie.In-loop-k invariant-loop decreases-loop) → get_or (start c).args.ends.now c.loop-k.k 0 ≤ length (start c).args.content.now
+within c = end_within _ _ _ _ c.loop-k.invariant.ahead c.loop-k-test.true
 
 -- the end that is read, and the cell up to it
 abbrev end : tie.In-loop-k invariant-loop decreases-loop → ℕ
-end c = get_or (start c).args.ends.now c.before.loop-k.k 0
+end c = get_or (start c).args.ends.now c.loop-k.k 0
 
 abbrev cell : tie.In-loop-k invariant-loop decreases-loop → List ℕ
-cell c = part c.before.loop-k.from (end c) (start c).args.content.now
+cell c = part c.loop-k.from (end c) (start c).args.content.now
 
 planned : (c : tie.After-measure_cell-p invariant-loop decreases-loop)
     → c.measure_cell-p.result ≡ plan_with (mark_of (start (turn c)).args.max-width (start (turn c)).args.ellipsis.now) (start (turn c)).args.max-width (cell (turn c))
@@ -60,7 +60,7 @@ planned c =
 
 loop-holds : tie.Need-loop-k-init invariant-loop decreases-loop
 loop-holds c =
-    write_start _ _ _ _ _ _ c.before.before.before.before.before.requires.1.1.0
+    write_start _ _ _ _ _ _ c.requires.1.1.0
 
 mul-end : tie.Need-offset_bounds-ends-k invariant-loop decreases-loop
 mul-end c = search rules
@@ -70,7 +70,7 @@ shared-slice-read-end c = search rules
 
 cast-end : tie.Need-overflow_cast-end invariant-loop decreases-loop
 cast-end c =
-    omega (arith, c.shared_slice_known-in-loop-k-1.given c.before.before.loop-k.k)
+    omega (arith, c.shared_slice_known-in-loop-k-1.given c.loop-k.k)
 
 sub-measure-cell : tie.Need-slice_bounds-measure_cell-count invariant-loop decreases-loop
 sub-measure-cell c = omega (arith, above c.before)
@@ -86,15 +86,14 @@ measure-cell-requires c κs = search rules
 
 put-cell-requires : tie.Need-put_cell-at-requires invariant-loop decreases-loop
 put-cell-requires c κs =
-    let f = c.before in
-    let l = turn f in
+    let l = turn c.before in
     let s = start l in
-    let k = f.measure_cell-p in
-    let n = length_part l.before.loop-k.from (end l) s.args.content.now (within l) in (
+    let k = c.measure_cell-p in
+    let n = length_part l.loop-k.from (end l) s.args.content.now (within l) in (
       (above l, within l, omega (arith, k.ensures.1.0, n), omega (arith, k.ensures.1.1, s.requires.1.0.2)),
       (
-        λ z. uncut s.args.max-width s.args.ellipsis.now (cell l) k.result (planned f) z ∙ n,
-        cell_fits _ _ _ _ _ _ _ _ _ _ _ l.before.loop-k.invariant l.loop-k-test.true k.result (cell l) (end l) refl refl (planned f) s.requires.1.1.1.1,
+        λ z. uncut s.args.max_width s.args.ellipsis.now (cell l) k.result (planned c.before) z ∙ n,
+        cell_fits _ _ _ _ _ _ _ _ _ _ _ l.loop-k.invariant l.loop-k-test.true k.result (cell l) (end l) refl refl (planned c.before) s.requires.1.1.1.1,
       ),
     )
 
@@ -105,54 +104,50 @@ mul-set-cell c =
 
 cast-set-cell : tie.Need-overflow_cast-at invariant-loop decreases-loop
 cast-set-cell c =
-    let p = c.before.before.before in
-    let f = p.before.before in
-    let l = turn f in
+    let l = turn c.before.before.before.before.before in
     omega (
       arith,
-      p.put_cell-at.ensures.0,
-      end_small _ _ _ _ _ _ _ _ _ _ _ l.before.loop-k.invariant l.loop-k-test.true f.measure_cell-p.result (cell l) (end l) refl refl (planned f) (start l).requires.1.1.1.0,
+      c.put_cell-at.ensures.0,
+      end_small _ _ _ _ _ _ _ _ _ _ _ l.loop-k.invariant l.loop-k-test.true c.measure_cell-p.result (cell l) (end l) refl refl (planned c.before.before.before.before.before) (start l).requires.1.1.1.0,
     )
 
 cast-set-cell-2 : tie.Need-overflow_cast-p invariant-loop decreases-loop
 cast-set-cell-2 c =
     let f = (put c).before.before in
-    omega (arith, f.measure_cell-p.ensures.1.2, (start (turn f)).fits)
+    omega (arith, f.measure-cell.ensures.1.2, (start (turn f)).fits)
 
 set-cell-requires : tie.Need-set_cell-requires invariant-loop decreases-loop
 set-cell-requires c κs =
     let f = (put c).before.before in
     let l = turn f in
-    numbers_fit _ _ _ _ _ _ _ _ _ _ _ l.before.loop-k.invariant l.loop-k-test.true f.measure_cell-p.result (cell l) (end l) refl refl (planned f) (start l).requires.1.1.1.2
+    numbers_fit _ _ _ _ _ _ _ _ _ _ _ l.before.loop.invariant l.loop-test.true f.measure-cell.result (cell l) (end l) refl refl (planned f) (start l).requires.1.1.1.2
 
 add-k : tie.Need-overflow_add-k invariant-loop decreases-loop
 add-k c =
     let l = turn (put c.before.before.before).before.before in
-    omega (arith, l.loop-k-test.true, few _ _ (start l).requires.1.1.0)
+    omega (arith, l.loop-test.true, few _ _ (start l).requires.1.1.0)
 
 loop-less : tie.Need-loop-k-smaller invariant-loop decreases-loop
 loop-less c =
     let l = turn (put c.before.before.before).before.before in
-    omega (arith, l.loop-k-test.true)
+    omega (arith, l.loop-test.true)
 
 loop-again : tie.Need-loop-k-preserved invariant-loop decreases-loop
 loop-again c =
-    let n = c.before.before in
-    let p = put n.before in
-    let f = p.before.before in
-    let l = turn f in
-    write_next _ _ _ _ _ _ _ _ _ _ _ l.before.loop-k.invariant l.loop-k-test.true f.measure_cell-p.result (cell l) (end l) refl refl (planned f) _ _ _ p.put_cell-at.ensures.0 p.put_cell-at.ensures.1
-    p.put_cell-at.kept.0 n.set_cell.ensures n.set_cell.auto.0
+    let p = put c.before.before.before in
+    let l = turn p.before.before in
+    write_next _ _ _ _ _ _ _ _ _ _ _ l.loop-k.invariant l.loop-k-test.true p.measure_cell-p.result (cell l) (end l) refl refl (planned p.before.before) _ _ _ p.put_cell-at.ensures.0 p.put_cell-at.ensures.1
+    p.put_cell-at.kept.0 c.set_cell.ensures c.set_cell.auto.0
 
 same_length : tie.Need-shape_of-bytes invariant-loop decreases-loop
-same_length c = c.before.loop-k.invariant.bytes-1.long
+same_length c = c.loop-k.invariant.bytes.long
 
 same-length-2 : tie.Need-shape_of-cells invariant-loop decreases-loop
-same-length-2 c = c.before.loop-k.invariant.numbers.long
+same-length-2 c = c.loop-k.invariant.numbers.long
 
 returns : tie.Need-returns invariant-loop decreases-loop
 returns c =
-    let l = c.before.loop-k in
+    let l = c.loop-k in
     let w = write_end _ _ _ _ _ _ _ _ _ _ _ l.invariant c.loop-k-test.false in
     (w.0, (w.1, w.2))
 

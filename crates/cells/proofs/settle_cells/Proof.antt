@@ -17,17 +17,15 @@ use Rattle.writer.proofs.settle.Reads as settle-reads
 
 mul-numbers : tie.Need-overflow_mul-numbers
 mul-numbers c =
-    omega (arith, few _ _ c.before.before.requires.1.1.0)
+    omega (arith, few _ _ c.requires.1.1.0)
 
 mul-settle : tie.Need-overflow_mul-ends
 mul-settle c =
-    let s = c.before.before.before in
-    omega (arith, product_small s.args.m s.args.ends.now _ s.requires.1.1.0 s.requires.1.1.2)
+    omega (arith, product_small c.args.m c.args.ends.now _ c.requires.1.1.0 c.requires.1.1.2)
 
 add-settle : tie.Need-overflow_add-content
 add-settle c =
-    let s = c.before.before.before in
-    omega (arith, product_small s.args.m s.args.ends.now _ s.requires.1.1.0 s.requires.1.1.2, s.requires.1.1.1)
+    omega (arith, product_small c.args.m c.args.ends.now _ c.requires.1.1.0 c.requires.1.1.2, c.requires.1.1.1)
 
 settle-requires : tie.Need-settle-largest-requires
 settle-requires c κs = search rules
@@ -38,10 +36,9 @@ enum_told c = search rules
 returns : tie.Need-returns-in-Room
 unfolding settled_fault
 returns c =
-    let s = c.before.before.before.before.before.before in
-    let a = s.args in
-    let h = sym c.before.before.settle-largest.ensures ∙ ap settled_fault c.enum_told-1.given.1 in
-    sym (smaller_fits _ _ _ _ _ _ _ h (most_bytes a.m a.max a.ends.now a.content.now s.requires.1.1.0) (omega arith))
+    let a = c.args in
+    let h = sym c.settle-largest.ensures ∙ ap settled_fault c.in-Room.is in
+    sym (smaller_fits _ _ _ _ _ _ _ h (most_bytes a.m a.max a.ends.now a.content.now c.requires.1.1.0) (omega arith))
 
 enum-told-2 : tie.Need-enum_told-in-Refused
 enum-told-2 c = search rules
@@ -54,8 +51,8 @@ settle-requires-2 c κs = search rules
 
 returns-2 : tie.Need-returns
 returns-2 c =
-    let a = c.before.before.before.before.before.before.before.before.args in
-    c.settle.ensures ∙ ap (λ (n : ℕ). sizes_fault n 0 0 (length a.ends.now * 2) (room_of_state a.bytes 0 0 a.cells)) c.before.joined_len.ensures
+    let a = c.args in
+    c.settle.ensures ∙ ap (λ (n : ℕ). sizes_fault n 0 0 (length a.ends.now * 2) (room_of_state a.bytes 0 0 a.cells)) c.joined_len.ensures
 
 pub settle_cells_spec : {M : Type 1} → statement M
 settle_cells_spec =

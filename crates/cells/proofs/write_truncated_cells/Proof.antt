@@ -26,7 +26,7 @@ abbrev start : tie.Else-wrong_ends → tie.Start
 start c = c.before.before.before.before.before.before.before.before.before
 
 right : (c : tie.Else-wrong_ends) → wrong_ends_of (start c).args.ends.now (length (start c).args.content.now) ≡ false
-right c = sym c.before.wrong_ends.ensures ∙ c.if-wrong_ends.false
+right c = sym c.wrong_ends.ensures ∙ c.if-wrong_ends.false
 
 -- once the sizes are settled
 abbrev tested : tie.After-settle_cells-verdict → tie.Else-wrong_ends
@@ -36,32 +36,32 @@ settled : (c : tie.After-settle_cells-verdict)
     → let a = (start (tested c)).args in
     settled_fault c.settle_cells-verdict.result
     ≡ sizes_fault (length_with (mark_of a.max-width a.ellipsis.now) a.max-width (parts a.ends.now a.content.now)) 0 0 (length a.ends.now * 2)
-    (room_of_state (length a.bytes-1.now) 0 0 (length a.cells-1.now))
+    (room_of_state (length a.bytes.now) 0 0 (length a.cells.now))
 settled c =
     let a = (start (tested c)).args in
     c.settle_cells-verdict.ensures
-    ∙ ap (λ (k : Mark). sizes_fault (length_with k a.max-width (parts a.ends.now a.content.now)) 0 0 (length a.ends.now * 2) (room_of_state (length a.bytes-1.now) 0 0 (length a.cells-1.now)))
-    c.before.before.measure_ellipsis-m.ensures.0
+    ∙ ap (λ (k : Mark). sizes_fault (length_with k a.max-width (parts a.ends.now a.content.now)) 0 0 (length a.ends.now * 2) (room_of_state (length a.bytes.now) 0 0 (length a.cells.now)))
+    c.measure_ellipsis-m.ensures.0
 
 -- ── what is asked on the way
 returns : tie.Need-returns-then-content-gt-DATA_LIMIT
 returns c =
-    let a = c.before.before.before.before.before.before.args in
-    data_refused a.max-width a.ends.now a.ellipsis.now a.content.now a.bytes-1.now a.cells-1.now c.if-content-gt-DATA_LIMIT.true
+    let a = c.args in
+    data_refused a.max-width a.ends.now a.ellipsis.now a.content.now a.bytes.now a.cells.now c.if-content-gt-DATA_LIMIT.true
 
 returns-2 : tie.Need-returns-then-ellipsis-gt-DATA_LIMIT
 returns-2 c =
-    let a = c.before.before.before.before.before.before.before.args in
-    ellipsis_refused a.max-width a.ends.now a.ellipsis.now a.content.now a.bytes-1.now a.cells-1.now c.before.if-content-gt-DATA_LIMIT.false c.if-ellipsis-gt-DATA_LIMIT.true
+    let a = c.args in
+    ellipsis_refused a.max-width a.ends.now a.ellipsis.now a.content.now a.bytes.now a.cells.now c.if-content-gt-DATA_LIMIT.false c.if-ellipsis-gt-DATA_LIMIT.true
 
 wrong-ends-requires : tie.Need-wrong_ends-requires
 wrong-ends-requires c κs = search rules
 
 returns-3 : tie.Need-returns-then-wrong_ends
 returns-3 c =
-    let a = c.before.before.before.before.before.before.before.before.before.args in
-    let w = c.before.wrong_ends in
-    ends_refused a.max-width a.ends.now a.ellipsis.now a.content.now a.bytes-1.now a.cells-1.now c.before.before.before.if-content-gt-DATA_LIMIT.false c.before.before.if-ellipsis-gt-DATA_LIMIT.false
+    let a = c.args in
+    let w = c.wrong_ends in
+    ends_refused a.max-width a.ends.now a.ellipsis.now a.content.now a.bytes.now a.cells.now c.if-content-gt-DATA_LIMIT.false c.if-ellipsis-gt-DATA_LIMIT.false
     (sym w.ensures ∙ c.if-wrong_ends.true)
 
 measure-ellipsis-requires : tie.Need-measure_ellipsis-m-requires
@@ -71,20 +71,18 @@ measure-ellipsis-requires c κs = refl
 settle-cells-requires : tie.Need-settle_cells-verdict-requires
 unfolding lead_table
 settle-cells-requires c κs =
-    let t = c.before.before.before in
-    let k = c.before.measure_ellipsis-m in
-    (refl, (k.ensures.1.1, (right t, t.before.before.before.if-content-gt-DATA_LIMIT.false, omega (arith, k.ensures.1.0, t.before.before.if-ellipsis-gt-DATA_LIMIT.false))))
+    let k = c.measure_ellipsis-m in
+    (refl, (k.ensures.1.1, (right c.before.before.before, c.if-content-gt-DATA_LIMIT.false, omega (arith, k.ensures.1.0, c.if-ellipsis-gt-DATA_LIMIT.false))))
 
 enum-known-verdict : tie.Need-enum_known-verdict
 enum-known-verdict c = search rules
 
 returns-4 : tie.Need-returns-in-Refused
 returns-4 c =
-    let k = c.before.before.before in
-    let t = tested k in
+    let t = tested c.before in
     let a = (start t).args in
-    sizes_refused a.max-width a.ends.now a.ellipsis.now a.content.now a.bytes-1.now a.cells-1.now t.before.before.before.if-content-gt-DATA_LIMIT.false t.before.before.if-ellipsis-gt-DATA_LIMIT.false (right t)
-    k.settle_cells-verdict.result (settled k) c.before.verdict-1.given.0.0 c.before.verdict-1.given.1
+    sizes_refused a.max-width a.ends.now a.ellipsis.now a.content.now a.bytes.now a.cells.now t.if-content-gt-DATA_LIMIT.false t.if-ellipsis-gt-DATA_LIMIT.false (right t)
+    c.settle_cells-verdict.result (settled c.before) c.in-Refused.f c.in-Refused.is
 
 enum_told : tie.Need-enum_told-1
 enum_told c = search rules
@@ -92,12 +90,11 @@ enum_told c = search rules
 put-cells-requires : tie.Need-put_cells-end-requires
 unfolding lead_table
 put-cells-requires c κs =
-    let k = c.before.before.before.before.before in
-    let t = tested k in
+    let t = tested c.before.before.before.before in
     let a = (start t).args in
-    let m = k.before.before.measure_ellipsis-m in
-    let h = has_room a.max-width a.ends.now a.ellipsis.now a.content.now a.bytes-1.now a.cells-1.now t.before.before.before.if-content-gt-DATA_LIMIT.false t.before.before.if-ellipsis-gt-DATA_LIMIT.false (right t)
-    k.settle_cells-verdict.result (settled k) c.before.before.before.enum_told-1.given.1 in
+    let m = c.measure_ellipsis-m in
+    let h = has_room a.max-width a.ends.now a.ellipsis.now a.content.now a.bytes.now a.cells.now t.if-content-gt-DATA_LIMIT.false t.if-ellipsis-gt-DATA_LIMIT.false (right t)
+    c.settle_cells-verdict.result (settled c.before.before.before.before) c.in-Room.is in
     (refl, ((m.ensures.0, m.ensures.1.1, m.ensures.1.0), (right t, h)))
 
 same_length : tie.Need-shape_of-bytes
@@ -108,13 +105,11 @@ same-length-2 c = search rules
 
 returns-5 : tie.Need-returns
 returns-5 c =
-    let w = c.before.before.before.before in
-    let k = w.before.before.before.before.before.before in
-    let t = tested k in
+    let t = tested c.before.before.before.before.before.before.before.before.before in
     let a = (start t).args in
-    let e = w.put_cells-end.ensures in
-    written a.max-width a.ends.now a.ellipsis.now a.content.now a.bytes-1.now a.cells-1.now t.before.before.before.if-content-gt-DATA_LIMIT.false t.before.before.if-ellipsis-gt-DATA_LIMIT.false (right t)
-    k.settle_cells-verdict.result (settled k) w.before.before.before.before.enum_told-1.given.1 _ _ _ e.0 e.1.0 e.1.1
+    let e = c.put_cells-end.ensures in
+    written a.max-width a.ends.now a.ellipsis.now a.content.now a.bytes.now a.cells.now t.if-content-gt-DATA_LIMIT.false t.if-ellipsis-gt-DATA_LIMIT.false (right t)
+    c.settle_cells-verdict.result (settled c.before.before.before.before.before.before.before.before.before) c.in-Room.is _ _ _ e.0 e.1.0 e.1.1
 
 pub write_truncated_cells_spec : {M : Type 1} → statement M
 write_truncated_cells_spec =

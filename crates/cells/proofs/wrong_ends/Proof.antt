@@ -34,12 +34,12 @@ shared-slice-read-end c = search rules
 
 cast-end : tie.Need-overflow_cast-end invariant-loop decreases-loop
 cast-end c =
-    omega (arith, c.shared_slice_known-1.given c.before.before.loop-k.k)
+    omega (arith, c.shared_slice_known-1.given c.loop-k.k)
 
 returns-2 : tie.Need-returns-then-end-last invariant-loop decreases-loop
 returns-2 c =
-    let l = c.before.before.before.loop-k in
-    falls _ _ (sym l.invariant.1 ∙ never_falls _ l.k l.last c.before.before.loop-k-test.true c.if-end-last.true)
+    let l = c.loop-k in
+    falls _ _ (sym l.invariant.1 ∙ never_falls _ l.k l.last c.loop-k-test.true c.if-end-last.true)
 
 add-k : tie.Need-overflow_add-k invariant-loop decreases-loop
 add-k c = search rules
@@ -49,8 +49,8 @@ loop-less c = search rules
 
 loop-again : tie.Need-loop-k-preserved invariant-loop decreases-loop
 loop-again c =
-    let l = c.before.before.before.loop-k in
-    let more = c.before.before.loop-k-test.true in (
+    let l = c.loop-k in
+    let more = c.loop-k-test.true in (
       omega (arith, more),
       sym (never_next _ l.k l.last more c.if-end-last.false) ∙ l.invariant.1,
       sym (last_next _ l.k l.last more) ∙ l.invariant.2,
@@ -58,12 +58,12 @@ loop-again c =
 
 returns-3 : tie.Need-returns invariant-loop decreases-loop
 returns-3 c =
-    let l = c.before.loop-k in
+    let l = c.loop-k in
     let z = none_left _ l.k c.loop-k-test.false in
     let never = sym l.invariant.1 ∙ ap (never_fall l.last) z in
     let last = ap (last_end l.last) (sym z) ∙ l.invariant.2 in
-    let n = c.before.before.before.args.n in
-    ap (λ (j : ℕ). not (eqb j n)) last ∙ judged _ _ c.before.before.if-ends-gt-CELL_LIMIT.false never
+    let n = c.args.n in
+    ap (λ (j : ℕ). not (eqb j n)) last ∙ judged _ _ c.if-ends-gt-CELL_LIMIT.false never
 
 pub wrong_ends_spec : {M : Type 1} → statement M
 wrong_ends_spec =

@@ -7,11 +7,11 @@ use Rattle.char_runs.proofs.continues.Lts as lts
 
 returns : tie.Need-returns-then-b-lt128
 returns c =
-    rw (lt-leb 0x80 c.before.args.b c.if-b-lt128.true)
+    rw (lt-leb 0x80 c.args.b c.if-b-lt128.true)
 
 returns-2 : tie.Need-returns
 returns-2 c =
-    rw (le-leb 0x80 c.before.args.b c.if-b-lt128.false)
+    rw (le-leb 0x80 c.args.b c.if-b-lt128.false)
 
 pub continues_spec : {M : Type 1} → statement M
 continues_spec = tie.close (tie.spec returns returns-2)

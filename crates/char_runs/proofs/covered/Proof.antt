@@ -33,23 +33,21 @@ sub-width c = search rules
 
 loop-holds : tie.Need-loop-i-init invariant-loop decreases-loop
 loop-holds c =
-    let s = c.before.before in
-    let a = s.args in
+    let a = c.args in
     let v = c.visible_end-i in
     let i : a.at + (v.result - a.at) ≡ v.result = omega (arith, v.ensures.0) in
-    rw i at (plain-visible a.s.now a.at a.end (v.result - a.at) (omega (arith, v.ensures.0, v.ensures.1)) s.requires.1.1 (rw i v.ensures.2))
+    rw i at (plain-visible a.s.now a.at a.end (v.result - a.at) (omega (arith, v.ensures.0, v.ensures.1)) c.requires.1.1 (rw i v.ensures.2))
 
 shared-slice-read-if1 : tie.Need-bounds-s-i invariant-loop decreases-loop
 shared-slice-read-if1 c = search rules
 
 returns : tie.Need-returns-then-s-i-eq10 invariant-loop decreases-loop
 returns c =
-    let l = c.before.before.before.loop-i in
-    let s = c.before.before.before.before.before.before in
-    let a = s.args in
+    let l = c.loop-i in
+    let a = c.args in
     let none : l.i ≡ a.at → same (char_in a.at a.s.now).text (0x0A ∷ []) ≡ false → Passes a.s.now a.at a.end =
     λ e n. absurd (false≢true (sym n ∙ newline_alone a.s.now a.at (subst (λ (i : ℕ). get_or a.s.now i 0 ≡ 0x0A) e c.if-s-i-eq10.true))) in
-    plain_covered a.s.now a.at a.end l.i l.width s.requires.1.1 l.invariant none
+    plain_covered a.s.now a.at a.end l.i l.width c.requires.1.1 l.invariant none
 
 seen-at-requires : tie.Need-seen_at-c-requires invariant-loop decreases-loop
 seen-at-requires c κs = search rules
@@ -59,11 +57,10 @@ add-if2 c = search rules
 
 returns-2 : tie.Need-returns-then-end-i invariant-loop decreases-loop
 returns-2 c =
-    let l = c.before.before.before.before.before.before.loop-i in
-    let s = c.before.before.before.before.before.before.before.before.before in
-    let a = s.args in
-    let passes : Passes a.s.now l.i a.end = omega (arith, c.before.before.seen_at-c.ensures.0.0, c.if-end-i.true) in
-    plain_covered a.s.now a.at a.end l.i l.width s.requires.1.1 l.invariant (λ e n. subst (λ (i : ℕ). Passes a.s.now i a.end) e passes)
+    let l = c.loop-i in
+    let a = c.args in
+    let passes : Passes a.s.now l.i a.end = omega (arith, c.seen_at-c.ensures.0.0, c.if-end-i.true) in
+    plain_covered a.s.now a.at a.end l.i l.width c.requires.1.1 l.invariant (λ e n. subst (λ (i : ℕ). Passes a.s.now i a.end) e passes)
 
 cast-width : tie.Need-overflow_cast-width invariant-loop decreases-loop
 cast-width c = search rules
@@ -79,20 +76,18 @@ loop-less c = search rules
 
 loop-again : tie.Need-loop-i-preserved invariant-loop decreases-loop
 loop-again c =
-    let l = c.before.before.before.before.before.before.before.before.loop-i in
-    let k = c.before.before.before.before.seen_at-c in
-    let s = c.before.before.before.before.before.before.before.before.before.before.before in
-    let a = s.args in
-    let more : l.i < length a.s.now = omega (arith, c.before.before.before.before.before.before.before.loop-i-test.true, s.requires.1.1) in
-    plain_further a.s.now a.at a.end l.i l.width k.result.len k.result.width more (omega (arith, c.before.before.if-end-i.false))
-    k.ensures.1.0 k.ensures.1.2 k.ensures.0.0 k.ensures.0.1 c.before.before.before.before.before.if-s-i-eq10.false l.invariant
+    let l = c.loop-i in
+    let k = c.seen_at-c in
+    let a = c.args in
+    let more : l.i < length a.s.now = omega (arith, c.loop-i-test.true, c.requires.1.1) in
+    plain_further a.s.now a.at a.end l.i l.width k.result.len k.result.width more (omega (arith, c.if-end-i.false))
+    k.ensures.1.0 k.ensures.1.2 k.ensures.0.0 k.ensures.0.1 c.if-s-i-eq10.false l.invariant
 
 returns-3 : tie.Need-returns invariant-loop decreases-loop
 returns-3 c =
-    let l = c.before.loop-i in
-    let s = c.before.before.before.before in
-    let a = s.args in
-    plain_covered a.s.now a.at a.end l.i l.width s.requires.1.1 l.invariant (λ e n. absurd (omega (arith, e, c.loop-i-test.false, s.requires.1.0)))
+    let l = c.loop-i in
+    let a = c.args in
+    plain_covered a.s.now a.at a.end l.i l.width c.requires.1.1 l.invariant (λ e n. absurd (omega (arith, e, c.loop-i-test.false, c.requires.1.0)))
 
 pub covered_spec : {M : Type 1} → statement M
 covered_spec =

@@ -34,10 +34,9 @@ continues-requires c κs = search rules
 
 returns : tie.Need-returns-then-not-continues invariant-loop decreases-loop
 returns c =
-    let l = c.before.before.before.before.loop-i in
-    let s = c.before.before.before.before.before.before in
-    let k = c.before.continues in
-    let seam = seam-byte s.args.s.now s.args.at l.i l.invariant.0 (omega (arith, l.invariant.1, s.requires.1)) (sym k.ensures ∙ c.if-not-continues.true) in
+    let l = c.loop-i in
+    let k = c.continues in
+    let seam = seam-byte c.args.s.now c.args.at l.i l.invariant.0 (omega (arith, l.invariant.1, c.requires.1)) (sym k.ensures ∙ c.if-not-continues.true) in
     (l.invariant.0, l.invariant.1, seam)
 
 sub-i-2 : tie.Need-overflow_sub-i-in-loop-i invariant-loop decreases-loop
@@ -51,8 +50,7 @@ loop-again c = search rules
 
 returns-2 : tie.Need-returns invariant-loop decreases-loop
 returns-2 c =
-    let s = c.before.before.before in
-    (omega arith, s.requires.0, seam_none s.args.s.now s.args.at)
+    (omega arith, c.requires.0, seam_none c.args.s.now c.args.at)
 
 pub near_start_spec : {M : Type 1} → statement M
 near_start_spec =

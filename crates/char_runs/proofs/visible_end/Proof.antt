@@ -32,8 +32,8 @@ loop-less c = search rules
 
 loop-again : tie.Need-loop-i-preserved invariant-loop decreases-loop
 loop-again c =
-    let l = c.before.before.before.before.before.loop-i in
-    let more = below_more _ _ l.invariant.2 (λ p. (omega (arith, c.before.before.if-s-i-lt32.false), omega (arith, c.if-s-i-ge127.false))) in
+    let l = c.loop-i in
+    let more = below_more _ _ l.invariant.2 (λ p. (omega (arith, c.if-s-i-lt32.false), omega (arith, c.if-s-i-ge127.false))) in
     (search rules, search rules, more)
 
 returns : tie.Need-returns-after-loop-i invariant-loop decreases-loop

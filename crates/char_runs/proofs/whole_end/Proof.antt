@@ -27,10 +27,9 @@ decreases-loop t s at end i₀ i =
 
 returns : tie.Need-returns-then-end-s invariant-loop decreases-loop
 returns c =
-    let s = c.before.before in
-    let a = s.args in
-    let seam = seam_end a.s.now a.at a.end (omega (arith, s.requires.1.0)) c.if-end-s.true in
-    record { from = omega (arith, s.requires.1.0); to = omega arith; seam = seam; none = λ e. absurd (omega (arith, e, s.requires.1.0)) }
+    let a = c.args in
+    let seam = seam_end a.s.now a.at a.end (omega (arith, c.requires.1.0)) c.if-end-s.true in
+    record { from = omega (arith, c.requires.1.0); to = omega arith; seam = seam; none = λ e. absurd (omega (arith, e, c.requires.1.0)) }
 
 shared-slice-read-continues : tie.Need-bounds-s-end invariant-loop decreases-loop
 shared-slice-read-continues c = search rules
@@ -40,12 +39,11 @@ continues-requires c κs = search rules
 
 returns-2 : tie.Need-returns-then-not-continues invariant-loop decreases-loop
 returns-2 c =
-    let s = c.before.before.before.before.before in
-    let a = s.args in
-    let k = c.before.continues in
-    let more : a.end < length a.s.now = omega (arith, s.requires.1.1, c.before.before.before.if-end-s.false) in
-    let seam = seam-byte a.s.now a.at a.end (omega (arith, s.requires.1.0)) more (sym k.ensures ∙ c.if-not-continues.true) in
-    record { from = omega (arith, s.requires.1.0); to = omega arith; seam = seam; none = λ e. absurd (omega (arith, e, s.requires.1.0)) }
+    let a = c.args in
+    let k = c.continues in
+    let more : a.end < length a.s.now = omega (arith, c.requires.1.1, c.if-end-s.false) in
+    let seam = seam-byte a.s.now a.at a.end (omega (arith, c.requires.1.0)) more (sym k.ensures ∙ c.if-not-continues.true) in
+    record { from = omega (arith, c.requires.1.0); to = omega arith; seam = seam; none = λ e. absurd (omega (arith, e, c.requires.1.0)) }
 
 near-start-requires : tie.Need-near_start-i-requires invariant-loop decreases-loop
 near-start-requires c κs = search rules
@@ -57,17 +55,16 @@ loop-holds c =
 
 seen-at-requires : tie.Need-seen_at-c-requires invariant-loop decreases-loop
 seen-at-requires c κs =
-    let s = c.before.before.before.before.before.before.before.before in
-    (s.requires.0, omega (arith, c.loop-i-test.true, s.requires.1.1))
+    (c.requires.0, omega (arith, c.loop-i-test.true, c.requires.1.1))
 
 add-if3 : tie.Need-overflow_add-i invariant-loop decreases-loop
 add-if3 c = search rules
 
 returns-3 : tie.Need-returns-then-end-i invariant-loop decreases-loop
 returns-3 c =
-    let l = c.before.before.before.before.loop-i in
-    let k = c.before.before.seen_at-c in
-    let a = c.before.before.before.before.before.before.before.before.before.before.before.args in
+    let l = c.loop-i in
+    let k = c.seen_at-c in
+    let a = c.args in
     record {
       from = l.invariant.0;
       to = l.invariant.1;
@@ -83,15 +80,14 @@ loop-less c = search rules
 
 loop-again : tie.Need-loop-i-preserved invariant-loop decreases-loop
 loop-again c =
-    let l = c.before.before.before.before.before.loop-i in
-    let k = c.before.before.before.seen_at-c in
-    let s = c.before.before.before.before.before.before.before.before.before.before.before.before in
-    let more : l.i < length s.args.s.now = omega (arith, c.before.before.before.before.loop-i-test.true, s.requires.1.1) in
-    (search rules, search rules, (char_further s.args.s.now s.args.at l.i k.result.len l.invariant.0 more k.ensures.0.0 l.invariant.2).0)
+    let l = c.loop-i in
+    let k = c.seen_at-c in
+    let more : l.i < length c.args.s.now = omega (arith, c.loop-i-test.true, c.requires.1.1) in
+    (search rules, search rules, (char_further c.args.s.now c.args.at l.i k.result.len l.invariant.0 more k.ensures.0.0 l.invariant.2).0)
 
 returns-4 : tie.Need-returns invariant-loop decreases-loop
 returns-4 c =
-    let l = c.before.loop-i in
+    let l = c.loop-i in
     record {
       from = l.invariant.0;
       to = l.invariant.1;
@@ -100,7 +96,7 @@ returns-4 c =
         arith,
         e,
         c.loop-i-test.false,
-        c.before.before.before.before.before.before.before.before.requires.1.0,
+        c.requires.1.0,
       ));
     }
 

@@ -17,9 +17,6 @@ use Rattle.elide.proofs.fault.Reads as fault-reads
 use Rattle.elide.proofs.missing.Reads as missing-reads
 use Rattle.elide.proofs.write_parts.Reads as write-parts-reads
 
-slice-aggregate-fault : tie.Need-slice-aggregate-fault
-slice-aggregate-fault c = search rules
-
 fault-requires : tie.Need-fault-f-requires
 unfolding lead_table
 fault-requires c κs = search rules
@@ -27,33 +24,30 @@ fault-requires c κs = search rules
 returns : tie.Need-returns-then-f-eq1
 unfolding answer_of returned lent_after
 returns c =
-    let x = c.before.before.before.before.before.before.args in
-    let f = c.before.fault-f in
-    let e : complete_newline_outcome (length x.out-1.now) x.text.now ≡ refused 1 = newline_faulty (length x.out-1.now) x.text.now 1 (sym c.if-f-eq1.true ∙ f.ensures.0)
+    let x = c.args in
+    let f = c.fault-f in
+    let e : complete_newline_outcome (length x.out.now) x.text.now ≡ refused 1 = newline_faulty (length x.out.now) x.text.now 1 (sym c.if-f-eq1.true ∙ f.ensures.0)
     (λ z. omega (arith, z)) in
     (simp e, simp e)
 
 returns-2 : tie.Need-returns-then-f-eq7
 unfolding answer_of returned lent_after
 returns-2 c =
-    let x = c.before.before.before.before.before.before.before.args in
-    let f = c.before.before.fault-f in
-    let e : complete_newline_outcome (length x.out-1.now) x.text.now ≡ refused 7 = newline_faulty (length x.out-1.now) x.text.now 7 (sym c.if-f-eq7.true ∙ f.ensures.0)
+    let x = c.args in
+    let f = c.fault-f in
+    let e : complete_newline_outcome (length x.out.now) x.text.now ≡ refused 7 = newline_faulty (length x.out.now) x.text.now 7 (sym c.if-f-eq7.true ∙ f.ensures.0)
     (λ z. omega (arith, z)) in
     (simp e, simp e)
 
 missing-requires : tie.Need-missing-k-requires
 missing-requires c κs = search rules
 
-slice-aggregate-write-parts : tie.Need-slice-aggregate-write-parts
-slice-aggregate-write-parts c = search rules
-
 write-parts-requires : tie.Need-write_parts-requires
 write-parts-requires c κs =
-    let x = c.before.before.before.before.before.before.before.before.before.before.args in
-    let f = c.before.before.before.before.before.fault-f in
-    let m = c.before.before.missing-k in
-    let small = f.ensures.1 (no_fault x.text.now [] f.result f.ensures.0 c.before.before.before.before.if-f-eq1.false c.before.before.before.if-f-eq7.false) in
+    let x = c.args in
+    let f = c.fault-f in
+    let m = c.missing-k in
+    let small = f.ensures.1 (no_fault x.text.now [] f.result f.ensures.0 c.if-f-eq1.false c.if-f-eq7.false) in
     (omega arith, omega arith, small.0, omega arith, m.ensures.1, omega (arith, m.ensures.1))
 
 same_length : tie.Need-shape_of-out
@@ -61,30 +55,23 @@ same_length c = search rules
 
 returns-3 : tie.Need-returns
 returns-3 c =
-    let at-missing = c.before.before.before.before.before in
-    let at-if2 = at-missing.before in
-    let at-if1 = at-if2.before in
-    let at-fault = at-if1.before in
-    let start = at-fault.before.before.before.before.before in
-    let x = start.args in
-    let f = at-fault.fault-f in
-    let m = at-missing.missing-k in
-    let w = c.before.before.write_parts in
-    let none = no_fault x.text.now [] f.result f.ensures.0 at-if1.if-f-eq1.false
-    at-if2.if-f-eq7.false in
-    let g = newline_goes (length x.out-1.now) x.text.now f.result f.ensures.0 m.result none m.ensures.0 in
-    (w.ensures.0 ∙ ap returned g, w.ensures.1 ∙ ap (λ (o : Outcome). lent_after o (lent x.out-1.now)) g)
+    let x = c.args in
+    let f = c.fault-f in
+    let m = c.missing-k in
+    let w = c.write_parts in
+    let none = no_fault x.text.now [] f.result f.ensures.0 c.if-f-eq1.false
+    c.if-f-eq7.false in
+    let g = newline_goes (length x.out.now) x.text.now f.result f.ensures.0 m.result none m.ensures.0 in
+    (w.ensures.0 ∙ ap returned g, w.ensures.1 ∙ ap (λ (o : Outcome). lent_after o (lent x.out.now)) g)
 
 pub complete_newline_spec : {M : Type 1} → statement M
 complete_newline_spec =
     tie.close
     (tie.spec
-    slice-aggregate-fault
     fault-requires
     returns
     returns-2
     missing-requires
-    slice-aggregate-write-parts
     write-parts-requires
     same_length
     returns-3)

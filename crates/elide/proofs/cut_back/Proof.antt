@@ -34,7 +34,7 @@ decreases-loop t s max at₀ left₀ at left = at
 loop-holds : tie.Need-loop-at-init invariant-loop decreases-loop
 unfolding truncate_start_pos_of truncate_start_width
 loop-holds c =
-    let s = c.before.args.s.now in
+    let s = c.args.s.now in
     record { back = reverse (chars s); up_to = up_to_end s; within = omega arith; room = omega arith; small = omega arith; bytes = omega arith; columns = omega arith }
 
 start-before-requires : tie.Need-start_before-p-requires invariant-loop decreases-loop
@@ -51,29 +51,27 @@ sub-t10 c = search rules
 
 returns : tie.Need-returns-then-left-w invariant-loop decreases-loop
 returns c =
-    let l = c.before.before.before.before.before in
-    let x = l.before.before.args in
-    let b = c.before.before.before.start_before-p in
-    let r = c.before.before.seen_at-c in
-    let e = last_before x.s.now l.loop-at.at b.result l.loop-at.invariant.back l.before.before.requires.1 l.loop-at.invariant.up_to
-    c.before.before.before.before.loop-at-test.true b.ensures in
-    let none = last_passes x.s.now l.loop-at.at b.result r.result.width l.loop-at.left l.loop-at.invariant.back e r.ensures.0.1 (omega (arith, c.if-left-w.true)) in
+    let x = c.args in
+    let b = c.start_before-p in
+    let r = c.seen_at-c in
+    let e = last_before x.s.now c.loop-at.at b.result c.loop-at.invariant.back c.requires.1 c.loop-at.invariant.up_to
+    c.loop-at-test.true b.ensures in
+    let none = last_passes x.s.now c.loop-at.at b.result r.result.width c.loop-at.left c.loop-at.invariant.back e r.ensures.0.1 (omega (arith, c.if-left-w.true)) in
     let bytes = ap (λ (cs : List Character). length (bytes_of cs)) none in
     let columns = ap width_of none in
-    ((omega (arith, bytes, l.loop-at.invariant.bytes), omega (arith, columns, l.loop-at.invariant.columns)), (l.loop-at.invariant.within, omega arith, omega (arith, l.loop-at.invariant.small)))
+    ((omega (arith, bytes, c.loop-at.invariant.bytes), omega (arith, columns, c.loop-at.invariant.columns)), (c.loop-at.invariant.within, omega arith, omega (arith, c.loop-at.invariant.small)))
 
 loop-less : tie.Need-loop-at-smaller invariant-loop decreases-loop
-loop-less c = c.before.before.before.start_before-p.ensures.before
+loop-less c = c.start_before-p.ensures.before
 
 loop-again : tie.Need-loop-at-preserved invariant-loop decreases-loop
 loop-again c =
-    let l = c.before.before.before.before.before in
-    let x = l.before.before.args in
-    let inv = l.loop-at.invariant in
-    let b = c.before.before.before.start_before-p in
-    let r = c.before.before.seen_at-c in
-    let e = last_before x.s.now l.loop-at.at b.result inv.back l.before.before.requires.1 inv.up_to c.before.before.before.before.loop-at-test.true b.ensures in
-    let n = last_kept x.s.now l.loop-at.at b.result r.result.width l.loop-at.left inv.back e r.ensures.0.1 (omega (arith, c.if-left-w.false)) in
+    let x = c.args in
+    let inv = c.loop-at.invariant in
+    let b = c.start_before-p in
+    let r = c.seen_at-c in
+    let e = last_before x.s.now c.loop-at.at b.result inv.back c.requires.1 inv.up_to c.loop-at-test.true b.ensures in
+    let n = last_kept x.s.now c.loop-at.at b.result r.result.width c.loop-at.left inv.back e r.ensures.0.1 (omega (arith, c.if-left-w.false)) in
     record {
       back = e.rest;
       up_to = e.up_to;
@@ -89,11 +87,10 @@ sub-t11 c = search rules
 
 returns-2 : tie.Need-returns invariant-loop decreases-loop
 returns-2 c =
-    let l = c.before in
-    let s = l.before.before.args.s.now in
-    let z : l.loop-at.at ≡ 0 = omega (arith, c.loop-at-test.false) in
-    let none = none_before s l.loop-at.left l.loop-at.invariant.back (subst (λ (n : ℕ). UpTo s n l.loop-at.invariant.back) z l.loop-at.invariant.up_to) in
-    ((omega (arith, z, l.loop-at.invariant.bytes), omega (arith, none, l.loop-at.invariant.columns)), (omega arith, omega arith, omega (arith, l.loop-at.invariant.small)))
+    let s = c.args.s.now in
+    let z : c.loop-at.at ≡ 0 = omega (arith, c.loop-at-test.false) in
+    let none = none_before s c.loop-at.left c.loop-at.invariant.back (subst (λ (n : ℕ). UpTo s n c.loop-at.invariant.back) z c.loop-at.invariant.up_to) in
+    ((omega (arith, z, c.loop-at.invariant.bytes), omega (arith, none, c.loop-at.invariant.columns)), (omega arith, omega arith, omega (arith, c.loop-at.invariant.small)))
 
 pub cut_back_spec : {M : Type 1} → statement M
 cut_back_spec =

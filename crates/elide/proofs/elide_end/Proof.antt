@@ -25,18 +25,18 @@ fault-requires c κs = search rules
 returns : tie.Need-returns-then-f-eq1
 unfolding answer_of returned lent_after
 returns c =
-    let x = c.before.before.before.before.before.before.args in
-    let f = c.before.fault-f in
-    let e : elide_end_outcome (length x.out-1.now) x.text.now x.ellipsis.now x.max-width ≡ refused 1 = end_faulty (length x.out-1.now) x.max-width x.text.now
+    let x = c.args in
+    let f = c.fault-f in
+    let e : elide_end_outcome (length x.out.now) x.text.now x.ellipsis.now x.max-width ≡ refused 1 = end_faulty (length x.out.now) x.max-width x.text.now
     x.ellipsis.now 1 (sym c.if-f-eq1.true ∙ f.ensures.0) (λ z. omega (arith, z)) in
     (simp e, simp e)
 
 returns-2 : tie.Need-returns-then-f-eq7
 unfolding answer_of returned lent_after
 returns-2 c =
-    let x = c.before.before.before.before.before.before.before.args in
-    let f = c.before.before.fault-f in
-    let e : elide_end_outcome (length x.out-1.now) x.text.now x.ellipsis.now x.max-width ≡ refused 7 = end_faulty (length x.out-1.now) x.max-width x.text.now
+    let x = c.args in
+    let f = c.fault-f in
+    let e : elide_end_outcome (length x.out.now) x.text.now x.ellipsis.now x.max-width ≡ refused 7 = end_faulty (length x.out.now) x.max-width x.text.now
     x.ellipsis.now 7 (sym c.if-f-eq7.true ∙ f.ensures.0) (λ z. omega (arith, z)) in
     (simp e, simp e)
 
@@ -46,10 +46,10 @@ pieces-end-requires c κs = search rules
 
 write-parts-requires : tie.Need-write_parts-requires
 write-parts-requires c κs =
-    let x = c.before.before.before.before.before.before.before.before.before.before.args in
-    let f = c.before.before.before.before.before.fault-f in
-    let p = c.before.pieces_end-p in
-    let small = f.ensures.1 (no_fault x.text.now x.ellipsis.now f.result f.ensures.0 c.before.before.before.before.if-f-eq1.false c.before.before.before.if-f-eq7.false) in
+    let x = c.args in
+    let f = c.fault-f in
+    let p = c.pieces_end-p in
+    let small = f.ensures.1 (no_fault x.text.now x.ellipsis.now f.result f.ensures.0 c.if-f-eq1.false c.if-f-eq7.false) in
     (p.ensures.1.0, p.ensures.1.1, omega (arith, p.ensures.1.1, small.0), p.ensures.1.2, p.ensures.1.3, omega (arith, p.ensures.1.3, small.1))
 
 same_length : tie.Need-shape_of-out
@@ -57,20 +57,15 @@ same_length c = search rules
 
 returns-3 : tie.Need-returns
 returns-3 c =
-    let at-pieces-end = c.before.before.before.before in
-    let at-if2 = at-pieces-end.before.before in
-    let at-if1 = at-if2.before in
-    let at-fault = at-if1.before in
-    let start = at-fault.before.before.before.before.before in
-    let x = start.args in
-    let f = at-fault.fault-f in
-    let p = at-pieces-end.pieces_end-p in
-    let w = c.before.before.write_parts in
-    let none = no_fault x.text.now x.ellipsis.now f.result f.ensures.0 at-if1.if-f-eq1.false
-    at-if2.if-f-eq7.false in
-    let g = end_goes (length x.out-1.now) x.max-width x.text.now x.ellipsis.now f.result f.ensures.0
+    let x = c.args in
+    let f = c.fault-f in
+    let p = c.pieces_end-p in
+    let w = c.write_parts in
+    let none = no_fault x.text.now x.ellipsis.now f.result f.ensures.0 c.if-f-eq1.false
+    c.if-f-eq7.false in
+    let g = end_goes (length x.out.now) x.max-width x.text.now x.ellipsis.now f.result f.ensures.0
     (part p.result.from p.result.to x.text.now ++ part p.result.begin p.result.end x.ellipsis.now) p.result.width none p.ensures.0.0 p.ensures.0.1 in
-    (w.ensures.0 ∙ ap returned g, w.ensures.1 ∙ ap (λ (o : Outcome). lent_after o (lent x.out-1.now)) g)
+    (w.ensures.0 ∙ ap returned g, w.ensures.1 ∙ ap (λ (o : Outcome). lent_after o (lent x.out.now)) g)
 
 pub elide_end_spec : {M : Type 1} → statement M
 elide_end_spec =

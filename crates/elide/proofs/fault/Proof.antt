@@ -16,7 +16,7 @@ returns c = (simp (lt-ltb _ _ c.if-text-gt-LIMIT.true), λ z. absurd (omega (ari
 
 returns-2 : tie.Need-returns-then-ellipsis-gt-LIMIT
 unfolding plain_fault
-returns-2 c = (simp (le-ltb _ _ c.before.if-text-gt-LIMIT.false, lt-ltb _ _ c.if-ellipsis-gt-LIMIT.true), λ z. absurd (omega (arith, z)))
+returns-2 c = (simp (le-ltb _ _ c.if-text-gt-LIMIT.false, lt-ltb _ _ c.if-ellipsis-gt-LIMIT.true), λ z. absurd (omega (arith, z)))
 
 long-well-formed-requires : tie.Need-long_well_formed-requires
 long-well-formed-requires c κs = search rules
@@ -25,11 +25,11 @@ returns-3 : tie.Need-returns-then-not-long_well_formed
 unfolding plain_fault
 returns-3 c = (
   simp (
-    le-ltb _ _ c.before.before.before.if-text-gt-LIMIT.false,
-    le-ltb _ _ c.before.before.if-ellipsis-gt-LIMIT.false,
-    ← c.before.long_well_formed.ensures,
+    le-ltb _ _ c.if-text-gt-LIMIT.false,
+    le-ltb _ _ c.if-ellipsis-gt-LIMIT.false,
+    ← c.long_well_formed.ensures,
     not-true
-        c.before.long_well_formed.result c.if-not-long_well_formed.true,
+        c.long_well_formed.result c.if-not-long_well_formed.true,
   ),
   λ z. absurd (omega (arith, z)),
 )
@@ -41,13 +41,13 @@ returns-4 : tie.Need-returns-then-not-long_well_formed-2
 unfolding plain_fault
 returns-4 c = (
   simp (
-    le-ltb _ _ c.before.before.before.before.before.if-text-gt-LIMIT.false,
-    le-ltb _ _ c.before.before.before.before.if-ellipsis-gt-LIMIT.false,
+    le-ltb _ _ c.if-text-gt-LIMIT.false,
+    le-ltb _ _ c.if-ellipsis-gt-LIMIT.false,
     ←
-        c.before.before.before.long_well_formed.ensures,
-    c.before.before.if-not-long_well_formed.false,
+        c.long_well_formed.ensures,
+    not_false c.long_well_formed.result c.if-not-long_well_formed.false,
     ←
-        c.before.long_well_formed-2.ensures,
+        c.long_well_formed-2.ensures,
     c.if-not-long_well_formed-2.true,
   ),
   λ z. absurd (omega (arith, z)),
@@ -57,17 +57,17 @@ returns-5 : tie.Need-returns
 unfolding plain_fault
 returns-5 c = (
   simp (
-    le-ltb _ _ c.before.before.before.before.before.if-text-gt-LIMIT.false,
-    le-ltb _ _ c.before.before.before.before.if-ellipsis-gt-LIMIT.false,
+    le-ltb _ _ c.if-text-gt-LIMIT.false,
+    le-ltb _ _ c.if-ellipsis-gt-LIMIT.false,
     ←
-        c.before.before.before.long_well_formed.ensures,
-    c.before.before.if-not-long_well_formed.false,
+        c.long_well_formed.ensures,
+    not_false c.long_well_formed.result c.if-not-long_well_formed.false,
     ←
-        c.before.long_well_formed-2.ensures,
-    c.if-not-long_well_formed-2.false,
+        c.long_well_formed-2.ensures,
+    not_false c.long_well_formed-2.result c.if-not-long_well_formed-2.false,
   ),
   λ z.
-      (c.before.before.before.before.before.if-text-gt-LIMIT.false, c.before.before.before.before.if-ellipsis-gt-LIMIT.false),
+      (c.if-text-gt-LIMIT.false, c.if-ellipsis-gt-LIMIT.false),
 )
 
 pub fault_spec : {M : Type 1} → statement M

@@ -20,8 +20,8 @@ truncate-end-pos-requires c κs = search rules
 
 returns : tie.Need-returns-then-all-n
 returns c =
-    let x = c.before.before.before.before.before.before.before.args in
-    let k = c.before.before.truncate_end_pos-all in
+    let x = c.args in
+    let k = c.truncate_end_pos-all in
     let fits = reaches_end x.max x.text.now (sym k.ensures.0.0 ∙ c.if-all-n.true) in
     let l = end_uncut x.max x.text.now x.ellipsis.now fits in
     ((l.0, k.ensures.0.1 ∙ (fits_whole x.max x.text.now fits).1 ∙ l.1), (omega arith, omega arith, omega arith, omega arith))
@@ -31,12 +31,12 @@ truncate-end-pos-requires-2 c κs = search rules
 
 returns-2 : tie.Need-returns-then-max-mark
 returns-2 c =
-    let x = c.before.before.before.before.before.before.before.before.args in
-    let all = c.before.before.before.truncate_end_pos-all in
+    let x = c.args in
+    let all = c.truncate_end_pos-all in
     let k = c.truncate_end_pos-k in
-    let over = passes-max x.max x.text.now (λ e. c.before.if-all-n.false (all.ensures.0.0 ∙ e)) in
+    let over = passes-max x.max x.text.now (λ e. c.if-all-n.false (all.ensures.0.0 ∙ e)) in
     let l = end_alone x.max x.text.now x.ellipsis.now over
-    (omega (arith, c.before.before.before.before.before.text_width-mark.ensures.0, c.before.before.before.before.if-max-mark.true)) in
+    (omega (arith, c.text_width-mark.ensures.0, c.if-max-mark.true)) in
     ((rw (← k.ensures.0.0) at l.0, k.ensures.0.1 ∙ l.1), (omega arith, omega arith, omega arith, k.ensures.1.0))
 
 truncate-end-pos-requires-3 : tie.Need-truncate_end_pos-k-requires-2
@@ -65,13 +65,12 @@ add-t19 c = search rules
 
 returns-3 : tie.Need-returns-then-at-more
 returns-3 c =
-    let m = c.before.before.before.before in
-    let k = m.before.before.before.truncate_end_pos-k-2 in
-    let x = m.before.before.before.before.before.before.before.before.args in
-    let r = m.truncate_end_pos-more in
+    let k = c.truncate_end_pos-k-2 in
+    let x = c.args in
+    let r = c.truncate_end_pos-more in
     let both = two_cuts _ x.max x.text.now _ k.result.pos k.result.width r.result.pos r.result.width (omega arith) k.ensures.0.0 k.ensures.0.1
     (part_to_end x.text.now k.result.pos) r.ensures.0.0 r.ensures.0.1 in
-    let fits = reaches_end x.max x.text.now (sym both.0 ∙ c.before.before.if-at-more.true) in
+    let fits = reaches_end x.max x.text.now (sym both.0 ∙ c.if-at-more.true) in
     let l = end_uncut x.max x.text.now x.ellipsis.now fits in
     ((l.0, both.1 ∙ (fits_whole x.max x.text.now fits).1 ∙ l.1), (omega arith, omega arith, omega arith, omega arith))
 
@@ -80,15 +79,14 @@ add-t14 c = search rules
 
 returns-4 : tie.Need-returns
 returns-4 c =
-    let m = c.before.before.before in
-    let k = m.before.before.before.truncate_end_pos-k-2 in
-    let x = m.before.before.before.before.before.before.before.before.args in
-    let r = m.truncate_end_pos-more in
-    let w = m.before.before.before.before.before.text_width-mark.ensures.0 in
+    let k = c.truncate_end_pos-k-2 in
+    let x = c.args in
+    let r = c.truncate_end_pos-more in
+    let w = c.text_width-mark.ensures.0 in
     let both = two_cuts _ x.max x.text.now _ k.result.pos k.result.width r.result.pos r.result.width (omega arith) k.ensures.0.0 k.ensures.0.1
     (part_to_end x.text.now k.result.pos) r.ensures.0.0 r.ensures.0.1 in
-    let over = passes-max x.max x.text.now (λ e. c.before.if-at-more.false (both.0 ∙ e)) in
-    let l = rw (← w) at (end_both x.max x.text.now x.ellipsis.now over (omega (arith, w, m.before.before.before.before.if-max-mark.false))) in
+    let over = passes-max x.max x.text.now (λ e. c.if-at-more.false (both.0 ∙ e)) in
+    let l = rw (← w) at (end_both x.max x.text.now x.ellipsis.now over (omega (arith, w, c.if-max-mark.false))) in
     ((rw (← k.ensures.0.0) at l.0, rw (← k.ensures.0.1) at l.1), (omega arith, k.ensures.1.0, omega arith, omega arith))
 
 pub pieces_end_spec : {M : Type 1} → statement M

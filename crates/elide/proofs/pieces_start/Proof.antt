@@ -21,8 +21,8 @@ cut-back-requires c κs = search rules
 
 returns : tie.Need-returns-then-all-eq0
 returns c =
-    let x = c.before.before.before.before.before.before.before.args in
-    let k = c.before.before.cut_back-all in
+    let x = c.args in
+    let k = c.cut_back-all in
     let fits = reaches_start x.max x.text.now (sym k.ensures.0.0 ∙ c.if-all-eq0.true) in
     let l = start_uncut x.max x.text.now x.ellipsis.now fits in
     ((l.0, k.ensures.0.1 ∙ (fits_back x.max x.text.now fits).1 ∙ l.1), (omega arith, omega arith, omega arith, omega arith))
@@ -35,12 +35,12 @@ trimmed-pos-requires c κs = search rules
 
 returns-2 : tie.Need-returns-then-max-mark
 returns-2 c =
-    let x = c.before.before.before.before.before.before.before.before.before.args in
-    let all = c.before.before.before.before.cut_back-all in
-    let k = c.before.cut_back-k in
-    let over = passes-back x.max x.text.now (λ e. c.before.before.if-all-eq0.false (all.ensures.0.0 ∙ e)) in
+    let x = c.args in
+    let all = c.cut_back-all in
+    let k = c.cut_back-k in
+    let over = passes-back x.max x.text.now (λ e. c.if-all-eq0.false (all.ensures.0.0 ∙ e)) in
     let l = start_alone x.max x.text.now x.ellipsis.now c.trimmed_pos-begin.result over
-    (omega (arith, c.before.before.before.before.before.before.text_width-mark.ensures.0, c.before.before.before.before.before.if-max-mark.true))
+    (omega (arith, c.text_width-mark.ensures.0, c.if-max-mark.true))
     (rw k.ensures.0.0 at c.trimmed_pos-begin.ensures.0) in
     ((l.0, k.ensures.0.1 ∙ l.1), (omega arith, omega arith, c.trimmed_pos-begin.ensures.1, omega arith))
 
@@ -61,11 +61,11 @@ sub-cut-back-2 c = search rules
 
 cut-back-requires-4 : tie.Need-cut_back-more-requires
 cut-back-requires-4 c κs =
-    let k = c.before.before.cut_back-k-2 in
-    let x = c.before.before.before.before.before.before.before.args in (
-      c.before.before.before.before.before.before.before.requires.0,
+    let k = c.cut_back-k-2 in
+    let x = c.args in (
+      c.requires.0,
       part_well_formed _ x.text.now k.result.pos
-          c.before.before.before.before.before.before.before.requires.1.0 k.ensures.0.0,
+          c.requires.1.0 k.ensures.0.0,
     )
 
 add-t22 : tie.Need-overflow_add-result
@@ -73,13 +73,12 @@ add-t22 c = search rules
 
 returns-3 : tie.Need-returns-then-more-eq0
 returns-3 c =
-    let m = c.before.before.before.before in
-    let k = m.before.before.before.cut_back-k-2 in
-    let x = m.before.before.before.before.before.before.before.before.args in
-    let r = m.cut_back-more in
+    let k = c.cut_back-k-2 in
+    let x = c.args in
+    let r = c.cut_back-more in
     let both = two_cuts_back _ x.max x.text.now k.result.pos k.result.width r.result.pos r.result.width (omega arith) k.ensures.0.0 k.ensures.0.1
     r.ensures.0.0 r.ensures.0.1 in
-    let fits = reaches_start x.max x.text.now (sym both.0 ∙ c.before.before.if-more-eq0.true) in
+    let fits = reaches_start x.max x.text.now (sym both.0 ∙ c.if-more-eq0.true) in
     let l = start_uncut x.max x.text.now x.ellipsis.now fits in
     ((l.0, both.1 ∙ (fits_back x.max x.text.now fits).1 ∙ l.1), (omega arith, omega arith, omega arith, omega arith))
 
@@ -91,16 +90,15 @@ add-t17 c = search rules
 
 returns-4 : tie.Need-returns
 returns-4 c =
-    let m = c.before.before.before.before in
-    let k = m.before.before.before.cut_back-k-2 in
-    let x = m.before.before.before.before.before.before.before.before.args in
-    let r = m.cut_back-more in
-    let z = c.before.trimmed_pos-from in
-    let w = m.before.before.before.before.before.text_width-mark.ensures.0 in
+    let k = c.cut_back-k-2 in
+    let x = c.args in
+    let r = c.cut_back-more in
+    let z = c.trimmed_pos-from in
+    let w = c.text_width-mark.ensures.0 in
     let both = two_cuts_back _ x.max x.text.now k.result.pos k.result.width r.result.pos r.result.width (omega arith) k.ensures.0.0 k.ensures.0.1
     r.ensures.0.0 r.ensures.0.1 in
-    let over = passes-back x.max x.text.now (λ e. c.before.before.if-more-eq0.false (both.0 ∙ e)) in
-    let l = start_both x.max x.text.now x.ellipsis.now z.result over (omega (arith, w, m.before.before.before.before.if-max-mark.false)) (rw (k.ensures.0.0, w) at z.ensures.0) in
+    let over = passes-back x.max x.text.now (λ e. c.if-more-eq0.false (both.0 ∙ e)) in
+    let l = start_both x.max x.text.now x.ellipsis.now z.result over (omega (arith, w, c.if-max-mark.false)) (rw (k.ensures.0.0, w) at z.ensures.0) in
     ((l.0, omega (arith, w, rw w at k.ensures.0.1, l.1)), (z.ensures.1, omega arith, omega arith, omega arith))
 
 pub pieces_start_spec : {M : Type 1} → statement M

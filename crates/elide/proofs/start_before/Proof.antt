@@ -46,7 +46,7 @@ shared-slice-read-if1 c = search rules
 
 returns : tie.Need-returns-then-s-i-lt128 invariant-loop decreases-loop
 returns c =
-    let inv = c.before.before.before.loop-i.invariant in
+    let inv = c.loop-i.invariant in
     record { before = inv.before; between = inv.between; stops = λ p h. omega (arith, h.0, c.if-s-i-lt128.true) }
 
 shared-slice-read-if2 : tie.Need-bounds-s-i-in-loop-i invariant-loop decreases-loop
@@ -54,7 +54,7 @@ shared-slice-read-if2 c = search rules
 
 returns-2 : tie.Need-returns-then-s-i-gt191 invariant-loop decreases-loop
 returns-2 c =
-    let inv = c.before.before.before.before.before.loop-i.invariant in
+    let inv = c.loop-i.invariant in
     record { before = inv.before; between = inv.between; stops = λ p h. omega (arith, h.1, c.if-s-i-gt191.true) }
 
 sub-i-2 : tie.Need-overflow_sub-i-in-loop-i invariant-loop decreases-loop
@@ -65,12 +65,11 @@ loop-less c = search rules
 
 loop-again : tie.Need-loop-i-preserved invariant-loop decreases-loop
 loop-again c =
-    let l = c.before.before.before.before.before in
-    one-back l.before.args.s.now l.before.args.at l.loop-i.i l.loop-i.invariant (omega (arith, c.before.before.if-s-i-lt128.false), omega (arith, c.if-s-i-gt191.false))
+    one-back c.args.s.now c.args.at c.loop-i.i c.loop-i.invariant (omega (arith, c.if-s-i-lt128.false), omega (arith, c.if-s-i-gt191.false))
 
 returns-3 : tie.Need-returns invariant-loop decreases-loop
 returns-3 c =
-    let inv = c.before.loop-i.invariant in
+    let inv = c.loop-i.invariant in
     record { before = omega (arith, inv.before); between = λ j p q. inv.between j (omega (arith, p, c.loop-i-test.false)) q; stops = λ p h. omega (arith, p) }
 
 pub start_before_spec : {M : Type 1} → statement M

@@ -29,10 +29,10 @@ add-result c = search rules
 returns : tie.Need-returns
 returns c =
     let z = c.zero_width_len-n in
-    let x = c.before.before.before.args in (
+    let x = c.args in (
       trimmed_from_lem x.s.now x.at z.result z.ensures.0,
       omega
-          (arith, z.ensures.1, ap length (part_to_end x.s.now x.at), length-drop x.at x.s.now, c.before.before.before.requires),
+          (arith, z.ensures.1, ap length (part_to_end x.s.now x.at), length-drop x.at x.s.now, c.requires),
     )
 
 pub trimmed_pos_spec : {M : Type 1} → statement M

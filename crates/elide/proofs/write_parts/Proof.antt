@@ -28,17 +28,17 @@ add-n c = search rules
 returns : tie.Need-returns-then-n-gt-LIMIT
 unfolding answer_of returned lent_after
 returns c =
-    let x = c.before.before.before.before.args in
+    let x = c.args in
     let n = length-parts x.a x.b x.x.now x.c x.d x.y.now (omega arith) (omega arith) in
-    let e = over_limit_lem (length x.out-1.now) x.width (part x.a x.b x.x.now ++ part x.c x.d x.y.now) (omega (arith, n, c.if-n-gt-LIMIT.true)) in
+    let e = over_limit_lem (length x.out.now) x.width (part x.a x.b x.x.now ++ part x.c x.d x.y.now) (omega (arith, n, c.if-n-gt-LIMIT.true)) in
     (simp e, simp e)
 
 returns-2 : tie.Need-returns-then-out-n
 unfolding answer_of returned lent_after
 returns-2 c =
-    let x = c.before.before.before.before.before.args in
+    let x = c.args in
     let n = length-parts x.a x.b x.x.now x.c x.d x.y.now (omega arith) (omega arith) in
-    let e = too_short (length x.out-1.now) x.width (part x.a x.b x.x.now ++ part x.c x.d x.y.now) (omega (arith, n, c.before.if-n-gt-LIMIT.false)) (omega (arith, n, c.if-out-n.true)) in
+    let e = too_short (length x.out.now) x.width (part x.a x.b x.x.now ++ part x.c x.d x.y.now) (omega (arith, n, c.if-n-gt-LIMIT.false)) (omega (arith, n, c.if-out-n.true)) in
     (simp e, simp e)
 
 put-requires : tie.Need-put-at-requires
@@ -53,18 +53,18 @@ same_length c = search rules
 returns-3 : tie.Need-returns
 unfolding answer_of returned lent_after over
 returns-3 c =
-    let x = c.before.before.before.before.before.before.before.before.before.before.before.before.before.args in
+    let x = c.args in
     let n = length-parts x.a x.b x.x.now x.c x.d x.y.now (omega arith) (omega arith) in
-    let e = has_room (length x.out-1.now) x.width (part x.a x.b x.x.now ++ part x.c x.d x.y.now)
-    (omega (arith, n, c.before.before.before.before.before.before.before.before.before.if-n-gt-LIMIT.false))
-    (omega (arith, n, c.before.before.before.before.before.before.before.before.if-out-n.false)) in
-    let one = c.before.before.before.before.before.before.put-at in
-    let two = c.before.before.put-end in
+    let e = has_room (length x.out.now) x.width (part x.a x.b x.x.now ++ part x.c x.d x.y.now)
+    (omega (arith, n, c.if-n-gt-LIMIT.false))
+    (omega (arith, n, c.if-out-n.false)) in
+    let one = c.put-at in
+    let two = c.put-end in
     let p = part x.a x.b x.x.now in
     let q = part x.c x.d x.y.now in
     let r : two.result ≡ length (p ++ q) = omega (arith, n, one.ensures.0, two.ensures.0) in
     let first : one.result ≡ length p = omega (arith, one.ensures.0, length_part x.a x.b x.x.now (omega arith)) in
-    (simp (e, r), simp e (ap lent (two_puts p q x.out-1.now _ _ one.result one.ensures.1 first two.ensures.1)))
+    (simp (e, r), simp e (ap lent (two_puts p q x.out.now _ _ one.result one.ensures.1 first two.ensures.1)))
 
 pub write_parts_spec : {M : Type 1} → statement M
 write_parts_spec =

@@ -20,8 +20,7 @@ seen c = c.before.before
 
 seen-at-requires : tie.Need-seen_at-ch-requires
 seen-at-requires c κs =
-    let s = c.before.before.before.before.before.before in
-    (s.requires.0.0, omega (arith, s.requires.1.0, s.requires.1.1))
+    (c.requires.0.0, omega (arith, c.requires.1.0, c.requires.1.1))
 
 add-until : tie.Need-overflow_add-until
 add-until c = search rules
@@ -38,24 +37,20 @@ cast-t13 c = search rules
 
 returns : tie.Need-returns-then-any_under
 returns c =
-    let u = c.before.before in
-    let k = u.before in
-    let s = start k in
+    let s = start c.before.before.before in
     let a = s.args in
     let p = s.requires.1 in
-    let n = (seen k).seen_at-ch.ensures in
-    divided_gone a.label.now a.content.now a.entries.now a.text.now a.w a.end p.0 p.1 p.2 p.3 _ n.0.0 n.1.1 _ u.any_under.ensures
-    c.before.if-any_under.true _ n.0.1
+    let n = (seen c.before.before.before).seen_at-ch.ensures in
+    divided_gone a.label.now a.content.now a.entries.now a.text.now a.w a.end p.0 p.1 p.2 p.3 _ n.0.0 n.1.1 _ c.any_under.ensures
+    c.if-any_under.true _ n.0.1
 
 returns-2 : tie.Need-returns
 returns-2 c =
-    let u = c.before in
-    let k = u.before in
-    let s = start k in
+    let s = start c.before.before in
     let a = s.args in
     let p = s.requires.1 in
-    let n = (seen k).seen_at-ch.ensures in
-    divided_kept a.label.now a.content.now a.entries.now a.text.now a.w a.end p.0 p.1 p.2 p.3 _ n.0.0 n.1.1 _ u.any_under.ensures c.if-any_under.false
+    let n = (seen c.before.before).seen_at-ch.ensures in
+    divided_kept a.label.now a.content.now a.entries.now a.text.now a.w a.end p.0 p.1 p.2 p.3 _ n.0.0 n.1.1 _ c.any_under.ensures c.if-any_under.false
 
 pub divided_run_spec : {M : Type 1} → statement M
 divided_run_spec =

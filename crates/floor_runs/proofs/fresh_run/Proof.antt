@@ -30,21 +30,18 @@ copied-to-requires c κs = search rules
 
 returns : tie.Need-returns-then-at-m
 returns c =
-    let m = c.before.before in
-    let k = m.before.before in
-    let s = start k in
+    let s = start c.before.before.before.before in
     let a = s.args in
     let p = s.requires.1 in
     subst (λ (r : Run). RunOf a.label.now a.content.now (left a.content.now a.entries.now a.text.now a.w.c) a.w.o a.w.c.at a.w.c.at _ a.end r)
     (sym c.copied_to.ensures)
-    (copied a.label.now a.content.now a.entries.now a.text.now a.w a.end p.0 p.1 p.2 _ m.before.if-w-eq0.true m.whole_end-m.ensures c.before.if-at-m.true)
+    (copied a.label.now a.content.now a.entries.now a.text.now a.w a.end p.0 p.1 p.2 _ c.if-w-eq0.true c.whole_end-m.ensures c.if-at-m.true)
 
 divided-run-requires : tie.Need-divided_run-requires
 divided-run-requires c κs =
-    let m = c.before in
-    let s = start m.before.before in
+    let s = start c.before.before.before in
     let p = s.requires.1 in
-    let v = m.whole_end-m.ensures in
+    let v = c.whole_end-m.ensures in
     (s.requires.0, (p.0, p.1, p.2, v.none (omega (arith, v.from, c.if-at-m.false))))
 
 returns-2 : tie.Need-returns-then-w-eq0
@@ -65,13 +62,12 @@ copied-to-requires-2 c κs = search rules
 
 returns-3 : tie.Need-returns-then-content-at-eq10
 returns-3 c =
-    let k = c.before.before.before.before in
-    let s = start k in
+    let s = start c.before.before.before.before in
     let a = s.args in
     let p = s.requires.1 in
     subst (λ (r : Run). RunOf a.label.now a.content.now (left a.content.now a.entries.now a.text.now a.w.c) a.w.o a.w.c.at a.w.c.at _ a.end r)
     (sym c.copied_to-then-content-at-eq10.ensures)
-    (newline a.label.now a.content.now a.entries.now a.text.now a.w a.end p.0 p.1 p.2 c.before.if-content-at-eq10.true)
+    (newline a.label.now a.content.now a.entries.now a.text.now a.w a.end p.0 p.1 p.2 c.if-content-at-eq10.true)
 
 covered-requires : tie.Need-covered-s-requires
 covered-requires c κs =
@@ -80,20 +76,17 @@ covered-requires c κs =
 
 returns-4 : tie.Need-returns-then-at-s
 returns-4 c =
-    let v = c.before.before in
-    let k = v.before.before.before.before in
-    let s = start k in
+    let s = start c.before.before.before.before.before.before in
     let a = s.args in
     let p = s.requires.1 in
-    starred a.label.now a.content.now a.entries.now a.text.now a.w a.end p.0 p.1 p.2 _ v.before.before.before.if-w-eq0.false v.covered-s.ensures.0 c.if-at-s.true
+    starred a.label.now a.content.now a.entries.now a.text.now a.w a.end p.0 p.1 p.2 _ c.if-w-eq0.false c.covered-s.ensures.0 c.if-at-s.true
 
 divided-run-requires-2 : tie.Need-divided_run-requires-2
 divided-run-requires-2 c κs =
-    let v = c.before.before in
-    let s = start v.before.before.before.before in
+    let s = start c.before.before.before.before.before.before in
     let p = s.requires.1 in
-    let x = v.covered-s.ensures.0 in
-    (s.requires.0, (p.0, p.1, p.2, x.none (omega (arith, x.from, c.if-at-s.false)) (no_newline _ _ v.before.if-content-at-eq10.false)))
+    let x = c.covered-s.ensures.0 in
+    (s.requires.0, (p.0, p.1, p.2, x.none (omega (arith, x.from, c.if-at-s.false)) (no_newline _ _ c.if-content-at-eq10.false)))
 
 returns-5 : tie.Need-returns
 returns-5 c = search rules

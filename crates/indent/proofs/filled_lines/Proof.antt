@@ -59,20 +59,19 @@ add-n : tie.Need-overflow_add-n invariant-loop decreases-loop
 add-n c = search rules
 
 next-line-requires-2 : tie.Need-next_line-at-requires-in-loop-at invariant-loop decreases-loop
-next-line-requires-2 c κs = c.before.loop-at.invariant.within
+next-line-requires-2 c κs = c.loop-at.invariant.within
 
 loop-less : tie.Need-loop-at-smaller invariant-loop decreases-loop
 loop-less c =
-    let l = c.before.before in
-    omega (arith, c.next_line-at-in-loop-at.ensures.0, c.before.loop-at-test.true, next_past l.loop-at.at l.before.before.before.args.content.now c.before.loop-at-test.true)
+    omega (arith, c.next_line-at-in-loop-at.ensures.0, c.loop-at-test.true, next_past c.loop-at.at c.args.content.now c.loop-at-test.true)
 
 loop-again : tie.Need-loop-at-preserved invariant-loop decreases-loop
 loop-again c =
-    one_more _ _ _ c.before.before.loop-at.invariant c.before.loop-at-test.true _ c.next_line-at-in-loop-at.ensures.0 c.next_line-at-in-loop-at.ensures.1.1
+    one_more _ _ _ c.loop-at.invariant c.loop-at-test.true _ c.next_line-at-in-loop-at.ensures.0 c.next_line-at-in-loop-at.ensures.1.1
 
 returns : tie.Need-returns invariant-loop decreases-loop
 returns c =
-    (all _ _ _ c.before.loop-at.invariant c.loop-at-test.false, omega (arith, c.before.loop-at.invariant.few, c.before.loop-at.invariant.within))
+    (all _ _ _ c.loop-at.invariant c.loop-at-test.false, omega (arith, c.loop-at.invariant.few, c.loop-at.invariant.within))
 
 pub filled_lines_spec : {M : Type 1} → statement M
 filled_lines_spec =

@@ -47,72 +47,64 @@ next-line-requires c κs =
 loop-holds : tie.Need-loop-p-init invariant-loop decreases-loop
 unfolding out
 loop-holds c =
-    state_first _ _ _ _ _ _ _ refl refl c.before.before.before.before.before.before.before.before.before.before.requires.0.0 c.next_line-p.ensures.0 c.next_line-p.ensures.1.1
+    state_first _ _ _ _ _ _ _ refl refl c.requires.0.0 c.next_line-p.ensures.0 c.next_line-p.ensures.1.1
 
 keep-requires : tie.Need-keep-c-requires invariant-loop decreases-loop
 keep-requires c κs =
-    let t = c.before.before.before in
-    let s = t.before.loop-p.invariant in
-    let z = (start t.before).requires.1 in
-    (s.ready, ((before _ _ _ _ _ _ _ _ s z, s.within), room_keep _ _ _ _ _ _ _ _ s z t.loop-p-test.true))
+    let s = c.loop-p.invariant in
+    let z = (start c.before.before.before.before).requires.1 in
+    (s.ready, ((before _ _ _ _ _ _ _ _ s z, s.within), room_keep _ _ _ _ _ _ _ _ s z c.loop-p-test.true))
 
 put-recording-requires : tie.Need-put_recording-c-requires invariant-loop decreases-loop
 put-recording-requires c κs =
-    let k = c.before.before.before.before.before.before.before.before.before in
-    let t = turn k in
+    let t = turn c.before.before.before.before.before.before.before.before.before in
     let z = (start t.before).requires in
-    (z.0.1, room_prefix _ _ _ _ _ _ _ _ t.before.loop-p.invariant z.1 t.loop-p-test.true _ k.keep-c.ensures.0)
+    (z.0.1, room_prefix _ _ _ _ _ _ _ _ t.loop-p.invariant z.1 t.loop-p-test.true _ c.keep-c.ensures.0)
 
 next-line-requires-2 : tie.Need-next_line-p-requires-in-loop-p invariant-loop decreases-loop
-next-line-requires-2 c κs = (turn (kept c.before.before.before.before.before.before)).before.loop-p.invariant.within
+next-line-requires-2 c κs = (turn (kept c.before.before.before.before.before.before)).loop-p.invariant.within
 
 loop-less : tie.Need-loop-p-smaller invariant-loop decreases-loop
 loop-less c =
     let t = turn (kept c.before.before.before.before.before.before.before) in
-    omega (arith, c.next_line-p-in-loop-p.ensures.0, t.loop-p-test.true, next_past t.before.loop-p.p (start t.before).args.content.now t.loop-p-test.true)
+    omega (arith, c.next_line-p-in-loop-p.ensures.0, t.loop-p-test.true, next_past t.loop-p.p (start t.before).args.content.now t.loop-p-test.true)
 
 loop-again : tie.Need-loop-p-preserved invariant-loop decreases-loop
 loop-again c =
-    let w = c.before.before.before.before.before.before.before in
-    let t = turn (kept w) in
-    let k = (kept w).keep-c.ensures in
-    let r = w.put_recording-c.ensures in
+    let t = turn (kept c.before.before.before.before.before.before.before) in
+    let k = (kept c.before.before.before.before.before.before.before).keep-c.ensures in
+    let r = c.put_recording-c.ensures in
     let n = c.next_line-p-in-loop-p.ensures in
-    step _ _ _ _ _ _ _ _ t.before.loop-p.invariant (start t.before).requires.1 t.loop-p-test.true _ k.0 _ _ _ _ r.0 k.1.0 k.1.1.0 k.1.1.1 r.1.0 r.1.1 n.0 n.1.1
+    step _ _ _ _ _ _ _ _ t.loop-p.invariant (start t.before).requires.1 t.loop-p-test.true _ k.0 _ _ _ _ r.0 k.1.0 k.1.1.0 k.1.1.1 r.1.0 r.1.1 n.0 n.1.1
 
 keep-requires-2 : tie.Need-keep-requires invariant-loop decreases-loop
 keep-requires-2 c κs =
-    let l = c.before.before.before in
-    let s = l.before.loop-p.invariant in
-    let z = (start l.before).requires.1 in
-    (s.ready, ((here _ _ _ _ _ _ _ _ s z, omega arith), room_last _ _ _ _ _ _ _ _ s z l.loop-p-test.false))
+    let s = c.loop-p.invariant in
+    let z = (start c.before.before.before.before).requires.1 in
+    (s.ready, ((here _ _ _ _ _ _ _ _ s z, omega arith), room_last _ _ _ _ _ _ _ _ s z c.loop-p-test.false))
 
 same_length : tie.Need-shape_of-bytes invariant-loop decreases-loop
 unfolding out
 same_length c =
-    let k = c.before.before.before.before.before.before in
-    let l = (ended k).before in
-    k.keep.auto.0 ∙ (long_now _ _ _ _ _ _ _ _ l.loop-p.invariant (start l).requires.1).data_bytes
+    let l = (ended c.before.before.before.before.before.before).before in
+    c.keep.auto.0 ∙ (long_now _ _ _ _ _ _ _ _ l.loop.invariant (start l).requires.1).data_bytes
 
 same-length-2 : tie.Need-shape_of-numbers invariant-loop decreases-loop
 unfolding out
 same-length-2 c =
-    let k = c.before.before.before.before.before.before in
-    let l = (ended k).before in
-    k.keep.auto.1.0 ∙ (long_now _ _ _ _ _ _ _ _ l.loop-p.invariant (start l).requires.1).entry_numbers
+    let l = (ended c.before.before.before.before.before.before).before in
+    c.keep.auto.1.0 ∙ (long_now _ _ _ _ _ _ _ _ l.loop.invariant (start l).requires.1).entry_numbers
 
 same-length-3 : tie.Need-shape_of-texts invariant-loop decreases-loop
 unfolding out
 same-length-3 c =
-    let k = c.before.before.before.before.before.before in
-    let l = (ended k).before in
-    k.keep.auto.1.1.0 ∙ (long_now _ _ _ _ _ _ _ _ l.loop-p.invariant (start l).requires.1).text
+    let l = (ended c.before.before.before.before.before.before).before in
+    c.keep.auto.1.1.0 ∙ (long_now _ _ _ _ _ _ _ _ l.loop.invariant (start l).requires.1).text
 
 returns : tie.Need-returns invariant-loop decreases-loop
 returns c =
-    let k = c.before.before.before.before.before.before in
-    let l = ended k in
-    finish _ _ _ _ _ _ _ _ l.before.loop-p.invariant (start l.before).requires.1 l.loop-p-test.false _ k.keep.ensures.0
+    let l = ended c.before.before.before.before.before.before in
+    finish _ _ _ _ _ _ _ _ l.loop-p.invariant (start l.before).requires.1 l.loop-p-test.false _ c.keep.ensures.0
 
 pub put_indented_spec : {M : Type 1} → statement M
 put_indented_spec =

@@ -41,9 +41,8 @@ loop-less c = search rules
 
 loop-again : tie.Need-loop-at-preserved invariant-loop decreases-loop
 loop-again c =
-    let l = c.before.before.before in
-    let s = l.before.before.args.s.now in
-    (search rules, search rules, omega (arith, l.loop-at.invariant.2, break_past 16 l.loop-at.at s (ltb-false (to_break (drop l.loop-at.at s)) 16 (sym c.before.has_break.ensures ∙ c.if-has_break.false))))
+    let s = c.args.s.now in
+    (search rules, search rules, omega (arith, c.loop-at.invariant.2, break_past 16 c.loop-at.at s (ltb-false (to_break (drop c.loop-at.at s)) 16 (sym c.has_break.ensures ∙ c.if-has_break.false))))
 
 returns-2 : tie.Need-returns invariant-loop decreases-loop
 returns-2 c = search rules

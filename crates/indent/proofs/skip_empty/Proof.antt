@@ -28,8 +28,7 @@ shared-slice-read-if1 c = search rules
 
 returns : tie.Need-returns-then-s-at-ne10 invariant-loop decreases-loop
 returns c =
-    let l = c.before.before.before in
-    (omega (arith, l.loop-at.invariant.2, next_here l.loop-at.at l.before.args.s.now (omega arith) c.if-s-at-ne10.true), (search rules, search rules))
+    (omega (arith, c.loop-at.invariant.2, next_here c.loop-at.at c.args.s.now (omega arith) c.if-s-at-ne10.true), (search rules, search rules))
 
 add_at : tie.Need-overflow_add-at invariant-loop decreases-loop
 add_at c = search rules
@@ -39,13 +38,11 @@ loop-less c = search rules
 
 loop-again : tie.Need-loop-at-preserved invariant-loop decreases-loop
 loop-again c =
-    let l = c.before.before.before in
-    (search rules, search rules, omega (arith, l.loop-at.invariant.2, next_later l.loop-at.at l.before.args.s.now (omega arith) c.if-s-at-ne10.false))
+    (search rules, search rules, omega (arith, c.loop-at.invariant.2, next_later c.loop-at.at c.args.s.now (omega arith) c.if-s-at-ne10.false))
 
 returns-2 : tie.Need-returns invariant-loop decreases-loop
 returns-2 c =
-    let l = c.before in
-    (omega (arith, l.loop-at.invariant.2, next_end l.loop-at.at l.before.args.s.now (omega arith)), (search rules, search rules))
+    (omega (arith, c.loop-at.invariant.2, next_end c.loop-at.at c.args.s.now (omega arith)), (search rules, search rules))
 
 pub skip_empty_spec : {M : Type 1} → statement M
 skip_empty_spec =

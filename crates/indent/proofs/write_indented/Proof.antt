@@ -42,24 +42,24 @@ given s =
       fs = a.prefix.now;
       gs = a.prefix-entries.now;
       us = a.prefix-text.now;
-      od = a.bytes-1.now;
-      oe = a.numbers-1.now;
-      ot = a.texts-1.now;
+      od = a.bytes.now;
+      oe = a.numbers.now;
+      ot = a.texts.now;
     }
 
 -- once both recordings are checked
-abbrev start : tie.In-Fine-2 → tie.Start
+abbrev start : tie.In-Fine → tie.Start
 start c = c.before.before.before.before.before.before.before.before.before.before.before.before
 
-abbrev sizes : tie.In-Fine-2 → TextSizes
-sizes c = c.checked-in-Fine-1.given.0.0
+abbrev sizes : tie.In-Fine → TextSizes
+sizes c = c.in-Fine.n
 
-fine : (c : tie.In-Fine-2) → BothFine (given (start c)) (sizes c)
-fine c = both_fine (given (start c)) c.before.before.check_both-checked.result c.before.before.check_both-checked.ensures (sizes c) c.checked-in-Fine-1.given.1
+fine : (c : tie.In-Fine) → BothFine (given (start c)) (sizes c)
+fine c = both_fine (given (start c)) c.check_both-checked.result c.check_both-checked.ensures (sizes c) c.in-Fine.is
 
 -- once the lines that are not empty are counted
-abbrev checked : tie.After-filled_lines-count → tie.In-Fine-2
-checked c = c.before.before
+abbrev checked : tie.After-filled_lines-count → tie.In-Fine
+checked c = c.before
 
 abbrev call : tie.After-filled_lines-count → Given
 call c = given (start (checked c))
@@ -103,9 +103,7 @@ enum-known-checked c = search rules
 
 returns : tie.Need-returns-in-Refused
 returns c =
-    let k = c.before.before.before in
-    let s = k.before.before.before.before.before.before.before.before.before.before in
-    both_refused (given s) k.check_both-checked.result k.check_both-checked.ensures c.before.checked-1.given.0.0 c.before.checked-1.given.1
+    both_refused (given c.before.before.before.before.before.before.before.before.before.before.before) c.check_both-checked.result c.check_both-checked.ensures c.in-Refused.f c.in-Refused.is
 
 enum-known-checked-2 : tie.Need-enum_known-checked-in-Fine-1
 enum-known-checked-2 c = search rules
@@ -118,15 +116,13 @@ mul-text-size c = omega (arith, text-product c.before)
 
 add-text-size : tie.Need-overflow_add-sizes
 add-text-size c =
-    let n = c.before.before in
-    omega (arith, (fine (checked n)).0.text_short, text-product n)
+    omega (arith, (fine (checked c.before.before)).0.text_short, text-product c.before.before)
 
 text-size-requires : tie.Need-text_size-shared-requires
 text-size-requires c κs =
-    let n = c.before.before in
-    let f = fine (checked n) in (
+    let f = fine (checked c.before.before) in (
       (f.0.entries_short, f.0.own_short, f.0.parts),
-      ((f.1.entries_short, f.1.own_short, f.1.parts, few n), texts_less (call n) (sizes (checked n)) (count n) f),
+      ((f.1.entries_short, f.1.own_short, f.1.parts, few c.before.before), texts_less (call c.before.before) (sizes (checked c.before.before)) (count c.before.before) f),
     )
 
 mul-settle : tie.Need-overflow_mul-count-2
@@ -149,21 +145,18 @@ enum-known-verdict c = search rules
 
 returns-2 : tie.Need-returns-in-Refused-verdict
 returns-2 c =
-    let p = c.before.before.before in
-    let n = counted p.before in
-    sizes_refused (call n) (sizes (checked n)) (fine (checked n)) (count n) (result n) _ _ _ (measured p.before) p.settle-verdict.result p.settle-verdict.ensures
-    c.before.verdict-1.given.0.0 c.before.verdict-1.given.1
+    let n = counted c.before.before in
+    sizes_refused (call n) (sizes (checked n)) (fine (checked n)) (count n) (result n) _ _ _ (measured c.before.before) c.settle-verdict.result c.settle-verdict.ensures
+    c.in-Refused-verdict.f c.in-Refused-verdict.is
 
 enum_told : tie.Need-enum_told-1
 enum_told c = search rules
 
 put-indented-requires : tie.Need-put_indented-c-requires
 put-indented-requires c κs =
-    let told = c.before.before.before in
-    let p = told.before.before in
-    let n = counted p.before in
+    let n = counted c.before.before.before.before.before in
     let f = fine (checked n) in
-    ((f.0.whole, f.1.whole), has_room (call n) (sizes (checked n)) f (count n) (result n) _ _ _ (measured p.before) p.settle-verdict.result p.settle-verdict.ensures told.enum_told-1.given.1)
+    ((f.0.whole, f.1.whole), has_room (call n) (sizes (checked n)) f (count n) (result n) _ _ _ (measured c.before.before.before.before.before) c.settle-verdict.result c.settle-verdict.ensures c.in-Room.is)
 
 same_length : tie.Need-shape_of-bytes
 same_length c = search rules
@@ -176,12 +169,9 @@ same-length-3 c = search rules
 
 returns-3 : tie.Need-returns
 returns-3 c =
-    let w = c.before.before.before.before.before.before in
-    let told = w.before.before.before.before in
-    let p = told.before.before in
-    let n = counted p.before in
-    written (call n) (sizes (checked n)) (fine (checked n)) (count n) (result n) _ _ _ (measured p.before) p.settle-verdict.result p.settle-verdict.ensures told.enum_told-1.given.1
-    0 _ _ _ w.put_indented-c.result (number_of_refusal (second (call n)) (content (call n))) w.put_indented-c.ensures
+    let n = counted c.before.before.before.before.before.before.before.before.before.before.before.before in
+    written (call n) (sizes (checked n)) (fine (checked n)) (count n) (result n) _ _ _ (measured c.before.before.before.before.before.before.before.before.before.before.before.before) c.settle-verdict.result c.settle-verdict.ensures c.in-Room.is
+    0 _ _ _ c.put_indented-c.result (number_of_refusal (second (call n)) (content (call n))) c.put_indented-c.ensures
 
 pub write_indented_spec : {M : Type 1} → statement M
 write_indented_spec =

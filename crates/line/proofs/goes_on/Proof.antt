@@ -12,7 +12,7 @@ in-line-requires : tie.Need-in_line-requires
 in-line-requires c κs = search rules
 
 returns : tie.Need-returns-then-gap-ne0
-returns c = laws.goes_line _ _ _ (λ z. omega (arith, z, c.before.if-gap-ne0.true)) c.in_line.ensures
+returns c = laws.goes_line _ _ _ (λ z. omega (arith, z, c.if-gap-ne0.true)) c.in_line.ensures
 
 returns-2 : tie.Need-returns
 returns-2 c = laws.goes_not _ _ (omega (arith, c.if-gap-ne0.false))

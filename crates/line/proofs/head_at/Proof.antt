@@ -16,7 +16,7 @@ one-char-requires c κs = search rules
 
 returns : tie.Need-returns-then-cut-eq0
 unfolding head_from
-returns c = c.one_char.ensures ∙ rw (eq-eqb _ _ c.before.if-cut-eq0.true)
+returns c = c.one_char.ensures ∙ rw (eq-eqb _ _ c.if-cut-eq0.true)
 
 returns-2 : tie.Need-returns
 unfolding head_from

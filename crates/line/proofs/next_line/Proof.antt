@@ -75,16 +75,16 @@ line_of c = underway (searched c)
 
 -- the numbers there: the width to break at, as the code has it and as the definition has it; the room; what is left of the data
 abbrev limit : Underway → ℕ
-limit c = c.before.limit_of-limit.result
+limit c = c.before.limit-of.result
 
 abbrev breaks : Underway → ℕ
 breaks c = limit_of_line (start c).args.width (start c).args.break-words
 
 abbrev room : Searching → ℕ
-room c = c.before.before.room_of-room.result
+room c = c.before.before.room_of.result
 
 abbrev left : Underway → List ℕ
-left c = c.words.word-1.now
+left c = c.words.word.now
 
 -- the promise of the call that starts there
 abbrev Promised : Started → Next → Type 0
@@ -101,13 +101,13 @@ narrow c = omega arith
 room_within : (c : tie.After-room_of-room invariant-loop decreases-loop invariant-words decreases-words) → c.room_of-room.result ≤ limit c.before.before
 room_within c =
     let a = (start c.before.before).args in
-    rw c.room_of-room.ensures (room_le _ _ _ _ (rw c.before.before.before.limit_of-limit.ensures (limit_ge a.width a.break-words (narrow c.before.before))))
+    rw c.room_of-room.ensures (room_le _ _ _ _ (rw c.limit_of-limit.ensures (limit_ge a.width a.break-words (narrow c.before.before))))
 
 -- the visible bytes at the front are part of the head, or as many of them as have room
 visible : (c : tie.After-visible_len-i invariant-loop decreases-loop invariant-words decreases-words)
-    → (c.visible_len-i.result ≤ c.before.room_of-room.result) × (c.visible_len-i.result ≤ visible_len_of (left c.before.before.before))
+    → (c.visible_len-i.result ≤ c.room_of-room.result) × (c.visible_len-i.result ≤ visible_len_of (left c.before.before.before))
 visible c =
-    let m = most_le c.before.room_of-room.result (visible_len_of (left c.before.before.before)) in
+    let m = most_le c.room_of-room.result (visible_len_of (left c.before.before.before)) in
     (omega (arith, c.visible_len-i.ensures, m.0), omega (arith, c.visible_len-i.ensures, m.1))
 
 -- one more character in the head, which is the one that was seen
@@ -118,12 +118,12 @@ abbrev from : Seen → Searching
 from c = c.before.before.before.before.before.before
 
 further : (c : Seen)
-    → laws.Search (left (underway (from c))) (limit (underway (from c))) ((from c).loop-c.i + c.before.before.before.before.before.seen_in_word-c.result.len)
-    ((limit (underway (from c)) - (room (from c) - (from c).loop-c.left)) - c.before.before.before.before.before.seen_in_word-c.result.width)
+    → laws.Search (left (underway (from c))) (limit (underway (from c))) ((from c).loop.i + c.before.before.before.before.before.seen-in-word.result.len)
+    ((limit (underway (from c)) - (room (from c) - (from c).loop.left)) - c.before.before.before.before.before.seen-in-word.result.width)
 further c =
-    let r = c.before.before.before.before.before.seen_in_word-c in
-    let I = (from c).loop-c.invariant in
-    laws.search_more _ _ _ _ I.0 r.result r.ensures.0 c.before.before.before.if-c-eq0.false (omega (arith, I.1, I.2, c.before.if-left-w.false)) r.ensures.1.1 r.ensures.1.0
+    let r = c.before.before.before.before.before.seen-in-word in
+    let I = (from c).loop.invariant in
+    laws.search_more _ _ _ _ I.0 r.result r.ensures.0 c.before.before.before.if2.false (omega (arith, I.1, I.2, c.before.if3.false)) r.ensures.1.1 r.ensures.1.0
 
 -- where the search ends: at the end of the word, or at the first character that would pass the width to break at
 abbrev Cut : Type 0
@@ -133,30 +133,30 @@ abbrev until : Cut → Searching
 until c = c.before.before.before
 
 ended : (c : Cut)
-    → (c.if-c-eq0.cut ≡ truncate_end_pos_of (limit (underway (until c))) (word_text (left (underway (until c)))))
-    × (room (until c) - (until c).loop-c.left ≡ truncate_end_width (limit (underway (until c))) (word_text (left (underway (until c)))))
+    → (c.if2.cut ≡ truncate_end_pos_of (limit (underway (until c))) (word_text (left (underway (until c)))))
+    × (room (until c) - (until c).loop.left ≡ truncate_end_width (limit (underway (until c))) (word_text (left (underway (until c)))))
 ended c =
-    let I = (until c).loop-c.invariant in
-    let r = c.before.before.seen_in_word-c in
-    let used : limit (underway (until c)) - (limit (underway (until c)) - (room (until c) - (until c).loop-c.left)) ≡ room (until c) - (until c).loop-c.left = omega (arith, I.2) in
+    let I = (until c).loop.invariant in
+    let r = c.before.before.seen-in-word in
+    let used : limit (underway (until c)) - (limit (underway (until c)) - (room (until c) - (until c).loop.left)) ≡ room (until c) - (until c).loop.left = omega (arith, I.2) in
     ⊎_elim
     (λ w. let z = laws.search_end _ _ _ _ I.0 r.result r.ensures.0 w.0.true in (w.1 ∙ z.0, sym used ∙ z.1))
     (λ w. let z = laws.search_pass _ _ _ _ I.0 r.result r.ensures.0 w.0.left (omega (arith, w.3.left)) in (w.4 ∙ z.0, sym used ∙ z.1))
-    c.if-c-eq0.branch-raw
+    c.if2.branch-raw
 
 -- the head that is taken
-headed : (c : Headed) → (c.head_at-head.result.len ≡ head_len (breaks (line_of c)) (left (line_of c))) × (c.head_at-head.result.width ≡ head_width (breaks (line_of c)) (left (line_of c)))
+headed : (c : Headed) → (c.head_at.result.len ≡ head_len (breaks (line_of c)) (left (line_of c))) × (c.head_at.result.width ≡ head_width (breaks (line_of c)) (left (line_of c)))
 headed c =
     let e = ended c.before in
-    let h = laws.head_law (limit (line_of c)) (left (line_of c)) c.before.if-c-eq0.cut _ e.0 e.1 in
-    let m = (line_of c).before.limit_of-limit.ensures in (
-      ap (λ (x : Head). x.len) c.head_at-head.ensures ∙ h.0 ∙ ap (λ (n : ℕ). head_len n (left (line_of c))) m,
-      ap (λ (x : Head). x.width) c.head_at-head.ensures ∙ h.1 ∙ ap (λ (n : ℕ). head_width n (left (line_of c))) m,
+    let h = laws.head_law (limit (line_of c)) (left (line_of c)) c.before.if2.cut _ e.0 e.1 in
+    let m = (line_of c).before.limit-of.ensures in (
+      ap (λ (x : Head). x.len) c.head_at.ensures ∙ h.0 ∙ ap (λ (n : ℕ). head_len n (left (line_of c))) m,
+      ap (λ (x : Head). x.width) c.head_at.ensures ∙ h.1 ∙ ap (λ (n : ℕ). head_width n (left (line_of c))) m,
     )
 
 sized : (c : Headed)
-    → (c.head_at-head.result.len ≤ length (left (line_of c))) × (c.head_at-head.result.width ≤ 2 * c.head_at-head.result.len)
-    × ((line_of c).words.run + c.head_at-head.result.width ≤ 2 * length (start (line_of c)).args.«data».now)
+    → (c.head_at.result.len ≤ length (left (line_of c))) × (c.head_at.result.width ≤ 2 * c.head_at.result.len)
+    × ((line_of c).words.run + c.head_at.result.width ≤ 2 * length (start (line_of c)).args.«data».now)
 sized c = laws.sizes _ _ _ _ _ _ _ _ _ _ (line_of c).words.invariant.state (breaks (line_of c)) _ _ (headed c).0 (headed c).1
 
 -- the end of a round: its head, and that the line went on at its start
@@ -184,14 +184,14 @@ in-line-requires c κs = search rules
 
 after-line-requires : tie.Need-after_line-requires invariant-loop decreases-loop invariant-words decreases-words
 after-line-requires c κs =
-    let a = c.before.before.before.before.args in
-    omega (arith, ap length (part_to_end a.«data».now a.at), length-drop a.at a.«data».now, c.before.before.before.before.requires.1)
+    let a = c.args in
+    omega (arith, ap length (part_to_end a.«data».now a.at), length-drop a.at a.«data».now, c.requires.1)
 
 -- a line without bytes
 returns : tie.Need-returns-then-not-in_line invariant-loop decreases-loop invariant-words decreases-words
 returns c =
-    let none = sym c.before.before.in_line.ensures ∙ c.before.if-not-in_line.true in
-    let first = laws.state_start _ _ _ _ c.before.before.before.before.before.requires.1 in
+    let none = sym c.in_line.ensures ∙ c.if-not-in_line.true in
+    let first = laws.state_start _ _ _ _ c.requires.1 in
     let R : Promised c.before.before.before.before.before c.after_Line.result = rw c.after_Line.ensures (laws.state_end _ _ _ _ _ _ _ _ _ _ first none) in
     R
 
@@ -200,7 +200,7 @@ limit-of-requires c κs = search rules
 
 words-holds : tie.Need-words-init invariant-loop decreases-loop invariant-words decreases-words
 words-holds c =
-    loops.words_start _ _ _ _ c.before.before.before.before.before.requires.1 (sym c.before.before.in_line.ensures ∙ c.before.if-not-in_line.false)
+    loops.words_start _ _ _ _ c.requires.1 (sym c.in_line.ensures ∙ not_false c.in_line.result c.if-not-in_line.false)
 
 room-of-requires : tie.Need-room_of-room-requires invariant-loop decreases-loop invariant-words decreases-words
 room-of-requires c κs = search rules
@@ -215,7 +215,7 @@ loop-holds : tie.Need-loop-c-init invariant-loop decreases-loop invariant-words 
 loop-holds c =
     let n = c.visible_len-i.result in
     let r = visible c in
-    let e : limit c.before.before.before - n ≡ limit c.before.before.before - (c.before.room_of-room.result - (c.before.room_of-room.result - n)) = omega (arith, r.0) in
+    let e : limit c.before.before.before - n ≡ limit c.before.before.before - (c.room_of-room.result - (c.room_of-room.result - n)) = omega (arith, r.0) in
     (loops.search_as _ _ _ _ _ e (search_visible _ _ _ r.1 (omega (arith, r.0, room_within c.before))), omega arith, room_within c.before)
 
 seen-in-word-requires : tie.Need-seen_in_word-c-requires invariant-loop decreases-loop invariant-words decreases-words
@@ -238,8 +238,8 @@ loop-less c = search rules
 
 loop-again : tie.Need-loop-c-preserved invariant-loop decreases-loop invariant-words decreases-words
 loop-again c =
-    let I = (from c).loop-c.invariant in
-    (loops.search_as _ _ _ _ _ (omega (arith, I.1, I.2, c.before.if-left-w.false)) (further c), omega (arith, I.1), I.2)
+    let I = (from c).loop.invariant in
+    (loops.search_as _ _ _ _ _ (omega (arith, I.1, I.2, c.if-left-w.false)) (further c), omega (arith, I.1), I.2)
 
 sub-head-at : tie.Need-overflow_sub-room-in-words invariant-loop decreases-loop invariant-words decreases-words
 sub-head-at c = search rules
@@ -279,8 +279,8 @@ goes-on-requires c κs = search rules
 words-less : tie.Need-words-smaller invariant-loop decreases-loop invariant-words decreases-words
 words-less c =
     let l = line_of (found c) in
-    let s = c.before.before.spaces_at-gap in
-    let n = (found c).head_at-head.result.len + s.result in
+    let s = c.spaces_at-gap in
+    let n = (found c).head_at.result.len + s.result in
     let some = laws.moves _ _ _ _ _ _ _ _ _ _ l.words.invariant.state (breaks l) _ _ (l.words.invariant.goes (tested c)) (headed (found c)).0 s.ensures.0 in
     omega (arith, ap length (part_to_end (left l) n), length-drop n (left l), s.ensures.1, some)
 
@@ -288,27 +288,26 @@ words-again : tie.Need-words-preserved invariant-loop decreases-loop invariant-w
 words-again c =
     let l = line_of (found c) in
     let h = headed (found c) in
-    let s = c.before.before.spaces_at-gap in
-    let fits = sym c.before.before.before.before.fits2.ensures ∙ c.before.before.before.if-not-fits.false in
+    let s = c.spaces_at-gap in
+    let fits = sym c.fits2.ensures ∙ not_false c.fits2.result c.if-not-fits.false in
     loops.words_next _ _ _ _ _ _ _ _ _ l.words.invariant (short l) (tested c) _ _ h.0 h.1 _ _ (narrow l) s.ensures.0 s.ensures.1 fits c.goes_on-going.ensures
 
 sub-here : tie.Need-overflow_sub-here invariant-loop decreases-loop invariant-words decreases-words
-sub-here c = c.before.words.invariant.left
+sub-here c = c.words.invariant.left
 
 sub-after-line : tie.Need-overflow_sub-here-2 invariant-loop decreases-loop invariant-words decreases-words
-sub-after-line c = c.before.words.invariant.gap_here
+sub-after-line c = c.words.invariant.gap_here
 
 sub-after-line-2 : tie.Need-overflow_sub-run invariant-loop decreases-loop invariant-words decreases-words
-sub-after-line-2 c = omega (arith, c.before.words.invariant.gap_run)
+sub-after-line-2 c = omega (arith, c.words.invariant.gap_run)
 
 after-line-requires-2 : tie.Need-after_line-requires-2 invariant-loop decreases-loop invariant-words decreases-words
-after-line-requires-2 c κs = omega (arith, c.before.words.invariant.left)
+after-line-requires-2 c κs = omega (arith, c.words.invariant.left)
 
 -- the line is over: no head may come, a character shows that the next head does not fit, or the head does not
 returns-2 : tie.Need-returns invariant-loop decreases-loop invariant-words decreases-words
 returns-2 c =
-    let l = c.before.before in
-    let W = l.words.invariant in
+    let W = c.words.invariant in
     let R : Promised (start c.before.before) c.after_line-2.result =
     rw c.after_line-2.ensures
     (⊎_elim
@@ -317,16 +316,16 @@ returns-2 c =
     (λ w.
     let g = w.4 in
     let S = laws.search_more _ _ _ _ w.3.invariant.0 g.result g.ensures.0 w.6.left (omega (arith, w.9.true)) g.ensures.1.1 g.ensures.1.0 in
-    let within = room_within (record { before = record { before = l; words-test = w.0 }; room_of = w.1 }) in
-    loops.words_early _ _ _ _ _ _ _ _ _ W (short l) w.0.true (limit l) ((w.1.result - w.3.left) + g.result.width) l.before.limit_of-limit.ensures
+    let within = room_within (record { before = record { before = c.before.before; words-test = w.0 }; room_of = w.1 }) in
+    loops.words_early _ _ _ _ _ _ _ _ _ W (short c.before.before) w.0.true (limit c.before.before) ((w.1.result - w.3.left) + g.result.width) c.limit_of-limit.ensures
     (omega (arith, S.place, w.6.left)) (omega (arith, S.width, w.3.invariant.1, within, w.9.true))
     (loops.past_room _ _ _ _ _ _ w.1.ensures (omega (arith, w.8.true, w.3.invariant.1)) (omega (arith, w.9.true, w.3.invariant.1, within))))
     (λ w.
-    let s : Searching = record { before = record { before = record { before = record { before = l; words-test = w.0 }; room_of = w.1 }; visible-len = w.2 }; loop = w.3 } in
+    let s : Searching = record { before = record { before = record { before = record { before = c.before.before; words-test = w.0 }; room_of = w.1 }; visible-len = w.2 }; loop = w.3 } in
     let h : Headed = record { before = record { before = record { before = record { before = s; seen-in-word = w.4 }; struct_known = w.5 }; if2 = w.6 }; head_at = w.7 } in
-    loops.words_new _ _ _ _ _ _ _ _ _ W (short l) w.0.true _ _ (headed h).0 (headed h).1 (sym w.8.ensures ∙ not-true w.8.result w.9.true))
+    loops.words_new _ _ _ _ _ _ _ _ _ W (short c.before.before) w.0.true _ _ (headed h).0 (headed h).1 (sym w.8.ensures ∙ not-true w.8.result w.9.true))
     v)
-    c.before.words-test.branch-raw) in
+    c.words-test.branch-raw) in
     R
 
 pub next_line_spec : {M : Type 1} → statement M

@@ -26,38 +26,36 @@ seen-in-word-requires : tie.Need-seen_in_word-first-requires invariant-loop decr
 seen-in-word-requires c κs = search rules
 
 loop-holds : tie.Need-loop-c-init invariant-loop decreases-loop
-loop-holds c = (search rules, (laws.one_start c.before.before.args.word.now c.seen_in_word-first.result c.seen_in_word-first.ensures.0).0)
+loop-holds c = (search rules, (laws.one_start c.args.word.now c.seen_in_word-first.result c.seen_in_word-first.ensures.0).0)
 
 seen-in-word-requires-2 : tie.Need-seen_in_word-c-requires invariant-loop decreases-loop
 seen-in-word-requires-2 c κs = search rules
 
 add_at : tie.Need-overflow_add-at invariant-loop decreases-loop
-add_at c = omega (arith, word_le c.before.before.before.before.before.before.before.before.before.args.word.now)
+add_at c = omega (arith, word_le c.args.word.now)
 
 loop-less : tie.Need-loop-c-smaller invariant-loop decreases-loop
 loop-less c = search rules
 
 loop-again : tie.Need-loop-c-preserved invariant-loop decreases-loop
 loop-again c =
-    let r = c.before.before.before.before.before.seen_in_word-c in
-    let l = c.before.before.before.before.before.before in
-    let n = laws.zero_more (word_text l.before.before.before.args.word.now) l.loop-c.at r.result r.ensures.0 c.before.before.before.if-c-eq0.false c.before.if-c-ne0.false in
-    (search rules, omega (arith, n, l.loop-c.invariant.1))
+    let r = c.seen_in_word-c in
+    let n = laws.zero_more (word_text c.args.word.now) c.loop-c.at r.result r.ensures.0 c.if-c-eq0.false c.if-c-ne0.false in
+    (search rules, omega (arith, n, c.loop-c.invariant.1))
 
 cast-t7 : tie.Need-overflow_cast-result invariant-loop decreases-loop
 cast-t7 c = search rules
 
 returns : tie.Need-returns invariant-loop decreases-loop
 returns c =
-    let l = c.before.before.before.before in
-    let d = l.before.before.before.args.word.now in
-    let r = c.before.before.before.seen_in_word-c in
-    let g = l.before.seen_in_word-first in
+    let d = c.args.word.now in
+    let r = c.seen_in_word-c in
+    let g = c.seen_in_word-first in
     let t = word_text d in
-    let none : zero_width_len_of (drop l.loop-c.at t) ≡ 0 =
-    ⊎_elim (λ w. laws.zero_end t l.loop-c.at r.result r.ensures.0 w.true) (λ w. laws.zero_pass t l.loop-c.at r.result r.ensures.0 w.0.left w.2.true)
-    c.before.if-c-eq0.branch-raw in
-    let p : l.loop-c.at ≡ (one_head d).len = omega (arith, none, l.loop-c.invariant.1) in
+    let none : zero_width_len_of (drop c.loop-c.at t) ≡ 0 =
+    ⊎_elim (λ w. laws.zero_end t c.loop-c.at r.result r.ensures.0 w.true) (λ w. laws.zero_pass t c.loop-c.at r.result r.ensures.0 w.0.left w.2.true)
+    c.if-c-eq0.branch-raw in
+    let p : c.loop-c.at ≡ (one_head d).len = omega (arith, none, c.loop-c.invariant.1) in
     let q : g.result.width ≡ (one_head d).width = (laws.one_start d g.result g.ensures.0).1 in
     λ i. record { len = p i; width = q i }
 

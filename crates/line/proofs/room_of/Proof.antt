@@ -11,13 +11,13 @@ returns : tie.Need-returns-then-first
 returns c = laws.room_first _ _ _ _ c.if-first.true
 
 returns-2 : tie.Need-returns-then-width-run
-returns-2 c = laws.room_left _ _ _ _ _ c.before.if-first.false (omega arith)
+returns-2 c = laws.room_left _ _ _ _ _ c.if-first.false (omega arith)
 
 sub-result : tie.Need-overflow_sub-result
 sub-result c = search rules
 
 returns-3 : tie.Need-returns
-returns-3 c = laws.room_left _ _ _ _ _ c.before.if-first.false (omega arith)
+returns-3 c = laws.room_left _ _ _ _ _ c.if-first.false (omega arith)
 
 pub room_of_spec : {M : Type 1} → statement M
 room_of_spec = tie.close (tie.spec returns returns-2 sub-result returns-3)

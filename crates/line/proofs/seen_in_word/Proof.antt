@@ -13,7 +13,7 @@ use Rattle.chars.proofs.seen_at.Reads as seen-at-reads
 
 returns : tie.Need-returns-then-s-i
 returns c =
-    let e = laws.past_end c.before.before.args.s.now c.before.before.args.i c.if-s-i.true in
+    let e = laws.past_end c.args.s.now c.args.i c.if-s-i.true in
     (e, (search rules, search rules))
 
 shared-slice-read-b : tie.Need-bounds-s-i
@@ -21,14 +21,14 @@ shared-slice-read-b c = search rules
 
 returns-2 : tie.Need-returns-then-b-eq32
 returns-2 c =
-    let e = laws.at_space c.before.before.before.before.before.args.s.now c.before.before.before.before.before.args.i
-    c.before.before.before.before.before.requires.1 c.before.before.before.if-s-i.false c.if-b-eq32.true in
+    let e = laws.at_space c.args.s.now c.args.i
+    c.requires.1 c.if-s-i.false c.if-b-eq32.true in
     (e, (search rules, search rules))
 
 returns-3 : tie.Need-returns-then-b-eq10
 returns-3 c =
-    let e = laws.at_newline c.before.before.before.before.before.before.args.s.now c.before.before.before.before.before.before.args.i
-    c.before.before.before.before.before.before.requires.1 c.before.before.before.before.if-s-i.false c.if-b-eq10.true in
+    let e = laws.at_newline c.args.s.now c.args.i
+    c.requires.1 c.if-s-i.false c.if-b-eq10.true in
     (e, (search rules, search rules))
 
 seen-at-requires : tie.Need-seen_at-requires
@@ -36,17 +36,17 @@ seen-at-requires c κs = search rules
 
 returns-4 : tie.Need-returns-then-b-le32
 returns-4 c =
-    let a = c.before.before.before.before.before.before.before.args in
+    let a = c.args in
     let r = c.seen_at in
-    let e = laws.at_char a.s.now a.i c.before.before.before.before.before.before.before.requires.1 c.before.before.before.before.before.if-s-i.false
-    c.before.before.if-b-eq32.false c.before.if-b-eq10.false r.result r.ensures.0.0 r.ensures.0.1 in
-    (e, (laws.seen_inside (word_text a.s.now) a.i r.result e c.before.before.before.before.before.before.before.requires.1, search rules))
+    let e = laws.at_char a.s.now a.i c.requires.1 c.if-s-i.false
+    c.if-b-eq32.false c.if-b-eq10.false r.result r.ensures.0.0 r.ensures.0.1 in
+    (e, (laws.seen_inside (word_text a.s.now) a.i r.result e c.requires.1, search rules))
 
 returns-5 : tie.Need-returns-then-b-lt127
 returns-5 c =
-    let a = c.before.before.before.before.before.args in
-    let within = c.before.before.before.before.before.requires.1 in
-    let e = at_visible a.s.now a.i within c.before.before.before.if-s-i.false (omega (arith, c.before.if-b-le32.false)) (omega (arith, c.if-b-lt127.true)) in
+    let a = c.args in
+    let within = c.requires.1 in
+    let e = at_visible a.s.now a.i within c.if-s-i.false (omega (arith, c.if-b-le32.false)) (omega (arith, c.if-b-lt127.true)) in
     (e, (laws.seen_inside (word_text a.s.now) a.i (record { len = 1; width = 1 }) e within, search rules))
 
 seen-at-requires-2 : tie.Need-seen_at-requires-2
@@ -54,11 +54,11 @@ seen-at-requires-2 c κs = search rules
 
 returns-6 : tie.Need-returns
 returns-6 c =
-    let a = c.before.before.before.before.before.before.args in
+    let a = c.args in
     let r = c.seen_at-2 in
-    let e = laws.at_char a.s.now a.i c.before.before.before.before.before.before.requires.1 c.before.before.before.before.if-s-i.false
-    (λ z. omega (arith, z, c.before.before.if-b-le32.false)) (λ z. omega (arith, z, c.before.before.if-b-le32.false)) r.result r.ensures.0.0 r.ensures.0.1 in
-    (e, (laws.seen_inside (word_text a.s.now) a.i r.result e c.before.before.before.before.before.before.requires.1, search rules))
+    let e = laws.at_char a.s.now a.i c.requires.1 c.if-s-i.false
+    (λ z. omega (arith, z, c.if-b-le32.false)) (λ z. omega (arith, z, c.if-b-le32.false)) r.result r.ensures.0.0 r.ensures.0.1 in
+    (e, (laws.seen_inside (word_text a.s.now) a.i r.result e c.requires.1, search rules))
 
 pub seen_in_word_spec : {M : Type 1} → statement M
 seen_in_word_spec =

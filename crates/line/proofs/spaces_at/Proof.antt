@@ -32,18 +32,16 @@ loop-less c = search rules
 
 loop-again : tie.Need-loop-i-preserved invariant-loop decreases-loop
 loop-again c =
-    let l = c.before.before.before in
-    (search rules, search rules, omega (arith, laws.space_yes l.before.args.s.now l.loop-i.i c.before.before.loop-i-test.true c.if-s-i-ne32.false, l.loop-i.invariant.2))
+    (search rules, search rules, omega (arith, laws.space_yes c.args.s.now c.loop-i.i c.loop-i-test.true c.if-s-i-ne32.false, c.loop-i.invariant.2))
 
 sub-result : tie.Need-overflow_sub-result invariant-loop decreases-loop
 sub-result c = search rules
 
 returns : tie.Need-returns invariant-loop decreases-loop
 returns c =
-    let l = c.before in
-    let none : space_len (drop l.loop-i.i l.before.args.s.now) ≡ 0 =
-    ⊎_elim (λ w. laws.space_end l.before.args.s.now l.loop-i.i w.left) (λ w. laws.space_no l.before.args.s.now l.loop-i.i w.0.true w.2.true) c.loop-i-test.branch-raw in
-    (omega (arith, none, l.loop-i.invariant.2), search rules)
+    let none : space_len (drop c.loop-i.i c.args.s.now) ≡ 0 =
+    ⊎_elim (λ w. laws.space_end c.args.s.now c.loop-i.i w.left) (λ w. laws.space_no c.args.s.now c.loop-i.i w.0.true w.2.true) c.loop-i-test.branch-raw in
+    (omega (arith, none, c.loop-i.invariant.2), search rules)
 
 pub spaces_at_spec : {M : Type 1} → statement M
 spaces_at_spec =

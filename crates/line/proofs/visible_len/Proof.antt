@@ -23,7 +23,7 @@ at-most-requires c κs = search rules
 
 loop-holds : tie.Need-loop-i-init invariant-loop decreases-loop
 loop-holds c =
-    let m = laws.most_le c.before.before.args.most (length c.before.before.args.s.now) in
+    let m = laws.most_le c.args.most (length c.args.s.now) in
     (search rules, omega (arith, c.at_most-end.ensures, m.1), omega (arith, c.at_most-end.ensures, m.0), search rules)
 
 shared-slice-read-if1 : tie.Need-bounds-s-i invariant-loop decreases-loop
@@ -40,23 +40,19 @@ loop-less c = omega arith
 
 loop-again : tie.Need-loop-i-preserved invariant-loop decreases-loop
 loop-again c =
-    let l = c.before.before.before.before.before in
-    (omega arith, search rules, search rules, omega (arith, laws.visible_yes l.before.before.before.args.s.now l.loop-i.i (omega arith) (omega arith) (omega arith), l.loop-i.invariant.3))
+    (omega arith, search rules, search rules, omega (arith, laws.visible_yes c.args.s.now c.loop-i.i (omega arith) (omega arith) (omega arith), c.loop-i.invariant.3))
 
 returns : tie.Need-returns-after-loop-i invariant-loop decreases-loop
 returns c =
-    let l = c.before in
-    laws.count_end _ _ _ (omega (arith, l.before.at_most-end.ensures) ∙ l.before.at_most-end.ensures) l.loop-i.invariant.3
+    laws.count_end _ _ _ (omega (arith, c.at_most-end.ensures) ∙ c.at_most-end.ensures) c.loop-i.invariant.3
 
 returns-2 : tie.Need-returns-then-s-i-le32 invariant-loop decreases-loop
 returns-2 c =
-    let l = c.before.before.before in
-    laws.count-byte _ _ _ (omega arith) (laws.visible_low l.before.before.before.args.s.now l.loop-i.i (omega arith) (omega arith)) l.loop-i.invariant.3
+    laws.count-byte _ _ _ (omega arith) (laws.visible_low c.args.s.now c.loop-i.i (omega arith) (omega arith)) c.loop-i.invariant.3
 
 returns-3 : tie.Need-returns-then-s-i-ge127 invariant-loop decreases-loop
 returns-3 c =
-    let l = c.before.before.before.before.before in
-    laws.count-byte _ _ _ (omega arith) (laws.visible_high l.before.before.before.args.s.now l.loop-i.i (omega arith) (omega arith)) l.loop-i.invariant.3
+    laws.count-byte _ _ _ (omega arith) (laws.visible_high c.args.s.now c.loop-i.i (omega arith) (omega arith)) c.loop-i.invariant.3
 
 pub visible_len_spec : {M : Type 1} → statement M
 visible_len_spec =

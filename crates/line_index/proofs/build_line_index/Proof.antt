@@ -28,24 +28,23 @@ abbrev content : tie.After-check-checked → Recording
 content c = recording (start c).args.content.now (start c).args.entries.now (start c).args.text.now
 
 -- the check found no fault
-clean : (c : tie.In-Fine) → recording_fault (content c.before.before) ≡ 0
-clean c = let k = c.before.before.check-checked in let g = c.enum_told-1.given in sym k.ensures.0 ∙ fine_zero k.result g.0.0 g.1
+clean : (c : tie.In-Fine) → recording_fault (content c.before) ≡ 0
+clean c = let k = c.check-checked in sym k.ensures.0 ∙ fine_zero k.result c.in-Fine.field-0 c.in-Fine.is
 
 -- so the data is not over its limit
-short : (c : tie.In-Fine) → length (start c.before.before).args.content.now ≤ data_limit
-short c = ltb-false _ _ (no_fault (content c.before.before) (clean c)).data_bytes
+short : (c : tie.In-Fine) → length (start c.before).args.content.now ≤ data_limit
+short c = ltb-false _ _ (no_fault (content c.before) (clean c)).data_bytes
 
 -- how many starts there are behind the first
 abbrev starts : tie.After-check-checked → ℕ
 starts k = length (starts_from 0 (drop 0 (start k).args.content.now))
 
 -- and its index has room
-fits : (c : tie.Else-not-starts_fit) → length (line_starts (start c.before.before.before.before.before).args.content.now) ≤ length (start c.before.before.before.before.before).args.index.now
+fits : (c : tie.Else-not-starts_fit) → length (line_starts (start c.before.before.before.before).args.content.now) ≤ length (start c.before.before.before.before).args.index.now
 fits c =
-    let k = c.before.before.before.before.before in
-    let f = c.before.starts_fit in
-    let l = leb-true (starts k) (length (start k).args.index.now - 1) (sym f.ensures ∙ c.if-not-starts_fit.false) in
-    omega (arith, calls.starts_one (start k).args.content.now, l, c.before.before.if-index-eq0.false)
+    let f = c.starts_fit in
+    let l = leb-true (starts c.before.before.before.before) (length (start c.before.before.before.before).args.index.now - 1) (sym f.ensures ∙ not_false f.result c.if-not-starts_fit.false) in
+    omega (arith, calls.starts_one (start c.before.before.before.before).args.content.now, l, c.if-index-eq0.false)
 
 check-requires : tie.Need-check-checked-requires
 check-requires c κs = search rules
@@ -55,17 +54,14 @@ enum-known-checked c = search rules
 
 returns : tie.Need-returns-in-Refused
 returns c =
-    let k = c.before.before.before in
-    let g = c.before.checked-1.given in
-    calls.build_content (content k) (start k).args.index.now g.0.0 (sym k.check-checked.ensures.0 ∙ refused-number k.check-checked.result g.0.0 g.1)
+    calls.build_content (content c.before) (start c.before).args.index.now c.in-Refused.f (sym c.check-checked.ensures.0 ∙ refused-number c.check-checked.result c.in-Refused.f c.in-Refused.is)
 
 enum_told : tie.Need-enum_told-1
 enum_told c = search rules
 
 returns-2 : tie.Need-returns-then-index-eq0
 returns-2 c =
-    let k = c.before.before.before in
-    calls.build_short (content k) (start k).args.index.now (clean c.before) (omega (arith, calls.starts_one (start k).args.content.now, c.if-index-eq0.true))
+    calls.build_short (content c.before.before) (start c.before.before).args.index.now (clean c.before) (omega (arith, calls.starts_one (start c.before.before).args.content.now, c.if-index-eq0.true))
 
 sub-starts-fit : tie.Need-overflow_sub-index
 sub-starts-fit c = search rules
@@ -75,22 +71,20 @@ starts-fit-requires c κs = search rules
 
 returns-3 : tie.Need-returns-then-not-starts_fit
 returns-3 c =
-    let k = c.before.before.before.before.before in
-    let f = c.before.starts_fit in
-    calls.build_short (content k) (start k).args.index.now (clean c.before.before.before)
-    (omega (arith, calls.starts_one (start k).args.content.now, leb-false (starts k) (length (start k).args.index.now - 1) (sym f.ensures ∙ c.if-not-starts_fit.true)))
+    let f = c.starts_fit in
+    calls.build_short (content c.before.before.before.before) (start c.before.before.before.before).args.index.now (clean c.before.before.before)
+    (omega (arith, calls.starts_one (start c.before.before.before.before).args.content.now, leb-false (starts c.before.before.before.before) (length (start c.before.before.before.before).args.index.now - 1) (sym f.ensures ∙ c.if-not-starts_fit.true)))
 
 write-index-requires : tie.Need-write_index-count-requires
 write-index-requires c κs = (short c.before.before.before.before, fits c.before)
 
 same_length : tie.Need-shape_of-index
-same_length c = c.before.before.write_index-count.auto.1.0
+same_length c = c.write_index-count.auto.1.0
 
 returns-4 : tie.Need-returns
 returns-4 c =
-    let k = c.before.before.before.before.before.before.before.before.before in
-    let e = c.before.before.write_index-count.ensures in
-    calls.build_done (content k) (start k).args.index.now (clean c.before.before.before.before.before.before.before) (fits c.before.before.before.before) _ _ e.1 e.0
+    let e = c.write_index-count.ensures in
+    calls.build_done (content c.before.before.before.before.before.before.before.before) (start c.before.before.before.before.before.before.before.before).args.index.now (clean c.before.before.before.before.before.before.before) (fits c.before.before.before.before) _ _ e.1 e.0
 
 pub build_line_index_spec : {M : Type 1} → statement M
 build_line_index_spec =

@@ -25,24 +25,24 @@ shared-slice-read-result c = search rules
 
 cast-result : tie.Need-overflow_cast-result
 cast-result c =
-    omega (arith, c.shared_slice_known-1.given (c.before.before.args.n + 1))
+    omega (arith, c.shared_slice_known-1.given (c.args.n + 1))
 
 sub-result : tie.Need-overflow_sub-result
 sub-result c =
-    let a = c.before.before.args in
-    let q = c.before.before.requires.0 in
-    omega (arith, ap (λ (l : List ℕ). get_or l (a.n + 1) 0) q, end_inner a.s.now a.n (omega (arith, ap length q, c.before.if-n-index.true)))
+    let a = c.args in
+    let q = c.requires.0 in
+    omega (arith, ap (λ (l : List ℕ). get_or l (a.n + 1) 0) q, end_inner a.s.now a.n (omega (arith, ap length q, c.if-n-index.true)))
 
 returns : tie.Need-returns-then-n-index
 returns c =
-    let a = c.before.before.args in
-    let q = c.before.before.requires.0 in
-    omega (arith, ap (λ (l : List ℕ). get_or l (a.n + 1) 0) q, end_inner a.s.now a.n (omega (arith, ap length q, c.before.if-n-index.true)))
+    let a = c.args in
+    let q = c.requires.0 in
+    omega (arith, ap (λ (l : List ℕ). get_or l (a.n + 1) 0) q, end_inner a.s.now a.n (omega (arith, ap length q, c.if-n-index.true)))
 
 returns-2 : tie.Need-returns
 returns-2 c =
-    let a = c.before.args in
-    sym (end_last a.s.now a.n (omega (arith, ap length c.before.requires.0, c.before.requires.1, c.if-n-index.false)))
+    let a = c.args in
+    sym (end_last a.s.now a.n (omega (arith, ap length c.requires.0, c.requires.1, c.if-n-index.false)))
 
 pub end_of_spec : {M : Type 1} → statement M
 end_of_spec =

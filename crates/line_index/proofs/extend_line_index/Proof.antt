@@ -31,12 +31,12 @@ abbrev content : tie.After-check-checked → Recording
 content c = recording (start c).args.content.now (start c).args.entries.now (start c).args.text.now
 
 -- the check found no fault
-clean : (c : tie.In-Fine) → recording_fault (content c.before.before) ≡ 0
-clean c = let k = c.before.before.check-checked in let g = c.enum_told-1.given in sym k.ensures.0 ∙ fine_zero k.result g.0.0 g.1
+clean : (c : tie.In-Fine) → recording_fault (content c.before) ≡ 0
+clean c = let k = c.check-checked in sym k.ensures.0 ∙ fine_zero k.result c.in-Fine.field-0 c.in-Fine.is
 
 -- so the data is not over its limit
-short : (c : tie.In-Fine) → length (start c.before.before).args.content.now ≤ data_limit
-short c = ltb-false _ _ (no_fault (content c.before.before) (clean c)).data_bytes
+short : (c : tie.In-Fine) → length (start c.before).args.content.now ≤ data_limit
+short c = ltb-false _ _ (no_fault (content c.before) (clean c)).data_bytes
 
 -- the earlier part, its index and what is new, seen from the check
 abbrev list : tie.After-check-checked → List ℕ
@@ -56,27 +56,27 @@ new k = length (starts_from (earlier k) (drop (earlier k) (bytes k)))
 
 -- the check, seen from where the earlier part has been tested
 abbrev checked : tie.Else-not-is_index → tie.After-check-checked
-checked c = c.before.before.before.before.before.before.before.before.before
+checked c = c.before.before.before.before.before.before.before.before
 
 fine : (c : tie.Else-not-is_index) → recording_fault (content (checked c)) ≡ 0
-fine c = clean c.before.before.before.before.before.before.before
+fine c = clean c.before.before.before.before.before.before
 
 -- the earlier part is within list and data, and its index is there
 within : (c : tie.Else-not-is_index) → (used (checked c) ≤ length (list (checked c))) × (earlier (checked c) ≤ length (bytes (checked c)))
-within c = (c.before.before.before.before.before.before.if-index-used.false, c.before.before.before.before.before.if-content-earlier.false)
+within c = (c.if1.false, c.if2.false)
 
 front : (c : tie.Else-not-is_index) → same (take (used (checked c)) (list (checked c))) (line_starts (take (earlier (checked c)) (bytes (checked c)))) ≡ true
 front c =
     let k = checked c in
-    let t = c.before.is_index in
-    calls.fronts_same (bytes k) (list k) (earlier k) (used k) t.result t.ensures ∙ c.if-not-is_index.false
+    let t = c.is_index in
+    calls.fronts_same (bytes k) (list k) (earlier k) (used k) t.result t.ensures ∙ not_false t.result c.if-not-is_index.false
 
 -- what is new has room behind it
 fits : (c : tie.Else-not-starts_fit) → new (checked c.before.before) ≤ length (list (checked c.before.before)) - used (checked c.before.before)
 fits c =
     let k = checked c.before.before in
-    let f = c.before.starts_fit in
-    leb-true (new k) (length (list k) - used k) (sym f.ensures ∙ c.if-not-starts_fit.false)
+    let f = c.starts_fit in
+    leb-true (new k) (length (list k) - used k) (sym f.ensures ∙ not_false f.result c.if-not-starts_fit.false)
 
 check-requires : tie.Need-check-checked-requires
 check-requires c κs = search rules
@@ -86,22 +86,18 @@ enum-known-checked c = search rules
 
 returns : tie.Need-returns-in-Refused
 returns c =
-    let k = c.before.before.before in
-    let g = c.before.checked-1.given in
-    calls.extend_content (content k) (list k) (earlier k) (used k) g.0.0 (sym k.check-checked.ensures.0 ∙ refused-number k.check-checked.result g.0.0 g.1)
+    calls.extend_content (content c.before) (list c.before) (earlier c.before) (used c.before) c.in-Refused.f (sym c.check-checked.ensures.0 ∙ refused-number c.check-checked.result c.in-Refused.f c.in-Refused.is)
 
 enum_told : tie.Need-enum_told-1
 enum_told c = search rules
 
 returns-2 : tie.Need-returns-then-index-used
 returns-2 c =
-    let k = c.before.before.before in
-    calls.extend_used (content k) (list k) (earlier k) (used k) (clean c.before) c.if-index-used.true
+    calls.extend_used (content c.before.before) (list c.before.before) (earlier c.before.before) (used c.before.before) (clean c.before) c.if-index-used.true
 
 returns-3 : tie.Need-returns-then-content-earlier
 returns-3 c =
-    let k = c.before.before.before.before in
-    calls.extend_earlier (content k) (list k) (earlier k) (used k) (clean c.before.before) c.before.if-index-used.false c.if-content-earlier.true
+    calls.extend_earlier (content c.before.before.before) (list c.before.before.before) (earlier c.before.before.before) (used c.before.before.before) (clean c.before.before) c.if-index-used.false c.if-content-earlier.true
 
 sub-is-index : tie.Need-slice_bounds-is_index-count
 sub-is-index c = search rules
@@ -129,11 +125,10 @@ same_length c = search rules
 
 returns-4 : tie.Need-returns-then-not-is_index
 returns-4 c =
-    let k = c.before.before.before.before.before.before.before.before.before in
-    let t = c.before.is_index in
-    calls.extend_wrong (content k) (list k) (earlier k) (used k) (clean c.before.before.before.before.before.before.before) c.before.before.before.before.before.before.if-index-used.false
-    c.before.before.before.before.before.if-content-earlier.false
-    (calls.fronts_same (bytes k) (list k) (earlier k) (used k) t.result t.ensures ∙ c.if-not-is_index.true)
+    let t = c.is_index in
+    calls.extend_wrong (content c.before.before.before.before.before.before.before.before) (list c.before.before.before.before.before.before.before.before) (earlier c.before.before.before.before.before.before.before.before) (used c.before.before.before.before.before.before.before.before) (clean c.before.before.before.before.before.before) c.if1.false
+    c.if2.false
+    (calls.fronts_same (bytes c.before.before.before.before.before.before.before.before) (list c.before.before.before.before.before.before.before.before) (earlier c.before.before.before.before.before.before.before.before) (used c.before.before.before.before.before.before.before.before) t.result t.ensures ∙ c.if-not-is_index.true)
 
 sub-starts-fit : tie.Need-overflow_sub-index
 sub-starts-fit c = search rules
@@ -146,29 +141,26 @@ same-length-2 c = search rules
 
 returns-5 : tie.Need-returns-then-not-starts_fit
 returns-5 c =
-    let b = c.before.before in
-    let k = checked b in
-    let f = c.before.starts_fit in
-    calls.extend_short (content k) (list k) (earlier k) (used k) (fine b) (within b).0 (within b).1 (front b)
+    let k = checked c.before.before in
+    let f = c.starts_fit in
+    calls.extend_short (content k) (list k) (earlier k) (used k) (fine c.before.before) (within c.before.before).0 (within c.before.before).1 (front c.before.before)
     (leb-false (new k) (length (list k) - used k) (sym f.ensures ∙ c.if-not-starts_fit.true))
 
 write-starts-requires : tie.Need-write_starts-count-requires
 write-starts-requires c κs =
-    let b = c.before.before.before in
-    let k = checked b in (
-      ((within b).1, short b.before.before.before.before.before.before.before),
-      calls.extend_fits (content k) (list k) (earlier k) (used k) (fine b) (within b).0 (within b).1 (front b) (fits c.before),
+    let k = checked c.before.before.before in (
+      ((within c.before.before.before).1, short c.before.before.before.before.before.before.before.before.before),
+      calls.extend_fits (content k) (list k) (earlier k) (used k) (fine c.before.before.before) (within c.before.before.before).0 (within c.before.before.before).1 (front c.before.before.before) (fits c.before),
     )
 
 same-length-3 : tie.Need-shape_of-index
-same-length-3 c = c.before.before.write_starts-count.auto.1.1.0
+same-length-3 c = c.write_starts-count.auto.1.1.0
 
 returns-6 : tie.Need-returns
 returns-6 c =
-    let b = c.before.before.before.before.before.before in
-    let k = checked b in
-    let e = c.before.before.write_starts-count.ensures in
-    calls.extend_done (content k) (list k) (earlier k) (used k) (fine b) (within b).0 (within b).1 (front b) (fits c.before.before.before.before) _ _ e.1 e.0
+    let k = checked c.before.before.before.before.before.before in
+    let e = c.write_starts-count.ensures in
+    calls.extend_done (content k) (list k) (earlier k) (used k) (fine c.before.before.before.before.before.before) (within c.before.before.before.before.before.before).0 (within c.before.before.before.before.before.before).1 (front c.before.before.before.before.before.before) (fits c.before.before.before.before) _ _ e.1 e.0
 
 pub extend_line_index_spec : {M : Type 1} → statement M
 extend_line_index_spec =

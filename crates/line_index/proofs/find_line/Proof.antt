@@ -35,7 +35,7 @@ shared-slice-read-if1 c = search rules
 
 cast-if1 : tie.Need-overflow_cast-index invariant-loop decreases-loop
 cast-if1 c =
-    omega (arith, c.shared_slice_known-1.given (c.before.before.loop-high.low + (c.before.before.loop-high.high - c.before.before.loop-high.low) / 2))
+    omega (arith, c.shared_slice_known-1.given (c.loop-high.low + (c.loop-high.high - c.loop-high.low) / 2))
 
 loop-less : tie.Need-loop-high-smaller-then-index-mid invariant-loop decreases-loop
 loop-less c = search rules
@@ -51,10 +51,10 @@ loop-again-2 c = search rules
 
 returns : tie.Need-returns invariant-loop decreases-loop
 returns c =
-    let l = c.before.loop-high in
-    let ix = c.before.before.args.index.now in
+    let l = c.loop-high in
+    let ix = c.args.index.now in
     let e : l.high ≡ l.low + 1 = omega arith in
-    (omega arith, l.invariant.2, λ h. subst (λ (k : ℕ). k < length ix → c.before.before.args.offset < get_or ix k 0) e l.invariant.3 h)
+    (omega arith, l.invariant.2, λ h. subst (λ (k : ℕ). k < length ix → c.args.offset < get_or ix k 0) e l.invariant.3 h)
 
 pub find_line_spec : {M : Type 1} → statement M
 find_line_spec =

@@ -16,7 +16,7 @@ use Rattle.newlines.proofs.count_newlines.Reads as count-newlines-reads
 
 returns : tie.Need-returns-then-index-eq0
 returns c =
-    let a = c.before.before.before.args in
+    let a = c.args in
     ask_none a.s.now a.index.now c.if-index-eq0.true
 
 shared-slice-read-if2 : tie.Need-bounds-index-0
@@ -24,7 +24,7 @@ shared-slice-read-if2 c = search rules
 
 returns-2 : tie.Need-returns-then-index-ne0
 returns-2 c =
-    let a = c.before.before.before.before.before.args in
+    let a = c.args in
     ask_first a.s.now a.index.now c.if-index-ne0.true
 
 stand-behind-requires : tie.Need-stand_behind-requires
@@ -32,8 +32,8 @@ stand-behind-requires c κs = search rules
 
 returns-3 : tie.Need-returns-then-not-stand_behind
 returns-3 c =
-    let a = c.before.before.before.before.before.before.before.args in
-    ask_behind a.s.now a.index.now (sym c.before.stand_behind.ensures ∙ c.if-not-stand_behind.true)
+    let a = c.args in
+    ask_behind a.s.now a.index.now (sym c.stand_behind.ensures ∙ c.if-not-stand_behind.true)
 
 count-newlines-requires : tie.Need-count_newlines-requires
 count-newlines-requires c κs = search rules
@@ -43,10 +43,10 @@ sub-result c = search rules
 
 returns-4 : tie.Need-returns
 returns-4 c =
-    let a = c.before.before.before.before.before.before.before.before.args in
-    let r = c.before.before.stand_behind in
+    let a = c.args in
+    let r = c.stand_behind in
     ap (λ (n : ℕ). eqb n (length a.index.now - 1)) c.count_newlines.ensures.0
-    ∙ ask_count a.s.now a.index.now (omega arith) c.before.before.before.if-index-ne0.false (sym r.ensures ∙ c.before.if-not-stand_behind.false)
+    ∙ ask_count a.s.now a.index.now (omega arith) c.if-index-ne0.false (sym r.ensures ∙ not_false r.result c.if-not-stand_behind.false)
 
 pub is_index_spec : {M : Type 1} → statement M
 is_index_spec =

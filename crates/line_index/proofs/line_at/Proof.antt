@@ -28,12 +28,12 @@ abbrev content : tie.After-check-checked → Recording
 content c = recording (start c).args.content.now (start c).args.entries.now (start c).args.text.now
 
 -- the check found no fault
-clean : (c : tie.In-Fine) → recording_fault (content c.before.before) ≡ 0
-clean c = let k = c.before.before.check-checked in let g = c.enum_told-1.given in sym k.ensures.0 ∙ fine_zero k.result g.0.0 g.1
+clean : (c : tie.In-Fine) → recording_fault (content c.before) ≡ 0
+clean c = let k = c.check-checked in sym k.ensures.0 ∙ fine_zero k.result c.in-Fine.field-0 c.in-Fine.is
 
 -- the list is the index
-index : (c : tie.Else-not-is_index) → same (start c.before.before.before.before).args.index.now (line_starts (start c.before.before.before.before).args.content.now) ≡ true
-index c = let t = c.before.is_index in sym t.ensures ∙ c.if-not-is_index.false
+index : (c : tie.Else-not-is_index) → same (start c.before.before.before).args.index.now (line_starts (start c.before.before.before).args.content.now) ≡ true
+index c = let t = c.is_index in sym t.ensures ∙ not_false t.result c.if-not-is_index.false
 
 check-requires : tie.Need-check-checked-requires
 check-requires c κs = search rules
@@ -43,9 +43,7 @@ enum-known-checked c = search rules
 
 returns : tie.Need-returns-in-Refused
 returns c =
-    let k = c.before.before.before in
-    let g = c.before.checked-1.given in
-    calls.line_content (content k) (start k).args.index.now (start k).args.n g.0.0 (sym k.check-checked.ensures.0 ∙ refused-number k.check-checked.result g.0.0 g.1)
+    calls.line_content (content c.before) (start c.before).args.index.now (start c.before).args.n c.in-Refused.f (sym c.check-checked.ensures.0 ∙ refused-number c.check-checked.result c.in-Refused.f c.in-Refused.is)
 
 enum_told : tie.Need-enum_told-1
 enum_told c = search rules
@@ -55,14 +53,12 @@ is-index-requires c κs = search rules
 
 returns-2 : tie.Need-returns-then-not-is_index
 returns-2 c =
-    let k = c.before.before.before.before in
-    let t = c.before.is_index in
-    calls.line_wrong (content k) (start k).args.index.now (start k).args.n (clean c.before.before) (sym t.ensures ∙ c.if-not-is_index.true)
+    let t = c.is_index in
+    calls.line_wrong (content c.before.before.before) (start c.before.before.before).args.index.now (start c.before.before.before).args.n (clean c.before.before) (sym t.ensures ∙ c.if-not-is_index.true)
 
 returns-3 : tie.Need-returns-then-index-n
 returns-3 c =
-    let k = c.before.before.before.before.before in
-    calls.line_missing (content k) (start k).args.index.now (start k).args.n (clean c.before.before.before) (index c.before) c.if-index-n.true
+    calls.line_missing (content c.before.before.before.before) (start c.before.before.before.before).args.index.now (start c.before.before.before.before).args.n (clean c.before.before.before) (index c.before) c.if-index-n.true
 
 mul-t11 : tie.Need-offset_bounds-index-n
 mul-t11 c = search rules
@@ -72,19 +68,16 @@ shared-slice-read-t14 c = search rules
 
 cast-t15 : tie.Need-overflow_cast-result
 cast-t15 c =
-    let k = c.before.before.before.before.before.before in
-    omega (arith, c.shared_slice_known-5-1.given (start k).args.n)
+    omega (arith, c.shared_slice_known-5-1.given (start c.before.before.before.before.before).args.n)
 
 end-of-requires : tie.Need-end_of-requires
 end-of-requires c κs =
-    let k = c.before.before.before.before.before.before in
-    (calls.index_is (start k).args.content.now (start k).args.index.now (index c.before.before), c.before.if-index-n.false)
+    (calls.index_is (start c.before.before.before.before.before).args.content.now (start c.before.before.before.before.before).args.index.now (index c.before.before), c.if-index-n.false)
 
 returns-4 : tie.Need-returns
 returns-4 c =
-    let k = c.before.before.before.before.before.before.before in
-    calls.line_found (content k) (start k).args.index.now (start k).args.n (clean c.before.before.before.before.before) (index c.before.before.before)
-    c.before.before.if-index-n.false _ c.end_of_lem.ensures
+    calls.line_found (content c.before.before.before.before.before.before) (start c.before.before.before.before.before.before).args.index.now (start c.before.before.before.before.before.before).args.n (clean c.before.before.before.before.before) (index c.before.before.before)
+    c.if-index-n.false _ c.end_of_lem.ensures
 
 pub line_at_spec : {M : Type 1} → statement M
 line_at_spec =

@@ -28,12 +28,12 @@ abbrev content : tie.After-check-checked → Recording
 content c = recording (start c).args.content.now (start c).args.entries.now (start c).args.text.now
 
 -- the check found no fault
-clean : (c : tie.In-Fine) → recording_fault (content c.before.before) ≡ 0
-clean c = let k = c.before.before.check-checked in let g = c.enum_told-1.given in sym k.ensures.0 ∙ fine_zero k.result g.0.0 g.1
+clean : (c : tie.In-Fine) → recording_fault (content c.before) ≡ 0
+clean c = let k = c.check-checked in sym k.ensures.0 ∙ fine_zero k.result c.in-Fine.field-0 c.in-Fine.is
 
 -- the list is the index
-index : (c : tie.Else-not-is_index) → same (start c.before.before.before.before).args.index.now (line_starts (start c.before.before.before.before).args.content.now) ≡ true
-index c = let t = c.before.is_index in sym t.ensures ∙ c.if-not-is_index.false
+index : (c : tie.Else-not-is_index) → same (start c.before.before.before).args.index.now (line_starts (start c.before.before.before).args.content.now) ≡ true
+index c = let t = c.is_index in sym t.ensures ∙ not_false t.result c.if-not-is_index.false
 
 check-requires : tie.Need-check-checked-requires
 check-requires c κs = search rules
@@ -43,9 +43,7 @@ enum-known-checked c = search rules
 
 returns : tie.Need-returns-in-Refused
 returns c =
-    let k = c.before.before.before in
-    let g = c.before.checked-1.given in
-    calls.place-content (content k) (start k).args.index.now (start k).args.offset g.0.0 (sym k.check-checked.ensures.0 ∙ refused-number k.check-checked.result g.0.0 g.1)
+    calls.place-content (content c.before) (start c.before).args.index.now (start c.before).args.offset c.in-Refused.f (sym c.check-checked.ensures.0 ∙ refused-number c.check-checked.result c.in-Refused.f c.in-Refused.is)
 
 enum_told : tie.Need-enum_told-1
 enum_told c = search rules
@@ -55,19 +53,16 @@ is-index-requires c κs = search rules
 
 returns-2 : tie.Need-returns-then-not-is_index
 returns-2 c =
-    let k = c.before.before.before.before in
-    let t = c.before.is_index in
-    calls.place_wrong (content k) (start k).args.index.now (start k).args.offset (clean c.before.before) (sym t.ensures ∙ c.if-not-is_index.true)
+    let t = c.is_index in
+    calls.place_wrong (content c.before.before.before) (start c.before.before.before).args.index.now (start c.before.before.before).args.offset (clean c.before.before) (sym t.ensures ∙ c.if-not-is_index.true)
 
 returns-3 : tie.Need-returns-then-content-offset
 returns-3 c =
-    let k = c.before.before.before.before.before in
-    calls.place_missing (content k) (start k).args.index.now (start k).args.offset (clean c.before.before.before) (index c.before) c.if-content-offset.true
+    calls.place_missing (content c.before.before.before.before) (start c.before.before.before.before).args.index.now (start c.before.before.before.before).args.offset (clean c.before.before.before) (index c.before) c.if-content-offset.true
 
 find-line-requires : tie.Need-find_line-line-requires
 find-line-requires c κs =
-    let k = c.before.before.before.before.before in
-    calls.first_within (content k) (start k).args.index.now (start k).args.offset (clean c.before.before.before) (index c.before)
+    calls.first_within (content c.before.before.before.before) (start c.before.before.before.before).args.index.now (start c.before.before.before.before).args.offset (clean c.before.before.before) (index c.before)
 
 mul-t12 : tie.Need-offset_bounds-index-line
 mul-t12 c = search rules
@@ -76,17 +71,16 @@ shared-slice-read-t15 : tie.Need-bounds-index-line
 shared-slice-read-t15 c = search rules
 
 cast-t16 : tie.Need-overflow_cast-result
-cast-t16 c = omega (arith, c.shared_slice_known-5-1.given c.before.find_line-line.result)
+cast-t16 c = omega (arith, c.shared_slice_known-5-1.given c.find_line-line.result)
 
 sub-t17 : tie.Need-overflow_sub-result
-sub-t17 c = c.before.find_line-line.ensures.1
+sub-t17 c = c.find_line-line.ensures.1
 
 returns-4 : tie.Need-returns
 returns-4 c =
-    let k = c.before.before.before.before.before.before.before in
-    let f = c.before.find_line-line in
-    calls.place_found (content k) (start k).args.index.now (start k).args.offset (clean c.before.before.before.before.before) (index c.before.before.before)
-    c.before.before.if-content-offset.false f.result f.ensures.0 f.ensures.1 f.ensures.2
+    let f = c.find_line-line in
+    calls.place_found (content c.before.before.before.before.before.before) (start c.before.before.before.before.before.before).args.index.now (start c.before.before.before.before.before.before).args.offset (clean c.before.before.before.before.before) (index c.before.before.before)
+    c.if-content-offset.false f.result f.ensures.0 f.ensures.1 f.ensures.2
 
 pub place_of_spec : {M : Type 1} → statement M
 place_of_spec =

@@ -23,14 +23,13 @@ decreases-loop s from to index₀ k n₀ at₀ index n at =
     to - at
 
 -- where a 0A is found there is a number more to come, so there is room for it
-room : (c : tie.Then-s-at-eq10 invariant-loop decreases-loop) → c.before.before.before.loop-at.n < length c.before.before.before.loop-at.index
+room : (c : tie.Then-s-at-eq10 invariant-loop decreases-loop) → c.loop-at.n < length c.loop-at.index
 room c =
-    let l = c.before.before.before in
-    let a = l.before.args in
+    let a = c.args in
     omega (
       arith,
-      fill_room _ _ _ _ _ _ l.loop-at.invariant.2 l.before.requires.1,
-      ap length (starts_newline l.loop-at.at a.to a.s.now (omega arith) l.before.requires.0.1 c.if-s-at-eq10.true),
+      fill_room _ _ _ _ _ _ c.loop-at.invariant.2 c.requires.1,
+      ap length (starts_newline c.loop-at.at a.to a.s.now (omega arith) c.requires.0.1 c.if-s-at-eq10.true),
     )
 
 loop-holds : tie.Need-loop-at-init invariant-loop decreases-loop
@@ -43,16 +42,16 @@ add-index : tie.Need-overflow_add-index invariant-loop decreases-loop
 add-index c = search rules
 
 cast-index : tie.Need-overflow_cast-index invariant-loop decreases-loop
-cast-index c = omega (arith, c.before.before.before.loop-at.invariant.1, c.before.before.before.before.requires.0)
+cast-index c = omega (arith, c.loop-at.invariant.1, c.requires.0)
 
 mul-index : tie.Need-offset_bounds-index-n invariant-loop decreases-loop
-mul-index c = omega (arith, room c, c.before.before.before.before.well_formed)
+mul-index c = omega (arith, room c, c.well_formed)
 
 slice-write-index : tie.Need-bounds-index-n invariant-loop decreases-loop
 slice-write-index c = omega (arith, room c)
 
 add-n : tie.Need-overflow_add-n invariant-loop decreases-loop
-add-n c = omega (arith, room c, c.before.before.before.before.well_formed)
+add-n c = omega (arith, room c, c.well_formed)
 
 add_at : tie.Need-overflow_add-at invariant-loop decreases-loop
 add_at c = search rules
@@ -62,28 +61,26 @@ loop-less c = search rules
 
 loop-again : tie.Need-loop-at-preserved invariant-loop decreases-loop
 loop-again c =
-    let l = c.before.before.before in
-    let a = l.before.args in
+    let a = c.args in
     let all = starts_from a.from (part a.from a.to a.s.now) in
-    let rest = starts_from l.loop-at.at (part l.loop-at.at a.to a.s.now) in
-    let next = starts_from (l.loop-at.at + 1) (part (l.loop-at.at + 1) a.to a.s.now) in
+    let rest = starts_from c.loop-at.at (part c.loop-at.at a.to a.s.now) in
+    let next = starts_from (c.loop-at.at + 1) (part (c.loop-at.at + 1) a.to a.s.now) in
     let ways
     = ⊎_elim
-    (λ w. fill_stored all rest a.index.now l.loop-at.index a.k l.loop-at.n l.loop-at.invariant.2 l.before.requires.1 (l.loop-at.at + 1) next c.if-s-at-eq10.index c.if-s-at-eq10.n
-    (starts_newline l.loop-at.at a.to a.s.now (omega arith) l.before.requires.0.1 w.0.true) w.1 w.2)
-    (λ w. fill_kept all rest a.index.now l.loop-at.index a.k l.loop-at.n l.loop-at.invariant.2 next c.if-s-at-eq10.index c.if-s-at-eq10.n
-    (starts_other l.loop-at.at a.to a.s.now (omega arith) l.before.requires.0.1 w.0.left) w.1 w.2)
+    (λ w. fill_stored all rest a.index.now c.loop-at.index a.k c.loop-at.n c.loop-at.invariant.2 c.requires.1 (c.loop-at.at + 1) next c.if-s-at-eq10.index c.if-s-at-eq10.n
+    (starts_newline c.loop-at.at a.to a.s.now (omega arith) c.requires.0.1 w.0.true) w.1 w.2)
+    (λ w. fill_kept all rest a.index.now c.loop-at.index a.k c.loop-at.n c.loop-at.invariant.2 next c.if-s-at-eq10.index c.if-s-at-eq10.n
+    (starts_other c.loop-at.at a.to a.s.now (omega arith) c.requires.0.1 w.0.left) w.1 w.2)
     c.if-s-at-eq10.branch-raw in
-    (omega (arith, l.loop-at.invariant.0), omega arith, ways)
+    (omega (arith, c.loop-at.invariant.0), omega arith, ways)
 
 same_length : tie.Need-shape_of-index invariant-loop decreases-loop
-same_length c = c.before.loop-at.invariant.2.long
+same_length c = c.loop-at.invariant.2.long
 
 returns : tie.Need-returns invariant-loop decreases-loop
 returns c =
-    let l = c.before in
-    let a = l.before.args in
-    fill_end _ _ _ _ _ _ l.loop-at.invariant.2 (starts_over l.loop-at.at a.to a.s.now (omega arith))
+    let a = c.args in
+    fill_end _ _ _ _ _ _ c.loop-at.invariant.2 (starts_over c.loop-at.at a.to a.s.now (omega arith))
 
 pub put_starts_spec : {M : Type 1} → statement M
 put_starts_spec =

@@ -29,32 +29,29 @@ shared-slice-read-at : tie.Need-bounds-index-k invariant-loop decreases-loop
 shared-slice-read-at c = search rules
 
 cast-at : tie.Need-overflow_cast-at invariant-loop decreases-loop
-cast-at c = omega (arith, c.shared_slice_known-1.given c.before.before.loop-k.k)
+cast-at c = omega (arith, c.shared_slice_known-1.given c.loop-k.k)
 
 returns : tie.Need-returns-then-at-last invariant-loop decreases-loop
 returns c =
-    let l = c.before.before.before in
-    let a = l.before.args in
-    behind_stop a.s.now l.loop-k.last a.index.now l.loop-k.k (omega arith) _ l.loop-k.invariant.1 (behind_low a.s.now l.loop-k.last _ c.if-at-last.true)
+    let a = c.args in
+    behind_stop a.s.now c.loop-k.last a.index.now c.loop-k.k (omega arith) _ c.loop-k.invariant.1 (behind_low a.s.now c.loop-k.last _ c.if-at-last.true)
 
 returns-2 : tie.Need-returns-then-s-at invariant-loop decreases-loop
 returns-2 c =
-    let l = c.before.before.before.before in
-    let a = l.before.args in
-    behind_stop a.s.now l.loop-k.last a.index.now l.loop-k.k (omega arith) _ l.loop-k.invariant.1 (behind_past a.s.now l.loop-k.last _ c.before.if-at-last.false c.if-s-at.true)
+    let a = c.args in
+    behind_stop a.s.now c.loop-k.last a.index.now c.loop-k.k (omega arith) _ c.loop-k.invariant.1 (behind_past a.s.now c.loop-k.last _ c.if-at-last.false c.if-s-at.true)
 
 sub-if3 : tie.Need-overflow_sub-at invariant-loop decreases-loop
-sub-if3 c = omega (arith, c.before.if-at-last.false)
+sub-if3 c = omega (arith, c.if-at-last.false)
 
 shared-slice-read-if3 : tie.Need-bounds-s-at invariant-loop decreases-loop
-shared-slice-read-if3 c = omega (arith, c.before.before.if-at-last.false, c.before.if-s-at.false)
+shared-slice-read-if3 c = omega (arith, c.if-at-last.false, c.if-s-at.false)
 
 returns-3 : tie.Need-returns-then-s-at-ne10 invariant-loop decreases-loop
 returns-3 c =
-    let l = c.before.before.before.before.before.before in
-    let a = l.before.args in
-    behind_stop a.s.now l.loop-k.last a.index.now l.loop-k.k (omega arith) _ l.loop-k.invariant.1
-    (behind-other a.s.now l.loop-k.last _ c.before.before.before.if-at-last.false c.before.before.if-s-at.false c.if-s-at-ne10.true)
+    let a = c.args in
+    behind_stop a.s.now c.loop-k.last a.index.now c.loop-k.k (omega arith) _ c.loop-k.invariant.1
+    (behind-other a.s.now c.loop-k.last _ c.if-at-last.false c.if-s-at.false c.if-s-at-ne10.true)
 
 add-k : tie.Need-overflow_add-k invariant-loop decreases-loop
 add-k c = search rules
@@ -64,17 +61,15 @@ loop-less c = search rules
 
 loop-again : tie.Need-loop-k-preserved invariant-loop decreases-loop
 loop-again c =
-    let l = c.before.before.before.before.before.before in
-    let a = l.before.args in
-    let n = get_or a.index.now l.loop-k.k 0 in
-    let b = behind_in a.s.now l.loop-k.last n c.before.before.before.if-at-last.false c.before.before.if-s-at.false c.if-s-at-ne10.false in
-    (omega arith, behind_on a.s.now l.loop-k.last a.index.now l.loop-k.k (omega arith) _ l.loop-k.invariant.1 b)
+    let a = c.args in
+    let n = get_or a.index.now c.loop-k.k 0 in
+    let b = behind_in a.s.now c.loop-k.last n c.if-at-last.false c.if-s-at.false c.if-s-at-ne10.false in
+    (omega arith, behind_on a.s.now c.loop-k.last a.index.now c.loop-k.k (omega arith) _ c.loop-k.invariant.1 b)
 
 returns-4 : tie.Need-returns invariant-loop decreases-loop
 returns-4 c =
-    let l = c.before in
-    let a = l.before.args in
-    sym (behind_end a.s.now l.loop-k.last a.index.now l.loop-k.k (omega arith)) ∙ l.loop-k.invariant.1
+    let a = c.args in
+    sym (behind_end a.s.now c.loop-k.last a.index.now c.loop-k.k (omega arith)) ∙ c.loop-k.invariant.1
 
 pub stand_behind_spec : {M : Type 1} → statement M
 stand_behind_spec =

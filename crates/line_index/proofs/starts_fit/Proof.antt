@@ -21,7 +21,7 @@ sub-if1 c = search rules
 
 returns : tie.Need-returns-then-s-from
 returns c =
-    let a = c.before.before.args in
+    let a = c.args in
     let d = drop a.from a.s.now in
     sym (le-leb (length (starts_from a.from d)) a.room (omega (arith, count_starts a.from d, count_few d, length-drop a.from a.s.now, c.if-s-from.true)))
 
@@ -30,7 +30,7 @@ count-newlines-requires c κs = search rules
 
 returns-2 : tie.Need-returns
 returns-2 c =
-    let a = c.before.before.before.args in
+    let a = c.args in
     let d = drop a.from a.s.now in
     ap (λ (n : ℕ). leb n a.room) (c.count_newlines.ensures.0 ∙ sym (count_starts a.from d))
 

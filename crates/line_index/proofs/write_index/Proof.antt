@@ -11,22 +11,21 @@ use Rattle.line_index.proofs.write_starts.Reads as write-starts-reads
 
 slice-write-index : tie.Need-bounds-index-0
 slice-write-index c =
-    first_room c.before.before.args.s.now c.before.before.args.index.now c.before.before.requires.1
+    first_room c.args.s.now c.args.index.now c.requires.1
 
 write-starts-requires : tie.Need-write_starts-requires
 write-starts-requires c κs =
-    let b = c.before.before.before in
-    ((omega arith, b.requires.0), rest_room b.args.s.now b.args.index.now b.requires.1)
+    ((omega arith, c.requires.0), rest_room c.args.s.now c.args.index.now c.requires.1)
 
 same_length : tie.Need-shape_of-index
 same_length c =
-    c.before.before.write_starts.auto.1.1.0 ∙ length-set c.before.before.before.before.before.before.args.index.now 0 0
+    c.write_starts.auto.1.1.0 ∙ length-set c.args.index.now 0 0
 
 returns : tie.Need-returns
 returns c =
-    let a = c.before.before.before.before.before.before.args in
-    let e = c.before.before.write_starts.ensures in
-    (e.0 ∙ whole_over a.s.now a.index-1.now c.before.before.before.before.before.before.requires.1, e.1 ∙ whole_count a.s.now)
+    let a = c.args in
+    let e = c.write_starts.ensures in
+    (e.0 ∙ whole_over a.s.now a.index.now c.requires.1, e.1 ∙ whole_count a.s.now)
 
 pub write_index_spec : {M : Type 1} → statement M
 write_index_spec =

@@ -31,8 +31,7 @@ decreases-loop s from index₀ first k₀ at₀ index k at =
 
 loop-holds : tie.Need-loop-at-init invariant-loop decreases-loop
 loop-holds c =
-    let l = c.before.before in
-    (omega arith, l.requires.0.0, fill_start _ _ l.args.index.now l.args.first refl)
+    (omega arith, c.requires.0.0, fill_start _ _ c.args.index.now c.args.first refl)
 
 sub-loop : tie.Need-overflow_sub-s invariant-loop decreases-loop
 sub-loop c = search rules
@@ -45,13 +44,11 @@ add-put-starts c = search rules
 
 put-starts-requires : tie.Need-put_starts-k-requires invariant-loop decreases-loop
 put-starts-requires c κs =
-    let l = c.before.before.before.before in
-    let b = l.before.before.before in
-    let s = b.args.s.now in
-    let r = fill_room _ _ _ _ _ _ l.loop-at.invariant.2 b.requires.1 in
-    let p = starts_part l.loop-at.at (l.loop-at.at + 16) s (omega arith) (omega arith) in
-    let n = length-append (starts_from l.loop-at.at (part l.loop-at.at (l.loop-at.at + 16) s)) (starts_from (l.loop-at.at + 16) (drop (l.loop-at.at + 16) s)) in
-    ((omega arith, omega arith, b.requires.0.1), omega (arith, r, ap length p, n))
+    let s = c.args.s.now in
+    let r = fill_room _ _ _ _ _ _ c.loop-at.invariant.2 c.requires.1 in
+    let p = starts_part c.loop-at.at (c.loop-at.at + 16) s (omega arith) (omega arith) in
+    let n = length-append (starts_from c.loop-at.at (part c.loop-at.at (c.loop-at.at + 16) s)) (starts_from (c.loop-at.at + 16) (drop (c.loop-at.at + 16) s)) in
+    ((omega arith, omega arith, c.requires.0.1), omega (arith, r, ap length p, n))
 
 add_at : tie.Need-overflow_add-at-in-loop-at invariant-loop decreases-loop
 add_at c = search rules
@@ -61,46 +58,39 @@ loop-less c = search rules
 
 loop-again : tie.Need-loop-at-preserved invariant-loop decreases-loop
 loop-again c =
-    let l = c.before.before.before in
-    let b = l.before.before.before in
-    let s = b.args.s.now in
-    let at = l.loop-at.at in
-    let all = starts_from b.args.from (drop b.args.from s) in
+    let s = c.args.s.now in
+    let at = c.loop-at.at in
+    let all = starts_from c.args.from (drop c.args.from s) in
     let rest = starts_from at (drop at s) in
     let next = starts_from (at + 16) (drop (at + 16) s) in
-    let S = l.loop-at.invariant.2 in
+    let S = c.loop-at.invariant.2 in
     let ways
     = ⊎_elim
-    (λ w. fill_more all rest b.args.index.now l.loop-at.index-1 b.args.first l.loop-at.k S (omega (arith, b.requires.1)) (starts_from at (part at (at + 16) s)) next c.if-has_break.index-1 c.if-has_break.k
+    (λ w. fill_more all rest c.args.index.now c.loop-at.index c.args.first c.loop-at.k S (omega (arith, c.requires.1)) (starts_from at (part at (at + 16) s)) next c.if-has_break.index c.if-has_break.k
     (starts_part at (at + 16) s (omega arith) (omega arith)) (w.5 ∙ w.2.ensures.0) (ap length w.5 ∙ w.2.kept.1.1.1.0) (w.6 ∙ w.2.ensures.1))
-    (λ w. fill_kept all rest b.args.index.now l.loop-at.index-1 b.args.first l.loop-at.k S next c.if-has_break.index-1 c.if-has_break.k
-    (starts_block 16 at s (ltb-false (to_break (drop at s)) 16 (sym c.before.has_break.ensures ∙ w.0.left))) w.1 w.2)
+    (λ w. fill_kept all rest c.args.index.now c.loop-at.index c.args.first c.loop-at.k S next c.if-has_break.index c.if-has_break.k
+    (starts_block 16 at s (ltb-false (to_break (drop at s)) 16 (sym c.has_break.ensures ∙ w.0.left))) w.1 w.2)
     c.if-has_break.branch-raw in
-    (omega (arith, l.loop-at.invariant.0), omega arith, ways)
+    (omega (arith, c.loop-at.invariant.0), omega arith, ways)
 
 put-starts-requires-2 : tie.Need-put_starts-requires invariant-loop decreases-loop
 put-starts-requires-2 c κs =
-    let l = c.before.before in
-    let b = l.before.before.before in
-    let s = b.args.s.now in
-    ((l.loop-at.invariant.1, omega arith, b.requires.0.1), omega (arith, fill_room _ _ _ _ _ _ l.loop-at.invariant.2 b.requires.1, ap length (starts_rest l.loop-at.at s l.loop-at.invariant.1)))
+    let s = c.args.s.now in
+    ((c.loop-at.invariant.1, omega arith, c.requires.0.1), omega (arith, fill_room _ _ _ _ _ _ c.loop-at.invariant.2 c.requires.1, ap length (starts_rest c.loop-at.at s c.loop-at.invariant.1)))
 
 same_length : tie.Need-shape_of-index invariant-loop decreases-loop
 same_length c =
-    let l = c.before.before.before.before.before in
-    c.before.before.put_starts.auto.1.1.1.0 ∙ l.loop-at.invariant.2.long
+    c.put_starts.auto.1.1.1.0 ∙ c.loop-at.invariant.2.long
 
 returns : tie.Need-returns invariant-loop decreases-loop
 returns c =
-    let l = c.before.before.before.before.before in
-    let b = l.before.before.before in
-    let s = b.args.s.now in
-    let at = l.loop-at.at in
-    let r = c.before.before.put_starts in
+    let s = c.args.s.now in
+    let at = c.loop-at.at in
+    let r = c.put_starts in
     let none = sym (append-nil (starts_from at (part at (length s) s))) in
-    let e = sym (starts_rest at s l.loop-at.invariant.1) ∙ none in
-    let h : b.args.first ≤ length b.args.index.now = omega (arith, b.requires.1) in
-    let S = fill_more _ (starts_from at (drop at s)) _ _ _ _ l.loop-at.invariant.2 h (starts_from at (part at (length s) s)) [] _ _ e r.ensures.0 r.auto.1.1.1.0 r.ensures.1 in
+    let e = sym (starts_rest at s c.loop-at.invariant.1) ∙ none in
+    let h : c.args.first ≤ length c.args.index.now = omega (arith, c.requires.1) in
+    let S = fill_more _ (starts_from at (drop at s)) _ _ _ _ c.loop-at.invariant.2 h (starts_from at (part at (length s) s)) [] _ _ e r.ensures.0 r.auto.1.1.1.0 r.ensures.1 in
     fill_end _ [] _ _ _ _ S refl
 
 pub write_starts_spec : {M : Type 1} → statement M

@@ -28,16 +28,16 @@ abbrev start : tie.At-loop-p invariant-loop decreases-loop → tie.Start invaria
 start c = c.before.before.before.before.before.before
 
 -- in a turn: an entry of four numbers is next
-entire : (c : tie.In-loop-p invariant-loop decreases-loop) → c.before.loop-p.k + 4 ≤ length (start c.before).args.entries.now
+entire : (c : tie.In-loop-p invariant-loop decreases-loop) → c.loop-p.k + 4 ≤ length (start c.before).args.entries.now
 entire c =
-    let pre = (start c.before).requires in whole _ _ _ _ _ _ _ _ _ _ _ _ c.before.loop-p.invariant pre.1.1 pre.0.short c.loop-p-test.true
+    let pre = (start c.before).requires in whole _ _ _ _ _ _ _ _ _ _ _ _ c.loop-p.invariant pre.1.1 pre.0.short c.loop-p-test.true
 
 place-at-requires : tie.Need-place_at-p-requires invariant-loop decreases-loop
-place-at-requires c κs = c.before.before.before.before.requires.0.within
+place-at-requires c κs = c.requires.0.within
 
 loop-holds : tie.Need-loop-p-init invariant-loop decreases-loop
 loop-holds c =
-    let pre = c.before.before.before.before.before.requires in
+    let pre = c.requires in
     record {
       within = pre.0.within;
       valid = pre.0.valid;
@@ -53,18 +53,16 @@ covers-requires c κs = search rules
 returns : tie.Need-returns-then-covers invariant-loop decreases-loop
 unfolding left
 returns c =
-    let l = c.before.before.before in
-    hit _ _ _ _ _ _ _ _ _ _ _ _ l.loop-p.invariant (start l).requires.1.1 c.before.before.loop-p-test.true (sym c.before.covers.ensures ∙ c.if-covers.true)
+    hit _ _ _ _ _ _ _ _ _ _ _ _ c.loop-p.invariant (start c.before.before.before).requires.1.1 c.loop-p-test.true (sym c.covers.ensures ∙ c.if-covers.true)
 
 entry-at-requires : tie.Need-entry_at-e-requires invariant-loop decreases-loop
 entry-at-requires c κs = entire c.before.before
 
 opened-requires : tie.Need-opened-o-requires invariant-loop decreases-loop
 opened-requires c κs =
-    let l = c.before.before.before.before in
-    let pre = (start l).requires in (
-      (ok _ _ _ _ _ _ _ _ _ _ _ _ l.loop-p.invariant pre.1.1 pre.0.short c.before.before.before.loop-p-test.true _ c.entry_at-e.ensures).2,
-      omega (arith, entire c.before.before.before, l.loop-p.invariant.depth, (start l).well_formed),
+    let pre = (start c.before.before.before.before).requires in (
+      (ok _ _ _ _ _ _ _ _ _ _ _ _ c.loop-p.invariant pre.1.1 pre.0.short c.loop-p-test.true _ c.entry_at-e.ensures).2,
+      omega (arith, entire c.before.before.before, c.loop-p.invariant.depth, (start c.before.before.before.before).well_formed),
     )
 
 add-k : tie.Need-overflow_add-k invariant-loop decreases-loop
@@ -78,17 +76,15 @@ loop-less c = omega (arith, entire c.before.before.before.before.before)
 
 loop-again : tie.Need-loop-p-preserved invariant-loop decreases-loop
 loop-again c =
-    let l = c.before.before.before.before.before.before in
-    let pre = (start l).requires in
-    let o = c.before.opened-o.ensures in
-    step _ _ _ _ _ _ _ _ _ _ _ _ l.loop-p.invariant pre.1.1 pre.0.short c.before.before.before.before.before.loop-p-test.true _ c.before.before.entry_at-e.ensures
-    (sym c.before.before.before.before.covers.ensures ∙ c.before.before.before.if-covers.false) _ o.0 o.1 _ c.place_at-p-in-loop-p.ensures
+    let pre = (start c.before.before.before.before.before.before).requires in
+    let o = c.opened-o.ensures in
+    step _ _ _ _ _ _ _ _ _ _ _ _ c.loop-p.invariant pre.1.1 pre.0.short c.loop-p-test.true _ c.entry_at-e.ensures
+    (sym c.covers.ensures ∙ c.if-covers.false) _ o.0 o.1 _ c.place_at-p-in-loop-p.ensures
 
 returns-2 : tie.Need-returns invariant-loop decreases-loop
 unfolding left
 returns-2 c =
-    let l = c.before.before in
-    ends _ _ _ _ _ _ _ _ _ _ _ _ l.loop-p.invariant (start l).requires.1.1 c.before.loop-p-test.false
+    ends _ _ _ _ _ _ _ _ _ _ _ _ c.loop-p.invariant (start c.before.before).requires.1.1 c.loop-p-test.false
 
 pub any_under_spec : {M : Type 1} → statement M
 any_under_spec =

@@ -10,11 +10,11 @@ use Rattle.open_label.proofs.counted.Lts as lts
 use Rattle.open_label.proofs.drops.Reads as drops-reads
 
 drops-requires : tie.Need-drops-requires
-drops-requires c κs = c.before.before.requires.0
+drops-requires c κs = c.requires.0
 
 returns : tie.Need-returns-then-drops
 returns c =
-    let d = c.before.drops in (
+    let d = c.drops in (
       refl,
       (record { gone = true; drops = rw c.if-drops.true at d.ensures; entries = omega arith; text = omega arith }, (omega arith, omega arith)),
     )
@@ -30,9 +30,9 @@ add-t10 c = search rules
 
 returns-2 : tie.Need-returns
 returns-2 c =
-    let d = c.before.before.before.before.drops in (
+    let d = c.drops in (
       refl,
-      (record { gone = false; drops = rw c.before.before.before.if-drops.false at d.ensures; entries = refl; text = refl }, (omega arith, omega arith)),
+      (record { gone = false; drops = rw c.if-drops.false at d.ensures; entries = refl; text = refl }, (omega arith, omega arith)),
     )
 
 pub counted_spec : {M : Type 1} → statement M

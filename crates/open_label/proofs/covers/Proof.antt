@@ -11,12 +11,12 @@ use Rattle.open_label.proofs.covers.Lts as lts
 
 returns : tie.Need-returns-then-p-at
 returns c =
-    let a = c.before.args in
+    let a = c.args in
     ap (λ (t : Bool). t && not (eqb a.since 0)) (sym (le-ltb a.at a.p (omega arith)))
 
 returns-2 : tie.Need-returns
 returns-2 c =
-    let a = c.before.args in
+    let a = c.args in
     ap (λ (t : Bool). t && not (eqb a.since 0)) (sym (lt-ltb a.at a.p (omega arith)))
 
 pub covers_spec : {M : Type 1} → statement M

@@ -7,11 +7,11 @@ use Rattle.open_label.proofs.drops.Lts as lts
 
 returns : tie.Need-returns-then-e-ne2
 returns c =
-    let s = c.before.before in kept_told s.args.e s.args.o s.requires c.if-e-ne2.true
+    kept_told c.args.e c.args.o c.requires c.if-e-ne2.true
 
 returns-2 : tie.Need-returns
 returns-2 c =
-    let s = c.before.before.before in dropped_told s.args.e s.args.o s.requires c.before.if-e-ne2.false
+    dropped_told c.args.e c.args.o c.requires c.if-e-ne2.false
 
 pub drops_spec : {M : Type 1} → statement M
 drops_spec = tie.close (tie.spec returns returns-2)

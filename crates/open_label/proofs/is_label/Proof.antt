@@ -26,16 +26,16 @@ start c = c.before.before
 
 returns : tie.Need-returns-then-len-label invariant-loop decreases-loop
 returns c =
-    let a = c.before.args in
+    let a = c.args in
     sym (same_lengths a.label.now (take a.len (drop a.start a.text.now))
-    (λ e. c.if-len-label.true (omega (arith, e, length-take a.len (drop a.start a.text.now), length-drop a.start a.text.now, c.before.requires))))
+    (λ e. c.if-len-label.true (omega (arith, e, length-take a.len (drop a.start a.text.now), length-drop a.start a.text.now, c.requires))))
 
 loop-holds : tie.Need-loop-j-init invariant-loop decreases-loop
 loop-holds c =
-    let a = c.before.args in
+    let a = c.args in
     let z : a.start + 0 ≡ a.start = omega arith in
     let y : a.len - 0 ≡ a.len = omega arith in
-    (omega arith, sym c.if-len-label.false, c.before.requires, λ i. same a.label.now (take (sym y i) (drop (sym z i) a.text.now)))
+    (omega arith, sym c.if-len-label.false, c.requires, λ i. same a.label.now (take (sym y i) (drop (sym z i) a.text.now)))
 
 add-if2 : tie.Need-overflow_add-start invariant-loop decreases-loop
 add-if2 c = search rules
@@ -48,10 +48,9 @@ shared-slice-read-if2-2 c = search rules
 
 returns-2 : tie.Need-returns-then-text-start invariant-loop decreases-loop
 returns-2 c =
-    let l = c.before.before.before.before in
-    let a = (start l).args in
-    let j = l.loop-j.j in
-    sym (l.loop-j.invariant.3 ∙ same_next j (a.start + j) (a.len - j) (a.len - (j + 1)) a.label.now a.text.now (omega arith) (omega arith) (omega arith)
+    let a = (start c.before.before.before.before).args in
+    let j = c.loop-j.j in
+    sym (c.loop-j.invariant.3 ∙ same_next j (a.start + j) (a.len - j) (a.len - (j + 1)) a.label.now a.text.now (omega arith) (omega arith) (omega arith)
     ∙ ap (λ (t : Bool). t && same (drop (j + 1) a.label.now) (take (a.len - (j + 1)) (drop (a.start + j + 1) a.text.now))) (ne_eqb _ _ (λ e. c.if-text-start.true (sym e))))
 
 add-j : tie.Need-overflow_add-j invariant-loop decreases-loop
@@ -62,25 +61,23 @@ loop-less c = search rules
 
 loop-again : tie.Need-loop-j-preserved invariant-loop decreases-loop
 loop-again c =
-    let l = c.before.before.before.before in
-    let a = (start l).args in
-    let j = l.loop-j.j in
+    let a = (start c.before.before.before.before).args in
+    let j = c.loop-j.j in
     let z : a.start + j + 1 ≡ a.start + (j + 1) = omega arith in (
       search rules,
-      l.loop-j.invariant.1,
-      l.loop-j.invariant.2,
-      l.loop-j.invariant.3 ∙ same_next j (a.start + j) (a.len - j) (a.len - (j + 1)) a.label.now a.text.now (omega arith) (omega arith) (omega arith)
+      c.loop-j.invariant.1,
+      c.loop-j.invariant.2,
+      c.loop-j.invariant.3 ∙ same_next j (a.start + j) (a.len - j) (a.len - (j + 1)) a.label.now a.text.now (omega arith) (omega arith) (omega arith)
           ∙ (λ i. eq-eqb _ _ (sym c.if-text-start.false) i && same (drop (j + 1) a.label.now) (take (a.len - (j + 1)) (drop (z i) a.text.now))),
     )
 
 returns-3 : tie.Need-returns invariant-loop decreases-loop
 returns-3 c =
-    let l = c.before in
-    let a = (start l).args in
-    let j = l.loop-j.j in
+    let a = (start c.before).args in
+    let j = c.loop-j.j in
     let z : a.len - j ≡ 0 = omega (arith, c.loop-j-test.false) in
-    sym (l.loop-j.invariant.3 ∙ ap (λ (n : ℕ). same (drop j a.label.now) (take n (drop (a.start + j) a.text.now))) z
-    ∙ same_end j a.label.now (drop (a.start + j) a.text.now) (omega (arith, c.loop-j-test.false, l.loop-j.invariant.1)))
+    sym (c.loop-j.invariant.3 ∙ ap (λ (n : ℕ). same (drop j a.label.now) (take n (drop (a.start + j) a.text.now))) z
+    ∙ same_end j a.label.now (drop (a.start + j) a.text.now) (omega (arith, c.loop-j-test.false, c.loop-j.invariant.1)))
 
 pub is_label_spec : {M : Type 1} → statement M
 is_label_spec =

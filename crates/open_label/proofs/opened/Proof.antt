@@ -21,8 +21,7 @@ add-depth c = search rules
 
 returns : tie.Need-returns-then-o-ne0
 returns c =
-    let s = c.before.before.before.before.before.before.before in
-    (push_told _ _ _ _ _ c.before.before.before.if-e-eq0.true refl (push_open (own s) s.args.o.depth s.args.o.since c.if-o-ne0.true), omega arith)
+    (push_told _ _ _ _ _ c.if-e-eq0.true refl (push_open (own c.before.before.before.before.before.before.before) c.args.o.depth c.args.o.since c.if-o-ne0.true), omega arith)
 
 cast-is-label : tie.Need-overflow_cast-e
 cast-is-label c = search rules
@@ -35,43 +34,41 @@ is-label-requires c κs = search rules
 
 returns-2 : tie.Need-returns-then-is_label
 returns-2 c =
-    let s = c.before.before.before.before.before.before.before.before.before.before.before in (
-      push_told _ _ _ _ _ c.before.before.before.before.before.before.before.if-e-eq0.true refl
-          (push_first (own s) s.args.o.depth s.args.o.since c.before.before.before.before.if-o-ne0.false (sym c.before.is_label.ensures ∙ c.if-is_label.true)),
+    (
+      push_told _ _ _ _ _ c.if-e-eq0.true refl
+          (push_first (own c.before.before.before.before.before.before.before.before.before.before.before) c.args.o.depth c.args.o.since c.if-o-ne0.false (sym c.is_label.ensures ∙ c.if-is_label.true)),
       omega arith,
     )
 
 returns-3 : tie.Need-returns-then-e-eq0
 returns-3 c =
-    let s = c.before.before.before.before.before.before.before.before.before.before.before in (
-      push_told _ _ _ _ _ c.before.before.before.before.before.before.before.if-e-eq0.true refl
-          (push-other (own s) s.args.o.depth s.args.o.since c.before.before.before.before.if-o-ne0.false (sym c.before.is_label.ensures ∙ c.if-is_label.false)),
+    (
+      push_told _ _ _ _ _ c.if-e-eq0.true refl
+          (push-other (own c.before.before.before.before.before.before.before.before.before.before.before) c.args.o.depth c.args.o.since c.if-o-ne0.false (sym c.is_label.ensures ∙ c.if-is_label.false)),
       omega arith,
     )
 
 returns-4 : tie.Need-returns-then-e-ne1
 returns-4 c =
-    (raw_told _ _ _ _ c.before.before.if-e-eq0.false c.if-e-ne1.true, omega arith)
+    (raw_told _ _ _ _ c.if-e-eq0.false c.if-e-ne1.true, omega arith)
 
 returns-5 : tie.Need-returns-then-o-eq0
 returns-5 c =
-    (none_told _ _ _ _ c.before.before.if-e-ne1.false c.if-o-eq0.true, omega arith)
+    (none_told _ _ _ _ c.if-e-ne1.false c.if-o-eq0.true, omega arith)
 
 sub-t11 : tie.Need-overflow_sub-result
 sub-t11 c = search rules
 
 returns-6 : tie.Need-returns-then-o
 returns-6 c =
-    let s = c.before.before.before.before.before.before.before.before.before.before.before in
-    (pop_told _ _ _ _ _ c.before.before.before.before.before.if-e-ne1.false refl (pop_outermost s.args.o.depth s.args.o.since c.before.if-o.true), omega arith)
+    (pop_told _ _ _ _ _ c.if-e-ne1.false refl (pop_outermost c.args.o.depth c.args.o.since c.if-o.true), omega arith)
 
 sub-t12 : tie.Need-overflow_sub-result-2
 sub-t12 c = search rules
 
 returns-7 : tie.Need-returns
 returns-7 c =
-    let s = c.before.before.before.before.before.before.before.before.before.before.before in
-    (pop_told _ _ _ _ _ c.before.before.before.before.before.if-e-ne1.false refl (pop_inner s.args.o.depth s.args.o.since c.before.if-o.false), omega arith)
+    (pop_told _ _ _ _ _ c.if-e-ne1.false refl (pop_inner c.args.o.depth c.args.o.since c.if-o.false), omega arith)
 
 pub opened_spec : {M : Type 1} → statement M
 opened_spec =

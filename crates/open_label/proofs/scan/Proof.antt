@@ -39,17 +39,17 @@ Left c es =
 
 -- in a turn: the entry that was read is the first of them
 front : (c : tie.After-entry_at-e invariant-loop decreases-loop)
-    → Left c.before.before (c.entry_at-e.result ∷ entries_of (drop (c.before.before.loop-k.k + 4) (start c.before.before).args.entries.now))
-front c = subst (Left c.before.before) c.entry_at-e.ensures c.before.before.loop-k.invariant.1
+    → Left c.before.before (c.entry_at-e.result ∷ entries_of (drop (c.loop-k.k + 4) (start c.before.before).args.entries.now))
+front c = subst (Left c.before.before) c.entry_at-e.ensures c.loop-k.invariant.1
 
 -- behind the loop: no entry is left
-none : (c : tie.After-loop-k invariant-loop decreases-loop) → entries_of (drop c.before.loop-k.k (start c.before).args.entries.now) ≡ []
+none : (c : tie.After-loop-k invariant-loop decreases-loop) → entries_of (drop c.loop-k.k (start c.before).args.entries.now) ≡ []
 none c =
     let a = (start c.before).args in
-    entries_few (drop c.before.loop-k.k a.entries.now) (omega (arith, length-drop c.before.loop-k.k a.entries.now, c.loop-k-test.false, c.before.loop-k.invariant.0))
+    entries_few (drop c.loop-k.k a.entries.now) (omega (arith, length-drop c.loop-k.k a.entries.now, c.loop-k-test.false, c.loop-k.invariant.0))
 
 loop-holds : tie.Need-loop-k-init invariant-loop decreases-loop
-loop-holds c = (omega arith, scan_first _ _ _ _ _ _ c.before.before.before.before.requires.0.valid refl refl refl refl refl)
+loop-holds c = (omega arith, scan_first _ _ _ _ _ _ c.requires.0.valid refl refl refl refl refl)
 
 add-loop : tie.Need-overflow_add-k invariant-loop decreases-loop
 add-loop c = omega (arith, c.loop-k.invariant.0, (start c).requires.1.0)
@@ -63,52 +63,45 @@ unopened-requires c κs = search rules
 returns : tie.Need-returns-then-unopened invariant-loop decreases-loop
 unfolding ScanTold
 returns c =
-    let l = c.before.before.before.before in
-    let a = (start l).args in
-    let b = refused _ _ _ _ _ _ _ _ _ (front c.before.before) (start l).requires.1.1 (sym c.before.unopened.ensures ∙ c.if-unopened.true) in
+    let a = (start c.before.before.before.before).args in
+    let b = refused _ _ _ _ _ _ _ _ _ (front c.before.before) (start c.before.before.before.before).requires.1.1 (sym c.unopened.ensures ∙ c.if-unopened.true) in
     (fault_open a.content.now a.entries.now a.text.now b, tt)
 
 opened-requires : tie.Need-opened-behind-requires invariant-loop decreases-loop
 opened-requires c κs =
-    let l = c.before.before.before.before in
-    ((ok _ _ _ _ _ _ _ _ _ (front c.before.before) (start l).requires.1.1).2, omega (arith, l.loop-k.invariant.0, l.loop-k.invariant.1.depth, (start l).requires.1.0))
+    ((ok _ _ _ _ _ _ _ _ _ (front c.before.before) (start c.before.before.before.before).requires.1.1).2, omega (arith, c.loop-k.invariant.0, c.loop-k.invariant.1.depth, (start c.before.before.before.before).requires.1.0))
 
 counted-requires : tie.Need-counted-n-requires invariant-loop decreases-loop
 counted-requires c κs =
-    let l = c.before.before.before.before.before in
-    let s = l.loop-k.invariant.1 in (
-      (ok _ _ _ _ _ _ _ _ _ (front c.before.before.before) (start l).requires.1.1).1,
-      (omega (arith, l.loop-k.invariant.0, s.few, (start l).requires.1.0), omega (arith, l.loop-k.invariant.0, s.short, (start l).requires.1.0)),
+    let s = c.loop-k.invariant.1 in (
+      (ok _ _ _ _ _ _ _ _ _ (front c.before.before.before) (start c.before.before.before.before.before).requires.1.1).1,
+      (omega (arith, c.loop-k.invariant.0, s.few, (start c.before.before.before.before.before).requires.1.0), omega (arith, c.loop-k.invariant.0, s.short, (start c.before.before.before.before.before).requires.1.0)),
     )
 
 add-k : tie.Need-overflow_add-k-in-loop-k invariant-loop decreases-loop
-add-k c = omega (arith, c.before.before.before.before.before.before.loop-k.invariant.0, (start c.before.before.before.before.before.before).requires.1.0)
+add-k c = omega (arith, c.loop-k.invariant.0, (start c.before.before.before.before.before.before).requires.1.0)
 
 loop-less : tie.Need-loop-k-smaller invariant-loop decreases-loop
-loop-less c = omega (arith, c.before.before.before.before.before.loop-k-test.true)
+loop-less c = omega (arith, c.loop-k-test.true)
 
 loop-again : tie.Need-loop-k-preserved invariant-loop decreases-loop
 loop-again c =
-    let turn = c.before.before.before.before in
-    let l = turn.before.before in
-    let o = c.before.opened-behind.ensures in
+    let o = c.opened-behind.ensures in
     let n = c.counted-n.ensures in (
-      turn.before.loop-k-test.true,
-      goes _ _ _ _ _ _ _ _ _ (front turn) (start l).requires.1.1 (sym c.before.before.before.unopened.ensures ∙ c.before.before.if-unopened.false) _ o.0 o.1 _ n.0 n.1.0 n.1.1,
+      c.loop-k-test.true,
+      goes _ _ _ _ _ _ _ _ _ (front c.before.before.before.before) (start c.before.before.before.before.before.before).requires.1.1 (sym c.unopened.ensures ∙ c.if-unopened.false) _ o.0 o.1 _ n.0 n.1.0 n.1.1,
     )
 
 returns-2 : tie.Need-returns-then-o-ne0 invariant-loop decreases-loop
 unfolding ScanTold
 returns-2 c =
-    let l = c.before.before.before in
-    let a = (start l).args in
-    (fault_open a.content.now a.entries.now a.text.now (last_open _ _ a.entries.now _ _ _ _ _ l.loop-k.invariant.1 (none c.before.before) c.if-o-ne0.true), tt)
+    let a = (start c.before.before.before).args in
+    (fault_open a.content.now a.entries.now a.text.now (last_open _ _ a.entries.now _ _ _ _ _ c.loop-k.invariant.1 (none c.before.before) c.if-o-ne0.true), tt)
 
 returns-3 : tie.Need-returns invariant-loop decreases-loop
 returns-3 c =
-    let l = c.before.before.before in
-    let a = (start l).args in
-    let s = l.loop-k.invariant.1 in (
+    let a = (start c.before.before.before).args in
+    let s = c.loop-k.invariant.1 in (
       fault_none a.content.now a.entries.now a.text.now _ (last_closed _ _ a.entries.now _ _ _ _ _ s (none c.before.before) c.if-o-ne0.false),
       last_told _ _ a.entries.now _ _ _ _ _ s (none c.before.before),
     )

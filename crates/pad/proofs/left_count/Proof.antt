@@ -21,17 +21,17 @@ enum-told-3 c = search rules
 returns : tie.Need-returns-in-Start
 unfolding left_of
 returns c =
-    (sym (ap (λ (s : Side). left_of s c.before.before.args.n) c.enum_told-1.given.1), omega arith)
+    (sym (ap (λ (s : Side). left_of s c.args.n) c.in-Start.is), omega arith)
 
 returns-2 : tie.Need-returns-in-End
 unfolding left_of
 returns-2 c =
-    (sym (ap (λ (s : Side). left_of s c.before.before.args.n) c.enum_told-in-End-1.given.1), omega arith)
+    (sym (ap (λ (s : Side). left_of s c.args.n) c.in-End.is), omega arith)
 
 returns-3 : tie.Need-returns-in-Centered
 unfolding left_of
 returns-3 c =
-    (sym (ap (λ (s : Side). left_of s c.before.before.args.n) c.enum_told-in-Centered-1.given.1), omega arith)
+    (sym (ap (λ (s : Side). left_of s c.args.n) c.in-Centered.is), omega arith)
 
 pub left_count_spec : {M : Type 1} → statement M
 left_count_spec =

@@ -25,16 +25,15 @@ decreases-loop out₀ at from a b n d₀ i₀ out d i =
 
 loop-holds : tie.Need-loop-i-init invariant-loop decreases-loop
 loop-holds c =
-    let a = c.before.before.args in
+    let a = c.args in
     (search rules, search rules, omega (arith, repeated-zero (part a.a a.b a.from.now)), repeated_first _ _ _)
 
 put-requires : tie.Need-put-d-requires invariant-loop decreases-loop
 put-requires c κs =
-    let l = c.before.before.loop-i in
-    let s = c.before.before.before.before.before in
-    let a = s.args in
-    let w = repeated-within l.i a.n (part a.a a.b a.from.now) c.before.loop-i-test.true in
-    (search rules, search rules, omega (arith, w, l.invariant.1, l.invariant.2, s.requires.2, length_part a.a a.b a.from.now s.requires.1))
+    let l = c.loop-i in
+    let a = c.args in
+    let w = repeated-within l.i a.n (part a.a a.b a.from.now) c.loop-i-test.true in
+    (search rules, search rules, omega (arith, w, l.invariant.1, l.invariant.2, c.requires.2, length_part a.a a.b a.from.now c.requires.1))
 
 add-i : tie.Need-overflow_add-i invariant-loop decreases-loop
 add-i c = search rules
@@ -44,14 +43,13 @@ loop-less c = search rules
 
 loop-again : tie.Need-loop-i-preserved invariant-loop decreases-loop
 loop-again c =
-    let l = c.before.before.before.before.before.loop-i in
-    let s = c.before.before.before.before.before.before.before.before in
-    let a = s.args in
+    let l = c.loop-i in
+    let a = c.args in
     let p = part a.a a.b a.from.now in (
       search rules,
       search rules,
-      omega (arith, c.before.before.put-d.ensures.0, l.invariant.2, repeated_long l.i p, length_part a.a a.b a.from.now s.requires.1),
-      c.before.before.put-d.ensures.1 ∙ (λ j. over_at (l.invariant.2 j) p (l.invariant.3 j)) ∙ repeated_next a.at l.i p a.out-1.now (omega (arith, s.requires.2)),
+      omega (arith, c.put-d.ensures.0, l.invariant.2, repeated_long l.i p, length_part a.a a.b a.from.now c.requires.1),
+      c.put-d.ensures.1 ∙ (λ j. over_at (l.invariant.2 j) p (l.invariant.3 j)) ∙ repeated_next a.at l.i p a.out.now (omega (arith, c.requires.2)),
     )
 
 same_length : tie.Need-shape_of-out invariant-loop decreases-loop
@@ -59,11 +57,11 @@ same_length c = search rules
 
 returns : tie.Need-returns invariant-loop decreases-loop
 returns c =
-    let l = c.before.loop-i in
-    let a = c.before.before.before.before.args in
+    let l = c.loop-i in
+    let a = c.args in
     let p = part a.a a.b a.from.now in
     let e : l.i ≡ a.n = omega arith in
-    (l.invariant.2 ∙ ap (λ (m : ℕ). a.at + length (repeated m p)) e, l.invariant.3 ∙ ap (λ (m : ℕ). over_at a.at (repeated m p) a.out-1.now) e)
+    (l.invariant.2 ∙ ap (λ (m : ℕ). a.at + length (repeated m p)) e, l.invariant.3 ∙ ap (λ (m : ℕ). over_at a.at (repeated m p) a.out.now) e)
 
 pub put_copies_spec : {M : Type 1} → statement M
 put_copies_spec =

@@ -24,27 +24,24 @@ content-done c = c.before.before.before.before.before.before.before.before.befor
 put-padding-requires : tie.Need-put_padding-a-requires
 unfolding out
 put-padding-requires c κs =
-    let z = c.before.before.before.before.before.before.before.before.before.before.before.before.requires in
+    let z = c.requires in
     (z.0.1, room_before _ _ _ _ _ z.1)
 
 put-recording-requires : tie.Need-put_recording-b-requires
 unfolding out
 put-recording-requires c κs =
-    let l = c.before.before.before.before.before.before.before.before.before in
-    ((start l).requires.0.0, room_content _ _ _ _ _ (start l).requires.1 _ l.put_padding-a.ensures)
+    ((start c.before.before.before.before.before.before.before.before.before).requires.0.0, room_content _ _ _ _ _ (start c.before.before.before.before.before.before.before.before.before).requires.1 _ c.put_padding-a.ensures)
 
 put-padding-requires-2 : tie.Need-put_padding-requires
 unfolding out
 put-padding-requires-2 c κs =
-    let m = c.before.before.before.before.before.before.before.before.before in
-    let l = left-done m in
-    ((start l).requires.0.1, room_behind _ _ _ _ _ (start l).requires.1 _ l.put_padding-a.ensures _ m.put_recording-b.ensures.0)
+    let l = left-done c.before.before.before.before.before.before.before.before.before in
+    ((start l).requires.0.1, room_behind _ _ _ _ _ (start l).requires.1 _ l.put_padding-a.ensures _ c.put_recording-b.ensures.0)
 
 same_length : tie.Need-shape_of-bytes
 same_length c =
-    let r = c.before.before.before.before.before.before in
-    let m = content-done r in
-    r.put_padding.auto.0 ∙ m.put_recording-b.kept.0 ∙ (left-done m).put_padding-a.kept.0
+    let m = content-done c.before.before.before.before.before.before in
+    c.put_padding.auto.0 ∙ m.put_recording-b.kept.0 ∙ (left-done m).put_padding-a.kept.0
 
 same-length-2 : tie.Need-shape_of-numbers
 same-length-2 c = search rules
@@ -55,10 +52,9 @@ same-length-3 c = search rules
 returns : tie.Need-returns
 unfolding out
 returns c =
-    let r = c.before.before.before.before.before.before in
-    let m = content-done r in
+    let m = content-done c.before.before.before.before.before.before in
     let l = left-done m in
-    all_three _ _ _ _ _ (start l).requires.1 _ l.put_padding-a.ensures _ m.put_recording-b.ensures.0 _ r.put_padding.ensures
+    all_three _ _ _ _ _ (start l).requires.1 _ l.put_padding-a.ensures _ m.put_recording-b.ensures.0 _ c.put_padding.ensures
 
 pub put_padded_spec : {M : Type 1} → statement M
 put_padded_spec =

@@ -48,12 +48,12 @@ abbrev start : tie.At-loop-p invariant-loop decreases-loop → tie.Start invaria
 start c = c.before.before.before.before.before.before.before.before.before
 
 room : (c : tie.At-loop-p invariant-loop decreases-loop)
-    → let a = (start c).args in Fits (repeat_pieces a.n [] (items (recording a.fill.now a.entries.now a.text.now))) (out a.bytes-1.now a.numbers-1.now a.texts-1.now (from a.c))
-room c = room_of _ _ _ _ _ _ _ _ c.before.before.if-n-eq0.false (start c).requires.1
+    → let a = (start c).args in Fits (repeat_pieces a.n [] (items (recording a.fill.now a.entries.now a.text.now))) (out a.bytes.now a.numbers.now a.texts.now (from a.c))
+room c = room_of _ _ _ _ _ _ _ _ c.if-n-eq0.false (start c).requires.1
 
 -- in a turn
-whole : (c : tie.In-loop-p invariant-loop decreases-loop) → c.before.loop-p.f.k + 4 ≤ length (start c.before).args.entries.now
-whole c = entire _ _ _ _ _ _ _ _ _ _ _ _ _ c.before.loop-p.invariant (room c.before) c.loop-p-test.true
+whole : (c : tie.In-loop-p invariant-loop decreases-loop) → c.loop-p.f.k + 4 ≤ length (start c.before).args.entries.now
+whole c = entire _ _ _ _ _ _ _ _ _ _ _ _ _ c.loop-p.invariant (room c.before) c.loop-p-test.true
 
 abbrev turn : tie.After-put_times-f invariant-loop decreases-loop → tie.In-loop-p invariant-loop decreases-loop
 turn c = c.before.before.before
@@ -64,74 +64,64 @@ times c = c.before.before.before.before.before
 -- ── what is asked on the way
 returns : tie.Need-returns-then-n-eq0 invariant-loop decreases-loop
 returns c =
-    let a = c.before.before.before.before.before.before.before.args in
-    add-nil _ ∙ ap (λ (l : List Item). add l (out a.bytes-1.now a.numbers-1.now a.texts-1.now a.c)) (sym (padding-zero a.n _ c.if-n-eq0.true))
+    let a = c.args in
+    add-nil _ ∙ ap (λ (l : List Item). add l (out a.bytes.now a.numbers.now a.texts.now a.c)) (sym (padding-zero a.n _ c.if-n-eq0.true))
 
 place-at-requires : tie.Need-place_at-p-requires invariant-loop decreases-loop
 place-at-requires c κs = search rules
 
 loop-holds : tie.Need-loop-p-init invariant-loop decreases-loop
 loop-holds c =
-    state_first _ _ _ _ _ _ _ refl refl c.before.before.before.before.before.before.before.before.requires.0 c.place_at-p.ensures
+    state_first _ _ _ _ _ _ _ refl refl c.requires.0 c.place_at-p.ensures
 
 entry-at-requires : tie.Need-entry_at-e-requires invariant-loop decreases-loop
 entry-at-requires c κs = whole c
 
 put-times-requires : tie.Need-put_times-f-requires invariant-loop decreases-loop
 put-times-requires c κs =
-    let t = c.before.before in
-    times_asked _ _ _ _ _ _ _ _ _ _ _ _ _ t.before.loop-p.invariant (room t.before) t.loop-p-test.true _ c.before.entry_at-e.ensures
+    times_asked _ _ _ _ _ _ _ _ _ _ _ _ _ c.loop-p.invariant (room c.before.before.before) c.loop-p-test.true _ c.entry_at-e.ensures
 
 put-entry-requires : tie.Need-put_entry-f-requires invariant-loop decreases-loop
 put-entry-requires c κs =
-    let b = c.before.before.before.before in
-    let t = turn b in
-    entry_asked _ _ _ _ _ _ _ _ _ _ _ _ _ t.before.loop-p.invariant (room t.before) t.loop-p-test.true _ b.before.before.entry_at-e.ensures
-    _ b.put_times-f.ensures.0 (omega (arith, (start t.before).good))
+    let t = turn c.before.before.before.before in
+    entry_asked _ _ _ _ _ _ _ _ _ _ _ _ _ t.loop-p.invariant (room t.before) t.loop-p-test.true _ c.entry_at-e.ensures
+    _ c.put_times-f.ensures.0 (omega (arith, (start t.before).good))
 
 place-at-requires-2 : tie.Need-place_at-p-requires-in-loop-p invariant-loop decreases-loop
 place-at-requires-2 c κs =
-    let e = c.before.before.before.before in
-    omega (arith, whole (turn (times e)), (times e).put_times-f.ensures.0.1, e.put_entry-f.ensures.0.1)
+    omega (arith, whole (turn (times c.before.before.before.before)), (times c.before.before.before.before).put_times-f.ensures.0.1, c.put_entry-f.ensures.0.1)
 
 loop-less : tie.Need-loop-p-smaller invariant-loop decreases-loop
 loop-less c =
-    let e = c.before.before.before.before.before in
-    omega (arith, whole (turn (times e)), (times e).put_times-f.ensures.0.1, e.put_entry-f.ensures.0.1)
+    omega (arith, whole (turn (times c.before.before.before.before.before)), (times c.before.before.before.before.before).put_times-f.ensures.0.1, c.put_entry-f.ensures.0.1)
 
 loop-again : tie.Need-loop-p-preserved invariant-loop decreases-loop
 loop-again c =
-    let e = c.before.before.before.before.before in
-    let b = times e in
+    let b = times c.before.before.before.before.before in
     let t = turn b in
-    turned _ _ _ _ _ _ _ _ _ _ _ _ _ t.before.loop-p.invariant (room t.before) t.loop-p-test.true _ b.before.before.entry_at-e.ensures
-    _ _ _ _ _ _ b.put_times-f.ensures.1 b.put_times-f.ensures.0 e.put_entry-f.ensures.0 e.put_entry-f.ensures.1.0 e.put_entry-f.ensures.1.1 c.place_at-p-in-loop-p.ensures
+    turned _ _ _ _ _ _ _ _ _ _ _ _ _ t.loop-p.invariant (room t.before) t.loop-p-test.true _ b.entry_at-e.ensures
+    _ _ _ _ _ _ b.put_times-f.ensures.1 b.put_times-f.ensures.0 c.put_entry-f.ensures.0 c.put_entry-f.ensures.1.0 c.put_entry-f.ensures.1.1 c.place_at-p-in-loop-p.ensures
 
 put-times-requires-2 : tie.Need-put_times-requires invariant-loop decreases-loop
 put-times-requires-2 c κs =
-    let l = c.before.before in
-    last_asked _ _ _ _ _ _ _ _ _ _ _ _ _ l.loop-p.invariant (room l) c.before.loop-p-test.false
+    last_asked _ _ _ _ _ _ _ _ _ _ _ _ _ c.loop-p.invariant (room c.before.before) c.loop-p-test.false
 
 same_length : tie.Need-shape_of-bytes invariant-loop decreases-loop
 same_length c =
-    let l = c.before.before.before.before.before in
-    c.before.before.put_times.auto.0 ∙ (now_long _ _ _ _ _ _ _ _ _ _ _ _ _ l.loop-p.invariant (room l)).0
+    c.put_times.auto.0 ∙ (now_long _ _ _ _ _ _ _ _ _ _ _ _ _ c.loop-p.invariant (room c.before.before.before.before.before)).0
 
 same-length-2 : tie.Need-shape_of-numbers invariant-loop decreases-loop
 same-length-2 c =
-    let l = c.before.before.before.before.before in
-    (now_long _ _ _ _ _ _ _ _ _ _ _ _ _ l.loop-p.invariant (room l)).1
+    (now_long _ _ _ _ _ _ _ _ _ _ _ _ _ c.loop-p.invariant (room c.before.before.before.before.before)).1
 
 same-length-3 : tie.Need-shape_of-texts invariant-loop decreases-loop
 same-length-3 c =
-    let l = c.before.before.before.before.before in
-    (now_long _ _ _ _ _ _ _ _ _ _ _ _ _ l.loop-p.invariant (room l)).2
+    (now_long _ _ _ _ _ _ _ _ _ _ _ _ _ c.loop-p.invariant (room c.before.before.before.before.before)).2
 
 returns-2 : tie.Need-returns invariant-loop decreases-loop
 returns-2 c =
-    let b = c.before.before.put_times.ensures in
-    let l = c.before.before.before.before.before in
-    ended _ _ _ _ _ _ _ _ _ _ _ _ _ l.loop-p.invariant (room l) c.before.before.before.before.loop-p-test.false _ _ b.1 b.0 ∙ back_to _ _ _ _ _ _ _ _ l.before.before.if-n-eq0.false
+    let b = c.put_times.ensures in
+    ended _ _ _ _ _ _ _ _ _ _ _ _ _ c.loop-p.invariant (room c.before.before.before.before.before) c.loop-p-test.false _ _ b.1 b.0 ∙ back_to _ _ _ _ _ _ _ _ c.if-n-eq0.false
 
 pub put_padding_spec : {M : Type 1} → statement M
 put_padding_spec =

@@ -17,7 +17,7 @@ use Rattle.pad.proofs.put_copies.Reads as put-copies-reads
 
 returns : tie.Need-returns-then-a-b
 returns c =
-    let a = c.before.before.before.args in piece_none a.a a.b a.n a.at a.from.now a.out-1.now c.if-a-b.true
+    let a = c.args in piece_none a.a a.b a.n a.at a.from.now a.out.now c.if-a-b.true
 
 add-if2 : tie.Need-overflow_add-a
 add-if2 c = search rules
@@ -27,20 +27,20 @@ shared-slice-read-put-byte-times c = search rules
 
 put-byte-times-requires : tie.Need-put_byte_times-requires
 put-byte-times-requires c κs =
-    let a = c.before.before.before.before.before.before.args in
-    let e = piece_one a.a a.b a.from.now c.before.before.if-a-b-2.true c.before.before.before.before.before.before.requires.1 in
-    omega (arith, c.before.before.before.before.before.before.requires.2, ap (λ (l : List ℕ). length (repeated a.n l)) e, length-single a.n (get_or a.from.now a.a 0))
+    let a = c.args in
+    let e = piece_one a.a a.b a.from.now c.if-a-b-2.true c.requires.1 in
+    omega (arith, c.requires.2, ap (λ (l : List ℕ). length (repeated a.n l)) e, length-single a.n (get_or a.from.now a.a 0))
 
 same_length : tie.Need-shape_of-out-then-a-b-2
 same_length c = search rules
 
 returns-2 : tie.Need-returns-then-a-b-2
 returns-2 c =
-    let a = c.before.before.before.before.before.before.before.before.before.args in
-    let e = piece_one a.a a.b a.from.now c.before.before.before.before.before.if-a-b-2.true c.before.before.before.before.before.before.before.before.before.requires.1 in
-    let r = c.before.before.put_byte_times.ensures in (
+    let a = c.args in
+    let e = piece_one a.a a.b a.from.now c.if-a-b-2.true c.requires.1 in
+    let r = c.put_byte_times.ensures in (
       r.0 ∙ ap (λ (m : ℕ). a.at + m) (sym (length-single a.n _)) ∙ ap (λ (l : List ℕ). a.at + length (repeated a.n l)) (sym e),
-      r.1 ∙ ap (λ (l : List ℕ). over_at a.at l a.out-1.now) (sym (repeated-byte a.n _)) ∙ ap (λ (l : List ℕ). over_at a.at (repeated a.n l) a.out-1.now) (sym e),
+      r.1 ∙ ap (λ (l : List ℕ). over_at a.at l a.out.now) (sym (repeated-byte a.n _)) ∙ ap (λ (l : List ℕ). over_at a.at (repeated a.n l) a.out.now) (sym e),
     )
 
 put-copies-requires : tie.Need-put_copies-requires

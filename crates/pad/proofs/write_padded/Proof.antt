@@ -48,47 +48,47 @@ given s =
       fs = a.fill.now;
       gs = a.fill-entries.now;
       us = a.fill-text.now;
-      od = a.bytes-1.now;
-      oe = a.numbers-1.now;
-      ot = a.texts-1.now;
+      od = a.bytes.now;
+      oe = a.numbers.now;
+      ot = a.texts.now;
     }
 
 -- once both recordings are checked
-abbrev start : tie.In-Fine-2 → tie.Start
+abbrev start : tie.In-Fine → tie.Start
 start c = c.before.before.before.before.before.before.before.before.before.before.before.before
 
-abbrev sizes : tie.In-Fine-2 → TextSizes
-sizes c = c.checked-in-Fine-1.given.0.0
+abbrev sizes : tie.In-Fine → TextSizes
+sizes c = c.in-Fine.n
 
-fine : (c : tie.In-Fine-2) → BothFine (given (start c)) (sizes c)
-fine c = both_fine (given (start c)) c.before.before.check_both-checked.result c.before.before.check_both-checked.ensures (sizes c) c.checked-in-Fine-1.given.1
+fine : (c : tie.In-Fine) → BothFine (given (start c)) (sizes c)
+fine c = both_fine (given (start c)) c.check_both-checked.result c.check_both-checked.ensures (sizes c) c.in-Fine.is
 
 -- once it is known how often the fill comes, and how often before the content
-abbrev checked : tie.After-left_count-left → tie.In-Fine-2
-checked c = c.before.before.before.before
+abbrev checked : tie.After-left_count-left → tie.In-Fine
+checked c = c.before.before.before
 
 abbrev call : tie.After-left_count-left → Given
 call c = given (start (checked c))
 
 abbrev count : tie.After-left_count-left → ℕ
-count c = c.before.fill_count-count.result
+count c = c.fill_count-count.result
 
 abbrev result : tie.After-left_count-left → List Item
 result c = let l = c.left_count-left.result in sides l (count c - l) (items (second (call c))) (items (content (call c)))
 
 -- the product is exact: a count of 32 bits and a fill within its limit
 product : (c : tie.After-left_count-left) → count c * length (call c).fs ≤ 4503599626321920
-product c = mul-le-mul c.before.fill_count-count.ensures.1 (fine (checked c)).1.data_short
+product c = mul-le-mul c.fill_count-count.ensures.1 (fine (checked c)).1.data_short
 
 -- once it is known on how many sides it comes
 abbrev counted : tie.After-once_if-2 → tie.After-left_count-left
 counted c = c.before.before
 
 abbrev times : tie.After-once_if-2 → ℕ
-times c = c.before.once_if.result + c.once_if-2.result
+times c = c.once_if.result + c.once_if-2.result
 
 few : (c : tie.After-once_if-2) → times c ≤ 2
-few c = omega (arith, c.before.once_if.ensures.1, c.once_if-2.ensures.1)
+few c = omega (arith, c.once_if.ensures.1, c.once_if-2.ensures.1)
 
 entry-product : (c : tie.After-once_if-2) → times c * length (call (counted c)).gs ≤ 32768
 entry-product c = mul-le-mul (few c) (fine (checked (counted c))).1.entries_short
@@ -108,8 +108,8 @@ measured c =
     let l = counted n in
     let v = checked l in
     padded_measured (call l) (sizes v) (fine v) (count l) l.left_count-left.result l.left_count-left.ensures.1
-    (times n) (λ i. n.before.once_if.ensures.0 i + n.once_if-2.ensures.0 i)
-    (start v).args.side refl l.before.fill_count-count.ensures.0 l.left_count-left.ensures.0 c.text_size-shared.result c.text_size-shared.ensures
+    (times n) (λ i. n.once_if.ensures.0 i + n.once_if-2.ensures.0 i)
+    (start v).args.side refl l.fill_count-count.ensures.0 l.left_count-left.ensures.0 c.text_size-shared.result c.text_size-shared.ensures
 
 -- ── what is asked on the way
 check-both-requires : tie.Need-check_both-checked-requires
@@ -120,9 +120,7 @@ enum-known-checked c = search rules
 
 returns : tie.Need-returns-in-Refused
 returns c =
-    let k = c.before.before.before in
-    let s = k.before.before.before.before.before.before.before.before.before.before in
-    both_refused (given s) k.check_both-checked.result k.check_both-checked.ensures c.before.checked-1.given.0.0 c.before.checked-1.given.1
+    both_refused (given c.before.before.before.before.before.before.before.before.before.before.before) c.check_both-checked.result c.check_both-checked.ensures c.in-Refused.f c.in-Refused.is
 
 enum-known-checked-2 : tie.Need-enum_known-checked-in-Fine-1
 enum-known-checked-2 c = search rules
@@ -151,16 +149,14 @@ mul-text-size c = omega (arith, text-product c.before)
 
 add-text-size : tie.Need-overflow_add-sizes
 add-text-size c =
-    let n = c.before.before in
-    omega (arith, (fine (checked (counted n))).0.text_short, text-product n)
+    omega (arith, (fine (checked (counted c.before.before))).0.text_short, text-product c.before.before)
 
 text-size-requires : tie.Need-text_size-shared-requires
 text-size-requires c κs =
-    let n = c.before.before in
-    let v = checked (counted n) in
+    let v = checked (counted c.before.before) in
     let f = fine v in (
       (f.0.entries_short, f.0.own_short, f.0.parts),
-      ((f.1.entries_short, f.1.own_short, f.1.parts, omega (arith, few n)), texts_less (call (counted n)) (sizes v) (times n) f),
+      ((f.1.entries_short, f.1.own_short, f.1.parts, omega (arith, few c.before.before)), texts_less (call (counted c.before.before)) (sizes v) (times c.before.before) f),
     )
 
 mul-settle : tie.Need-overflow_mul-count
@@ -185,24 +181,22 @@ enum-known-verdict c = search rules
 
 returns-2 : tie.Need-returns-in-Refused-verdict
 returns-2 c =
-    let p = c.before.before.before in
-    let n = sided p.before in
+    let n = sided c.before.before in
     let l = counted n in
     let v = checked l in
-    sizes_refused (call l) (sizes v) (fine v) (times n) (result l) _ _ _ (measured p.before) p.settle-verdict.result p.settle-verdict.ensures
-    c.before.verdict-1.given.0.0 c.before.verdict-1.given.1
+    sizes_refused (call l) (sizes v) (fine v) (times n) (result l) _ _ _ (measured c.before.before) c.settle-verdict.result c.settle-verdict.ensures
+    c.in-Refused-verdict.f c.in-Refused-verdict.is
 
 enum_told : tie.Need-enum_told-1
 enum_told c = search rules
 
 put-padded-requires : tie.Need-put_padded-c-requires
 put-padded-requires c κs =
-    let p = c.before.before.before.before.before in
-    let n = sided p.before in
+    let n = sided c.before.before.before.before.before in
     let l = counted n in
     let v = checked l in
     let f = fine v in
-    let room = has_room (call l) (sizes v) f (times n) (result l) _ _ _ (measured p.before) p.settle-verdict.result p.settle-verdict.ensures c.before.before.before.enum_told-1.given.1 in
+    let room = has_room (call l) (sizes v) f (times n) (result l) _ _ _ (measured c.before.before.before.before.before) c.settle-verdict.result c.settle-verdict.ensures c.in-Room.is in
     ((f.0.whole, f.1.whole), room)
 
 same_length : tie.Need-shape_of-bytes
@@ -216,15 +210,12 @@ same-length-3 c = search rules
 
 returns-3 : tie.Need-returns
 returns-3 c =
-    let w = c.before.before.before.before.before.before in
-    let told = w.before.before.before.before in
-    let p = told.before.before in
-    let n = sided p.before in
+    let n = sided c.before.before.before.before.before.before.before.before.before.before.before.before in
     let l = counted n in
     let x = call l in
     let v = checked l in
-    written x (sizes v) (fine v) (times n) (result l) _ _ _ (measured p.before) p.settle-verdict.result p.settle-verdict.ensures told.enum_told-1.given.1
-    0 _ _ _ w.put_padded-c.result (number_of_refusal (start v).args.side x.width (second x) (content x)) w.put_padded-c.ensures
+    written x (sizes v) (fine v) (times n) (result l) _ _ _ (measured c.before.before.before.before.before.before.before.before.before.before.before.before) c.settle-verdict.result c.settle-verdict.ensures c.in-Room.is
+    0 _ _ _ c.put_padded-c.result (number_of_refusal (start v).args.side x.width (second x) (content x)) c.put_padded-c.ensures
 
 pub write_padded_spec : {M : Type 1} → statement M
 write_padded_spec =

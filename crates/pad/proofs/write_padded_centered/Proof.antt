@@ -22,7 +22,7 @@ same-length-3 c = search rules
 returns : tie.Need-returns
 unfolding kind_of
 returns c =
-    c.before.before.before.before.before.before.write_padded.ensures
+    c.write_padded.ensures
 
 pub write_padded_centered_spec : {M : Type 1} → statement M
 write_padded_centered_spec =

@@ -27,8 +27,8 @@ abbrev content : tie.After-check-checked → Recording
 content c = recording (start c).args.content.now (start c).args.entries.now (start c).args.text.now
 
 -- the check found no fault
-clean : (c : tie.In-Fine) → recording_fault (content c.before.before.before) ≡ 0
-clean c = let k = c.before.before.before.check-checked in let g = c.before.checked-in-Fine-1.given in sym k.ensures.0 ∙ fine_zero k.result g.0.0 g.1
+clean : (c : tie.In-Fine) → recording_fault (content c.before) ≡ 0
+clean c = let k = c.check-checked in sym k.ensures.0 ∙ fine_zero k.result c.in-Fine.n c.in-Fine.is
 
 check-requires : tie.Need-check-checked-requires
 check-requires c κs = search rules
@@ -38,33 +38,28 @@ enum-known-checked c = search rules
 
 returns : tie.Need-returns-in-Refused
 returns c =
-    let at-check = c.before.before.before in
-    let k = at-check.check-checked in
-    let g = c.before.checked-1.given in
-    content-refused (start at-check).args.label.now (content at-check) g.0.0 (sym (refused-number k.result g.0.0 g.1) ∙ k.ensures.0)
+    let k = c.check-checked in
+    content-refused (start c.before).args.label.now (content c.before) c.in-Refused.f (sym (refused-number k.result c.in-Refused.f c.in-Refused.is) ∙ k.ensures.0)
 
 enum-known-checked-2 : tie.Need-enum_known-checked-in-Fine-1
 enum-known-checked-2 c = search rules
 
 returns-2 : tie.Need-returns-then-label-eq0
 returns-2 c =
-    let at-check = c.before.before.before.before in
-    label_empty (start at-check).args.label.now (content at-check) (clean c.before) c.if-label-eq0.true
+    label_empty (start c.before.before).args.label.now (content c.before.before) (clean c.before) c.if-label-eq0.true
 
 is-well-formed-requires : tie.Need-is_well_formed-requires
 is-well-formed-requires c κs = search rules
 
 returns-3 : tie.Need-returns-then-not-is_well_formed
 returns-3 c =
-    let at-check = c.before.before.before.before.before.before in
-    let w = c.before.is_well_formed in
-    label_refused (start at-check).args.label.now (content at-check) (clean c.before.before.before) (sym w.ensures ∙ c.if-not-is_well_formed.true)
+    let w = c.is_well_formed in
+    label_refused (start c.before.before.before.before).args.label.now (content c.before.before.before.before) (clean c.before.before.before) (sym w.ensures ∙ c.if-not-is_well_formed.true)
 
 scan-requires : tie.Need-scan-scanned-requires
 scan-requires c κs =
-    let at-check = c.before.before.before.before.before.before in
-    let a = (start at-check).args in
-    let n = no_fault (content at-check) (clean c.before.before.before) in (
+    let a = (start c.before.before.before.before).args in
+    let n = no_fault (content c.before.before.before.before) (clean c.before.before.before) in (
       sound a.content.now a.entries.now a.text.now (clean c.before.before.before),
       (ltb-false 16384 (length a.entries.now) n.entry_numbers, ltb-false 65536 (length a.text.now) n.text),
     )
@@ -77,26 +72,17 @@ enum-known-scanned c = search rules
 
 returns-4 : tie.Need-returns-in-Unbalanced
 returns-4 c =
-    let at-scan = c.before.before in
-    let at_label = at-scan.before.before in
-    let at-check = at_label.before.before.before.before.before in
-    let w = at_label.is_well_formed in
-    content_unbalanced (start at-check).args.label.now (content at-check) (clean at_label.before.before) at_label.before.if-label-eq0.false
-    (sym w.ensures ∙ at-scan.before.if-not-is_well_formed.false) at-scan.scan-scanned.result at-scan.scan-scanned.ensures.0 c.enum_told-1.given.1
+    let w = c.is_well_formed in
+    content_unbalanced (start c.before.before.before.before.before.before).args.label.now (content c.before.before.before.before.before.before) (clean c.before.before.before.before.before) c.if-label-eq0.false
+    (sym w.ensures ∙ not_false w.result c.if-not-is_well_formed.false) c.scan-scanned.result c.scan-scanned.ensures.0 c.in-Unbalanced.is
 
 returns-5 : tie.Need-returns-in-Fine-scanned
 returns-5 c =
-    let at-scan = c.before.before.before in
-    let at_label = at-scan.before.before in
-    let at-fine = at_label.before.before in
-    let at-check = at-fine.before.before.before in
-    let k = at-check.check-checked in
-    let g = at-fine.before.checked-in-Fine-1.given in
-    let h = c.before.scanned-1.given in
-    let w = at_label.is_well_formed in
-    all_fine (start at-check).args.label.now (content at-check) (clean at-fine) at_label.before.if-label-eq0.false
-    (sym w.ensures ∙ at-scan.before.if-not-is_well_formed.false) at-scan.scan-scanned.result at-scan.scan-scanned.ensures.0
-    h.0.0 h.1 at-scan.scan-scanned.ensures.1 g.0.0 (fine_count k.result g.0.0 (length (text_of (items (content at-check)))) g.1 k.ensures.1.0)
+    let k = c.check-checked in
+    let w = c.is_well_formed in
+    all_fine (start c.before.before.before.before.before.before).args.label.now (content c.before.before.before.before.before.before) (clean c.before.before.before.before.before) c.if-label-eq0.false
+    (sym w.ensures ∙ not_false w.result c.if-not-is_well_formed.false) c.scan-scanned.result c.scan-scanned.ensures.0
+    c.in-Fine-scanned.k c.in-Fine-scanned.is c.scan-scanned.ensures.1 c.in-Fine.n (fine_count k.result c.in-Fine.n (length (text_of (items (content c.before.before.before.before.before.before)))) c.in-Fine.is k.ensures.1.0)
 
 pub admit_spec : {M : Type 1} → statement M
 admit_spec =

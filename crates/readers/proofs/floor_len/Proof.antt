@@ -36,7 +36,7 @@ start c = c.before.before.before.before.before.before.before.before
 
 -- the cursor behind the run that was found there
 abbrev behind : tie.After-run_len-size invariant-loop decreases-loop → Cursor
-behind c = let w = c.before.before.before.before.loop-w.w in record { at = c.before.next_run-run.result.to; k = w.c.k; d = 0; e = 0; t = 0 }
+behind c = let w = c.loop-w.w in record { at = c.next_run-run.result.to; k = w.c.k; d = 0; e = 0; t = 0 }
 
 copied-to-requires : tie.Need-copied_to-run-requires invariant-loop decreases-loop
 copied-to-requires c κs = search rules
@@ -46,27 +46,24 @@ first-walk-requires c κs = search rules
 
 pass-entries-requires : tie.Need-pass_entries-w-requires invariant-loop decreases-loop
 pass-entries-requires c κs =
-    let s = c.before.before.before.before.before.before in
-    let a = s.args in
+    let a = c.args in
     subst (λ (w : Walk). Arrived a.content.now a.entries.now a.text.now w) (sym c.first_walk.ensures)
-    (first_arrived a.label.now a.content.now a.entries.now a.text.now s.requires.1)
+    (first_arrived a.label.now a.content.now a.entries.now a.text.now c.requires.1)
 
 loop-holds : tie.Need-loop-w-init invariant-loop decreases-loop
 loop-holds c =
-    let s = c.before.before.before.before.before.before.before in
-    let a = s.args in
+    let a = c.args in
     let p : Passed a.label.now a.content.now a.entries.now a.text.now first_walk_of c.pass_entries-w.result =
-    subst (λ (w : Walk). Passed a.label.now a.content.now a.entries.now a.text.now w c.pass_entries-w.result) c.before.first_walk.ensures c.pass_entries-w.ensures in
+    subst (λ (w : Walk). Passed a.label.now a.content.now a.entries.now a.text.now w c.pass_entries-w.result) c.first_walk.ensures c.pass_entries-w.ensures in
     let g = going_first a.label.now a.content.now a.entries.now a.text.now c.pass_entries-w.result p in (
-      subst (λ (r : Run). Going a.label.now a.content.now a.entries.now a.text.now c.pass_entries-w.result r) (sym c.before.before.copied_to-run.ensures) g,
+      subst (λ (r : Run). Going a.label.now a.content.now a.entries.now a.text.now c.pass_entries-w.result r) (sym c.copied_to-run.ensures) g,
       ap (λ (n : ℕ). 0 + length (flatten (drop n (fs a.label.now a.content.now a.entries.now a.text.now)))) p.here ∙ omega arith,
     )
 
 next-run-requires : tie.Need-next_run-run-requires invariant-loop decreases-loop
 next-run-requires c κs =
-    let l = c.before.before in
-    let s = start l in
-    let g = l.loop-w.invariant.0 in
+    let s = start c.before.before in
+    let g = c.loop-w.invariant.0 in
     ((s.requires.0, g.standing), (c.loop-w-test.true, g.fated.within))
 
 run-len-requires : tie.Need-run_len-size-requires invariant-loop decreases-loop
@@ -76,48 +73,44 @@ run-len-requires c κs =
 
 add-size : tie.Need-overflow_add-size invariant-loop decreases-loop
 add-size c =
-    let l = c.before.before.before.before in
-    let a = (start l).args in
-    let r = c.before.next_run-run.ensures in
-    let n = length_run a.label.now a.content.now a.entries.now a.text.now l.loop-w.w l.loop-w.run l.loop-w.invariant.0 c.before.next_run-run.result r.0 r.1 (behind c) refl
+    let a = (start c.before.before.before.before).args in
+    let r = c.next_run-run.ensures in
+    let n = length_run a.label.now a.content.now a.entries.now a.text.now c.loop-w.w c.loop-w.run c.loop-w.invariant.0 c.next_run-run.result r.0 r.1 (behind c) refl
     refl in
     let z = floor_short a.label.now a.content.now a.entries.now a.text.now in
-    omega (arith, n, l.loop-w.invariant.1, c.run_len-size.ensures, z, (start l).requires.1.short)
+    omega (arith, n, c.loop-w.invariant.1, c.run_len-size.ensures, z, (start c.before.before.before.before).requires.1.short)
 
 pass-entries-requires-2 : tie.Need-pass_entries-w-requires-in-loop-w invariant-loop decreases-loop
 pass-entries-requires-2 c κs =
-    let l = c.before.before.before.before.before in
-    let a = (start l).args in
-    let r = c.before.before.next_run-run.ensures in
-    arrived_next a.label.now a.content.now a.entries.now a.text.now l.loop-w.w l.loop-w.run l.loop-w.invariant.0 c.before.before.next_run-run.result r.0 r.1
+    let a = (start c.before.before.before.before.before).args in
+    let r = c.next_run-run.ensures in
+    arrived_next a.label.now a.content.now a.entries.now a.text.now c.loop-w.w c.loop-w.run c.loop-w.invariant.0 c.next_run-run.result r.0 r.1
     (behind c.before) refl refl
 
 loop-less : tie.Need-loop-w-smaller invariant-loop decreases-loop
 loop-less c =
-    omega (arith, c.pass_entries-w-in-loop-w.ensures.here, c.before.before.before.next_run-run.ensures.0.further, c.before.before.before.before.loop-w-test.true)
+    omega (arith, c.pass_entries-w-in-loop-w.ensures.here, c.next_run-run.ensures.0.further, c.loop-w-test.true)
 
 loop-again : tie.Need-loop-w-preserved invariant-loop decreases-loop
 loop-again c =
-    let l = c.before.before.before.before.before.before in
-    let a = (start l).args in
-    let r = c.before.before.before.next_run-run.ensures in
+    let a = (start c.before.before.before.before.before.before).args in
+    let r = c.next_run-run.ensures in
     let k = behind c.before.before in
     let p = c.pass_entries-w-in-loop-w.ensures in
-    let n = length_run a.label.now a.content.now a.entries.now a.text.now l.loop-w.w l.loop-w.run l.loop-w.invariant.0 c.before.before.before.next_run-run.result r.0 r.1 k
+    let n = length_run a.label.now a.content.now a.entries.now a.text.now c.loop-w.w c.loop-w.run c.loop-w.invariant.0 c.next_run-run.result r.0 r.1 k
     refl refl in
     let h = ap (λ (m : ℕ). length (flatten (drop m (fs a.label.now a.content.now a.entries.now a.text.now)))) p.here in (
-      going_next a.label.now a.content.now a.entries.now a.text.now l.loop-w.w l.loop-w.run l.loop-w.invariant.0 c.before.before.before.next_run-run.result r.0 r.1 k refl
+      going_next a.label.now a.content.now a.entries.now a.text.now c.loop-w.w c.loop-w.run c.loop-w.invariant.0 c.next_run-run.result r.0 r.1 k refl
           refl
           c.pass_entries-w-in-loop-w.result p,
-      omega (arith, n, h, l.loop-w.invariant.1, c.before.before.run_len-size.ensures),
+      omega (arith, n, h, c.loop-w.invariant.1, c.run_len-size.ensures),
     )
 
 returns : tie.Need-returns invariant-loop decreases-loop
 returns c =
-    let l = c.before.before in
-    let a = (start l).args in
-    let e = length_end a.label.now a.content.now a.entries.now a.text.now l.loop-w.w l.loop-w.run l.loop-w.invariant.0 (omega (arith, c.loop-w-test.false)) in
-    omega (arith, e, l.loop-w.invariant.1, length_floor a.label.now a.content.now a.entries.now a.text.now)
+    let a = (start c.before.before).args in
+    let e = length_end a.label.now a.content.now a.entries.now a.text.now c.loop-w.w c.loop-w.run c.loop-w.invariant.0 (omega (arith, c.loop-w-test.false)) in
+    omega (arith, e, c.loop-w.invariant.1, length_floor a.label.now a.content.now a.entries.now a.text.now)
 
 pub floor_len_spec : {M : Type 1} → statement M
 floor_len_spec =

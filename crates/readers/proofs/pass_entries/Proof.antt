@@ -25,22 +25,21 @@ abbrev start : tie.At-loop-p invariant-loop decreases-loop → tie.Start invaria
 start c = c.before.before.before.before.before.before.before.before
 
 -- in a turn: an entry of four numbers is next
-entire : (c : tie.In-loop-p invariant-loop decreases-loop) → c.before.before.loop-p.c-1.k + 4 ≤ length (start c.before.before).args.entries.now
-entire c = whole _ _ _ _ _ _ _ c.before.before.loop-p.invariant c.loop-p-test.true
+entire : (c : tie.In-loop-p invariant-loop decreases-loop) → c.loop-p.c.k + 4 ≤ length (start c.before.before).args.entries.now
+entire c = whole _ _ _ _ _ _ _ c.loop-p.invariant c.loop-p-test.true
 
 place-at-requires : tie.Need-place_at-p-requires invariant-loop decreases-loop
-place-at-requires c κs = c.before.before.before.before.before.before.requires.ready.within
+place-at-requires c κs = c.requires.ready.within
 
 loop-holds : tie.Need-loop-p-init invariant-loop decreases-loop
-loop-holds c = passing_first _ _ _ _ _ _ c.before.before.before.before.before.before.before.requires c.place_at-p.ensures
+loop-holds c = passing_first _ _ _ _ _ _ c.requires c.place_at-p.ensures
 
 entry-at-requires : tie.Need-entry_at-e-requires invariant-loop decreases-loop
 entry-at-requires c κs = entire c
 
 opened-requires : tie.Need-opened-o-requires invariant-loop decreases-loop
 opened-requires c κs =
-    let l = c.before.before.before in
-    may_open _ _ _ _ _ _ _ l.loop-p.invariant c.before.loop-p-test.true _ c.entry_at-e.ensures (omega (arith, (start l).well_formed))
+    may_open _ _ _ _ _ _ _ c.loop-p.invariant c.loop-p-test.true _ c.entry_at-e.ensures (omega (arith, (start c.before.before.before).well_formed))
 
 behind-entry-requires : tie.Need-behind_entry-c-requires invariant-loop decreases-loop
 behind-entry-requires c κs = omega (arith, entire c.before.before, (start c.before.before.before.before).good)
@@ -49,17 +48,16 @@ place-at-requires-2 : tie.Need-place_at-p-requires-in-loop-p invariant-loop decr
 place-at-requires-2 c κs = omega (arith, entire c.before.before.before, c.behind_entry-c.ensures.1)
 
 loop-less : tie.Need-loop-p-smaller invariant-loop decreases-loop
-loop-less c = omega (arith, entire c.before.before.before.before, c.before.behind_entry-c.ensures.1)
+loop-less c = omega (arith, entire c.before.before.before.before, c.behind_entry-c.ensures.1)
 
 loop-again : tie.Need-loop-p-preserved invariant-loop decreases-loop
 loop-again c =
-    let turn = c.before.before.before.before in
-    let o = c.before.before.opened-o.ensures in
-    let b = c.before.behind_entry-c.ensures in
-    passing_next _ _ _ _ _ _ _ turn.before.before.loop-p.invariant turn.loop-p-test.true _ c.before.before.before.entry_at-e.ensures _ b.0 b.1 _ o.0 o.1 c.place_at-p-in-loop-p.ensures
+    let o = c.opened-o.ensures in
+    let b = c.behind_entry-c.ensures in
+    passing_next _ _ _ _ _ _ _ c.loop-p.invariant c.loop-p-test.true _ c.entry_at-e.ensures _ b.0 b.1 _ o.0 o.1 c.place_at-p-in-loop-p.ensures
 
 returns : tie.Need-returns invariant-loop decreases-loop
-returns c = passed _ _ _ _ _ _ _ c.before.before.loop-p.invariant c.loop-p-test.false
+returns c = passed _ _ _ _ _ _ _ c.loop-p.invariant c.loop-p-test.false
 
 pub pass_entries_spec : {M : Type 1} → statement M
 pass_entries_spec =

@@ -26,65 +26,58 @@ abbrev start : tie.At-loop-p invariant-loop decreases-loop → tie.Start invaria
 start c = c.before.before.before.before.before.before.before.before.before.before
 
 -- in a turn: an entry of four numbers is next
-entire : (c : tie.In-loop-p invariant-loop decreases-loop) → c.before.before.loop-p.c-1.k + 4 ≤ length (start c.before.before).args.entries.now
-entire c = whole _ _ _ _ _ _ _ c.before.before.loop-p.invariant.passing c.loop-p-test.true
+entire : (c : tie.In-loop-p invariant-loop decreases-loop) → c.loop-p.c.k + 4 ≤ length (start c.before.before).args.entries.now
+entire c = whole _ _ _ _ _ _ _ c.loop-p.invariant.passing c.loop-p-test.true
 
 -- behind `put_unless`: the turn that it is in
 abbrev turn : tie.After-slice_known-in-loop-p-2-1 invariant-loop decreases-loop → tie.In-loop-p invariant-loop decreases-loop
 turn c = c.before.before.before.before.before.before.before.before.before
 
 place-at-requires : tie.Need-place_at-p-requires invariant-loop decreases-loop
-place-at-requires c κs = c.before.before.before.before.before.before.before.before.requires.0.ready.within
+place-at-requires c κs = c.requires.0.ready.within
 
 loop-holds : tie.Need-loop-p-init invariant-loop decreases-loop
 loop-holds c =
-    let pre = c.before.before.before.before.before.before.before.before.before.requires in putting_first _ _ _ _ _ _ _ _ pre.0 pre.1 c.place_at-p.ensures
+    let pre = c.requires in putting_first _ _ _ _ _ _ _ _ pre.0 pre.1 c.place_at-p.ensures
 
 entry-at-requires : tie.Need-entry_at-e-requires invariant-loop decreases-loop
 entry-at-requires c κs = entire c
 
 drops-requires : tie.Need-drops-goes-requires invariant-loop decreases-loop
-drops-requires c κs = (ok _ _ _ _ _ _ _ c.before.before.before.loop-p.invariant.passing c.before.loop-p-test.true _ c.entry_at-e.ensures).0
+drops-requires c κs = (ok _ _ _ _ _ _ _ c.loop-p.invariant.passing c.loop-p-test.true _ c.entry_at-e.ensures).0
 
 put-unless-requires : tie.Need-put_unless-c-requires invariant-loop decreases-loop
 put-unless-requires c κs =
-    let at-drops = c.before.before in
-    let at_entry_lem = at-drops.before in
-    let l = at_entry_lem.before.before.before in
-    may_put _ _ _ _ _ _ _ _ _ _ _ l.loop-p.invariant at_entry_lem.before.loop-p-test.true _ at_entry_lem.entry_at-e.ensures _ at-drops.drops-goes.ensures (omega (arith, (start l).well_formed))
+    may_put _ _ _ _ _ _ _ _ _ _ _ c.loop-p.invariant c.loop-p-test.true _ c.entry_at-e.ensures _ c.drops-goes.ensures (omega (arith, (start c.before.before.before.before.before.before).well_formed))
 
 opened-requires : tie.Need-opened-o-requires invariant-loop decreases-loop
 opened-requires c κs =
     let t = turn c in
-    may_open _ _ _ _ _ _ _ t.before.before.loop-p.invariant.passing t.loop-p-test.true _ c.before.before.before.before.before.before.before.before.entry_at-e.ensures
+    may_open _ _ _ _ _ _ _ t.loop-p.invariant.passing t.loop-p-test.true _ c.entry_at-e.ensures
     (omega (arith, (start t.before.before).good))
 
 place-at-requires-2 : tie.Need-place_at-p-requires-in-loop-p invariant-loop decreases-loop
-place-at-requires-2 c κs = omega (arith, entire (turn c.before), c.before.before.before.before.before.put_unless-c.ensures.1)
+place-at-requires-2 c κs = omega (arith, entire (turn c.before), c.put_unless-c.ensures.1)
 
 loop-less : tie.Need-loop-p-smaller invariant-loop decreases-loop
-loop-less c = omega (arith, entire (turn c.before.before), c.before.before.before.before.before.before.put_unless-c.ensures.1)
+loop-less c = omega (arith, entire (turn c.before.before), c.put_unless-c.ensures.1)
 
 loop-again : tie.Need-loop-p-preserved invariant-loop decreases-loop
 loop-again c =
-    let at-put = c.before.before.before.before.before.before in
-    let at-drops = at-put.before.before.before in
-    let at_entry_lem = at-drops.before in
-    let t = at_entry_lem.before in
-    let r = at-put.put_unless-c.ensures in
-    let o = c.before.opened-o.ensures in
-    putting_next _ _ _ _ _ _ _ _ _ _ _ t.before.before.loop-p.invariant t.loop-p-test.true _ at_entry_lem.entry_at-e.ensures _ at-drops.drops-goes.ensures
+    let r = c.put_unless-c.ensures in
+    let o = c.opened-o.ensures in
+    putting_next _ _ _ _ _ _ _ _ _ _ _ c.loop-p.invariant c.loop-p-test.true _ c.entry_at-e.ensures _ c.drops-goes.ensures
     _ _ _ _ r.0 r.1 r.2 o.0 o.1 c.place_at-p-in-loop-p.ensures
 
 same_length : tie.Need-shape_of-numbers invariant-loop decreases-loop
-same_length c = (long _ _ _ _ _ _ _ _ _ _ _ c.before.before.loop-p.invariant).0
+same_length c = (long _ _ _ _ _ _ _ _ _ _ _ c.loop-p.invariant).0
 
 same-length-2 : tie.Need-shape_of-texts invariant-loop decreases-loop
-same-length-2 c = (long _ _ _ _ _ _ _ _ _ _ _ c.before.before.loop-p.invariant).1
+same-length-2 c = (long _ _ _ _ _ _ _ _ _ _ _ c.loop-p.invariant).1
 
 returns : tie.Need-returns invariant-loop decreases-loop
 returns c =
-    let s = c.before.before.loop-p.invariant in
+    let s = c.loop-p.invariant in
     (passed _ _ _ _ _ _ _ s.passing c.loop-p-test.false, written _ _ _ _ _ _ _ _ _ _ _ s c.loop-p-test.false)
 
 pub put_entries_spec : {M : Type 1} → statement M

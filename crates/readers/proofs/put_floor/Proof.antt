@@ -50,13 +50,13 @@ opening l = l.before.before.before.before.before
 
 -- at the head of a turn; before the first one the entries before the first byte are written
 now : (l : tie.At-loop-w invariant-loop decreases-loop) → let a = (start l).args in
-    Written a.label.now a.content.now a.entries.now a.text.now l.loop-w.w l.loop-w.run (blank a.bytes-1.now a.numbers-1.now a.texts-1.now)
-    (out l.loop-w.bytes-1 l.loop-w.numbers-1 l.loop-w.texts-1 l.loop-w.w.c)
+    Written a.label.now a.content.now a.entries.now a.text.now l.loop-w.w l.loop-w.run (blank a.bytes.now a.numbers.now a.texts.now)
+    (out l.loop-w.bytes l.loop-w.numbers l.loop-w.texts l.loop-w.w.c)
 now l =
     l.loop-w.invariant (start l).args.numbers.now (start l).args.texts.now (start l).requires.1
     (begun (start l).args.label.now (start l).args.content.now (start l).args.entries.now (start l).args.text.now
     (start l).args.bytes.now (start l).args.numbers.now (start l).args.texts.now (start l).requires.1 _ _ _ _ _
-    (opening l).before.first_walk.ensures (opening l).before.before.before.before.copied_to-run.ensures (opening l).put_entries-w.ensures.0 (opening l).put_entries-w.ensures.1)
+    (opening l).first_walk.ensures (opening l).copied_to-run.ensures (opening l).put_entries-w.ensures.0 (opening l).put_entries-w.ensures.1)
 
 copied-to-requires : tie.Need-copied_to-run-requires invariant-loop decreases-loop
 copied-to-requires c κs = search rules
@@ -66,12 +66,11 @@ first-walk-requires c κs = search rules
 
 put-entries-requires : tie.Need-put_entries-w-requires invariant-loop decreases-loop
 put-entries-requires c κs =
-    let s = c.before.before.before.before.before.before.before.before.before.before.before in
-    let a = s.args in
+    let a = c.args in
     let f = c.first_walk.ensures in (
-      subst (λ (w : Walk). Arrived a.content.now a.entries.now a.text.now w) (sym f) (first_arrived a.label.now a.content.now a.entries.now a.text.now s.requires.0.1),
-      subst (λ (w : Walk). EntriesFit a.label.now a.content.now a.entries.now a.text.now w a.numbers-1.now a.texts-1.now) (sym f)
-          (first_fit_lem a.label.now a.content.now a.entries.now a.text.now a.bytes-1.now a.numbers-1.now a.texts-1.now s.requires.1),
+      subst (λ (w : Walk). Arrived a.content.now a.entries.now a.text.now w) (sym f) (first_arrived a.label.now a.content.now a.entries.now a.text.now c.requires.0.1),
+      subst (λ (w : Walk). EntriesFit a.label.now a.content.now a.entries.now a.text.now w a.numbers.now a.texts.now) (sym f)
+          (first_fit_lem a.label.now a.content.now a.entries.now a.text.now a.bytes.now a.numbers.now a.texts.now c.requires.1),
     )
 
 loop-holds : tie.Need-loop-w-init invariant-loop decreases-loop
@@ -79,89 +78,77 @@ loop-holds c = λ oe ot f w. w
 
 next-run-requires : tie.Need-next_run-run-requires invariant-loop decreases-loop
 next-run-requires c κs =
-    let l = c.before.before in
-    let s = start l in
-    let g = (now l).going in
+    let s = start c.before.before in
+    let g = (now c.before.before).going in
     ((s.requires.0.0, g.standing), (c.loop-w-test.true, g.fated.within))
 
 put-run-requires : tie.Need-put_run-c-requires invariant-loop decreases-loop
 put-run-requires c κs =
-    let n = c.before.before in
-    let l = n.before.before.before in
-    let s = start l in
+    let s = start c.before.before.before.before.before in
     let a = s.args in
-    let r = n.next_run-run.ensures in (
+    let r = c.next_run-run.ensures in (
       omega (arith, r.0.further),
       r.0.before,
-      run_room a.label.now a.content.now a.entries.now a.text.now a.bytes-1.now a.numbers-1.now a.texts-1.now s.requires.1 l.loop-w.w l.loop-w.run _ _ _ (now l)
-          n.next_run-run.result r.0 r.1,
+      run_room a.label.now a.content.now a.entries.now a.text.now a.bytes.now a.numbers.now a.texts.now s.requires.1 c.loop-w.w c.loop-w.run _ _ _ (now c.before.before.before.before.before)
+          c.next_run-run.result r.0 r.1,
     )
 
 put-entries-requires-2 : tie.Need-put_entries-w-requires-in-loop-w invariant-loop decreases-loop
 put-entries-requires-2 c κs =
-    let u = c.before.before.before.before in
-    let l = head u in
+    let l = head c.before.before.before.before in
     let s = start l in
     let a = s.args in
-    let r = (found u).next_run-run.ensures in
-    let x = u.put_run-c.ensures in (
-      arrived_next a.label.now a.content.now a.entries.now a.text.now l.loop-w.w l.loop-w.run (now l).going (found u).next_run-run.result r.0 r.1 u.put_run-c.result
+    let r = (found c.before.before.before.before).next_run-run.ensures in
+    let x = c.put_run-c.ensures in (
+      arrived_next a.label.now a.content.now a.entries.now a.text.now l.loop-w.w l.loop-w.run (now l).going (found c.before.before.before.before).next_run-run.result r.0 r.1 c.put_run-c.result
           x.0.0 x.0.1,
-      entries_fit a.label.now a.content.now a.entries.now a.text.now a.bytes-1.now a.numbers-1.now a.texts-1.now s.requires.1 l.loop-w.w l.loop-w.run _ _ _ (now l)
-          (found u).next_run-run.result r.0 r.1
-          u.put_run-c.result x.0.0 x.0.1 x.0.2 x.0.3 x.0.4 _ x.1,
+      entries_fit a.label.now a.content.now a.entries.now a.text.now a.bytes.now a.numbers.now a.texts.now s.requires.1 l.loop-w.w l.loop-w.run _ _ _ (now l)
+          (found c.before.before.before.before).next_run-run.result r.0 r.1
+          c.put_run-c.result x.0.0 x.0.1 x.0.2 x.0.3 x.0.4 _ x.1,
     )
 
 loop-less : tie.Need-loop-w-smaller invariant-loop decreases-loop
 loop-less c =
-    let e = c.before.before.before.before in
-    let u = e.before.before.before.before.before in
-    omega (arith, e.put_entries-w-in-loop-w.ensures.0.here, u.put_run-c.ensures.0.0, (found u).next_run-run.ensures.0.further, (found u).before.loop-w-test.true)
+    omega (arith, c.put_entries-w-in-loop-w.ensures.0.here, c.put_run-c.ensures.0.0, (found c.before.before.before.before.before.before.before.before.before).next_run-run.ensures.0.further, (found c.before.before.before.before.before.before.before.before.before).loop-w-test.true)
 
 loop-again : tie.Need-loop-w-preserved invariant-loop decreases-loop
 loop-again c =
-    let e = c.before.before.before.before in
-    let u = e.before.before.before.before.before in
-    let l = head u in
+    let l = head c.before.before.before.before.before.before.before.before.before in
     let s = start l in
     let a = s.args in
-    let r = (found u).next_run-run.ensures in
-    let x = u.put_run-c.ensures in
-    λ oe ot f v. written_next a.label.now a.content.now a.entries.now a.text.now a.bytes-1.now oe ot f l.loop-w.w l.loop-w.run _ _ _ (l.loop-w.invariant oe ot f v)
-    (found u).next_run-run.result r.0 r.1
-    u.put_run-c.result x.0.0 x.0.1 x.0.2 x.0.3 x.0.4 _ x.1 e.put_entries-w-in-loop-w.result _ _ e.put_entries-w-in-loop-w.ensures.0 e.put_entries-w-in-loop-w.ensures.1
+    let r = (found c.before.before.before.before.before.before.before.before.before).next_run-run.ensures in
+    let x = c.put_run-c.ensures in
+    λ oe ot f v. written_next a.label.now a.content.now a.entries.now a.text.now a.bytes.now oe ot f l.loop-w.w l.loop-w.run _ _ _ (l.loop-w.invariant oe ot f v)
+    (found c.before.before.before.before.before.before.before.before.before).next_run-run.result r.0 r.1
+    c.put_run-c.result x.0.0 x.0.1 x.0.2 x.0.3 x.0.4 _ x.1 c.put_entries-w-in-loop-w.result _ _ c.put_entries-w-in-loop-w.ensures.0 c.put_entries-w-in-loop-w.ensures.1
 
 same_length : tie.Need-shape_of-bytes invariant-loop decreases-loop
 unfolding out
 same_length c =
-    let l = c.before.before.before in
-    let s = start l in
+    let s = start c.before.before.before in
     let a = s.args in
-    (as_long a.label.now a.content.now a.entries.now a.text.now a.bytes-1.now a.numbers-1.now a.texts-1.now s.requires.1 l.loop-w.w l.loop-w.run _ _ _ (now l)).data_bytes
+    (as_long a.label.now a.content.now a.entries.now a.text.now a.bytes.now a.numbers.now a.texts.now s.requires.1 c.loop-w.w c.loop-w.run _ _ _ (now c.before.before.before)).data_bytes
 
 same-length-2 : tie.Need-shape_of-numbers invariant-loop decreases-loop
 unfolding out
 same-length-2 c =
-    let l = c.before.before.before in
-    let s = start l in
+    let s = start c.before.before.before in
     let a = s.args in
-    (as_long a.label.now a.content.now a.entries.now a.text.now a.bytes-1.now a.numbers-1.now a.texts-1.now s.requires.1 l.loop-w.w l.loop-w.run _ _ _ (now l)).entry_numbers
+    (as_long a.label.now a.content.now a.entries.now a.text.now a.bytes.now a.numbers.now a.texts.now s.requires.1 c.loop-w.w c.loop-w.run _ _ _ (now c.before.before.before)).entry_numbers
 
 same-length-3 : tie.Need-shape_of-texts invariant-loop decreases-loop
 unfolding out
 same-length-3 c =
-    let l = c.before.before.before in
-    let s = start l in
+    let s = start c.before.before.before in
     let a = s.args in
-    (as_long a.label.now a.content.now a.entries.now a.text.now a.bytes-1.now a.numbers-1.now a.texts-1.now s.requires.1 l.loop-w.w l.loop-w.run _ _ _ (now l)).text
+    (as_long a.label.now a.content.now a.entries.now a.text.now a.bytes.now a.numbers.now a.texts.now s.requires.1 c.loop-w.w c.loop-w.run _ _ _ (now c.before.before.before)).text
 
 returns : tie.Need-returns invariant-loop decreases-loop
 returns c =
-    let l = c.before.before.before in
-    let s = start l in
+    let s = start c.before.before.before in
     let a = s.args in
-    written_end a.label.now a.content.now a.entries.now a.text.now a.bytes-1.now a.numbers-1.now a.texts-1.now s.requires.1 l.loop-w.w l.loop-w.run _ _ _ (now l)
-    (omega (arith, c.before.loop-w-test.false))
+    written_end a.label.now a.content.now a.entries.now a.text.now a.bytes.now a.numbers.now a.texts.now s.requires.1 c.loop-w.w c.loop-w.run _ _ _ (now c.before.before.before)
+    (omega (arith, c.loop-w-test.false))
 
 pub put_floor_spec : {M : Type 1} → statement M
 put_floor_spec =

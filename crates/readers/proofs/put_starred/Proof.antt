@@ -26,41 +26,37 @@ starred c = let a = (start c).args in floor_items a.label.now (recording a.conte
 
 sized : (c : tie.After-settle_floor-verdict)
     → let a = (start c).args in
-    Sized (length a.texts-1.now) (starred c) (length (data_of (starred c))) a.floor.entries c.before.before.less_size-shared.result
+    Sized (length a.texts.now) (starred c) (length (data_of (starred c))) a.floor.entries c.less_size-shared.result
 sized c =
     let s = start c in
     let a = s.args in
-    let z = c.before.before.less_size-shared in
-    floor_sized a.label.now (recording a.content.now a.entries.now a.text.now) a.office a.floor s.requires.0.1 s.requires.1 s.requires.0.0 (length a.texts-1.now)
+    let z = c.less_size-shared in
+    floor_sized a.label.now (recording a.content.now a.entries.now a.text.now) a.office a.floor s.requires.0.1 s.requires.1 s.requires.0.0 (length a.texts.now)
     z.result z.ensures
 
 sub-less-size : tie.Need-overflow_sub-office
 sub-less-size c =
-    let s = c.before.before.before.before.before.before.before.before in
-    let a = s.args in
-    less_than_office a.label.now (recording a.content.now a.entries.now a.text.now) a.office a.floor s.requires.0.1 s.requires.1
+    let a = c.args in
+    less_than_office a.label.now (recording a.content.now a.entries.now a.text.now) a.office a.floor c.requires.0.1 c.requires.1
 
 less-size-requires : tie.Need-less_size-shared-requires
 less-size-requires c κs =
-    let s = c.before.before.before.before.before.before.before.before in
-    let a = s.args in
-    less_asked a.label.now (recording a.content.now a.entries.now a.text.now) a.office a.floor s.requires.0.1 s.requires.1 s.requires.0.0
+    let a = c.args in
+    less_asked a.label.now (recording a.content.now a.entries.now a.text.now) a.office a.floor c.requires.0.1 c.requires.1 c.requires.0.0
 
 settle-floor-requires : tie.Need-settle_floor-verdict-requires
 unfolding lead_table
 settle-floor-requires c κs =
-    let a = c.before.before.before.before.before.before.before.before.before.before in (refl, sound a.args.content.now a.args.entries.now a.args.text.now a.requires.0.0)
+    (refl, sound c.args.content.now c.args.entries.now c.args.text.now c.requires.0.0)
 
 enum-known-verdict : tie.Need-enum_known-verdict
 enum-known-verdict c = search rules
 
 returns : tie.Need-returns-in-Refused
 returns c =
-    let s = c.before.before.before in
-    let a = (start s).args in
-    let v = s.settle_floor-verdict in
-    let g = c.before.verdict-1.given in
-    left_refused (starred s) a.bytes-1.now a.numbers-1.now a.texts-1.now _ _ _ (sized s) v.result v.ensures g.0.0 g.1
+    let a = (start c.before).args in
+    let v = c.settle_floor-verdict in
+    left_refused (starred c.before) a.bytes.now a.numbers.now a.texts.now _ _ _ (sized c.before) v.result v.ensures c.in-Refused.f c.in-Refused.is
 
 enum_told : tie.Need-enum_told-1
 enum_told c = search rules
@@ -68,11 +64,10 @@ enum_told c = search rules
 put-floor-requires : tie.Need-put_floor-c-requires
 unfolding lead_table
 put-floor-requires c κs =
-    let s = c.before.before.before.before.before.before in
-    let v = s.settle_floor-verdict in
-    let a = (start s).args in (
-      (refl, sound a.content.now a.entries.now a.text.now (start s).requires.0.0),
-      left_room (starred s) a.bytes-1.now a.numbers-1.now a.texts-1.now _ _ _ (sized s) v.result v.ensures c.before.before.before.before.enum_told-1.given.1,
+    let v = c.settle_floor-verdict in
+    let a = (start c.before.before.before.before.before).args in (
+      (refl, sound a.content.now a.entries.now a.text.now (start c.before.before.before.before.before).requires.0.0),
+      left_room (starred c.before.before.before.before.before) a.bytes.now a.numbers.now a.texts.now _ _ _ (sized c.before.before.before.before.before) v.result v.ensures c.in-Room.is,
     )
 
 same_length : tie.Need-shape_of-bytes
@@ -86,12 +81,10 @@ same-length-3 c = search rules
 
 returns-2 : tie.Need-returns
 returns-2 c =
-    let p = c.before.before.before.before.before.before in
-    let s = p.before.before.before.before.before.before.before in
-    let v = s.settle_floor-verdict in
-    let a = (start s).args in
-    left_written (starred s) a.bytes-1.now a.numbers-1.now a.texts-1.now _ _ _ (sized s) v.result v.ensures p.before.before.before.before.before.enum_told-1.given.1 _ _ _
-    p.put_floor-c.result p.put_floor-c.ensures
+    let v = c.settle_floor-verdict in
+    let a = (start c.before.before.before.before.before.before.before.before.before.before.before.before).args in
+    left_written (starred c.before.before.before.before.before.before.before.before.before.before.before.before) a.bytes.now a.numbers.now a.texts.now _ _ _ (sized c.before.before.before.before.before.before.before.before.before.before.before.before) v.result v.ensures c.in-Room.is _ _ _
+    c.put_floor-c.result c.put_floor-c.ensures
 
 pub put_starred_spec : {M : Type 1} → statement M
 put_starred_spec =

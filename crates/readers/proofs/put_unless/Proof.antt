@@ -14,12 +14,12 @@ behind-entry-requires c κs = search rules
 
 returns : tie.Need-returns-then-goes
 returns c =
-    let b = c.behind_entry.ensures in (b.0, b.1, gone_put _ _ _ _ _ _ c.before.if-goes.true b.2 b.3 b.4)
+    let b = c.behind_entry.ensures in (b.0, b.1, gone_put _ _ _ _ _ _ c.if-goes.true b.2 b.3 b.4)
 
 put-entry-requires : tie.Need-put_entry-requires
 put-entry-requires c κs =
-    let pre = c.before.before.before.before.before.before.requires in
-    let room = pre.1.1 c.before.before.if-goes.false in
+    let pre = c.requires in
+    let room = pre.1.1 c.if-goes.false in
     (pre.0.0, (pre.0.1, ((room.0, room.1), ((pre.1.0.0, room.2, pre.1.0.1), room.3))))
 
 same_length : tie.Need-shape_of-numbers
@@ -30,12 +30,9 @@ same-length-2 c = search rules
 
 returns-2 : tie.Need-returns
 returns-2 c =
-    let at-put-entry = c.before.before.before.before in
-    let at-if = at-put-entry.before.before.before in
-    let start = at-if.before.before.before.before in
-    let pre = start.requires in
-    let r = at-put-entry.put_entry.ensures in
-    (omega (arith, r.0.0, pre.0.2), r.0.1, kept_put _ _ _ _ _ _ _ _ _ at-if.if-goes.false r.1.0 r.1.1 r.0.2 r.0.3 r.0.4)
+    let pre = c.requires in
+    let r = c.put_entry.ensures in
+    (omega (arith, r.0.0, pre.0.2), r.0.1, kept_put _ _ _ _ _ _ _ _ _ c.if-goes.false r.1.0 r.1.1 r.0.2 r.0.3 r.0.4)
 
 pub put_unless_spec : {M : Type 1} → statement M
 put_unless_spec =

@@ -13,13 +13,11 @@ sub-result c = search rules
 
 returns : tie.Need-returns-then-run
 returns c =
-    let s = c.before.before in
-    sym (length-copied s.args.content.now s.args.at s.args.run c.before.if-run.true s.requires.1)
+    sym (length-copied c.args.content.now c.args.at c.args.run c.if-run.true c.requires.1)
 
 returns-2 : tie.Need-returns
 returns-2 c =
-    let s = c.before in
-    sym (length-starred s.args.content.now s.args.at s.args.run c.if-run.false)
+    sym (length-starred c.args.content.now c.args.at c.args.run c.if-run.false)
 
 pub run_len_spec : {M : Type 1} → statement M
 run_len_spec = tie.close (tie.spec sub-result returns returns-2)

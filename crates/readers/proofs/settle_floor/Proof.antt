@@ -20,10 +20,9 @@ enum_told c = search rules
 
 returns : tie.Need-returns-in-Room
 returns c =
-    let s = c.before.before in
-    let a = s.before.before.before.before.before.args in
-    floor_roomy a.label.now (recording a.content.now a.entries.now a.text.now) s.settle-verdict.result a.floor-entries a.floor-text
-    (room_of_state a.bytes a.numbers a.texts 0) s.settle-verdict.ensures c.enum_told-1.given.1
+    let a = c.args in
+    floor_roomy a.label.now (recording a.content.now a.entries.now a.text.now) c.settle-verdict.result a.floor-entries a.floor-text
+    (room_of_state a.bytes a.numbers a.texts 0) c.settle-verdict.ensures c.in-Room.is
 
 enum-known-verdict : tie.Need-enum_known-verdict
 enum-known-verdict c = search rules
@@ -36,8 +35,8 @@ settle-requires-2 c κs = search rules
 
 returns-2 : tie.Need-returns
 returns-2 c =
-    let a = c.before.before.before.before.before.before.before.before.before.before.args in
-    c.settle.ensures ∙ ap (λ (d : ℕ). sizes_fault d a.floor-entries a.floor-text 0 (room_of_state a.bytes a.numbers a.texts 0)) c.before.floor_len-d.ensures
+    let a = c.args in
+    c.settle.ensures ∙ ap (λ (d : ℕ). sizes_fault d a.floor-entries a.floor-text 0 (room_of_state a.bytes a.numbers a.texts 0)) c.floor_len-d.ensures
 
 pub settle_floor_spec : {M : Type 1} → statement M
 settle_floor_spec =

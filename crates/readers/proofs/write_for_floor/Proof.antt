@@ -27,22 +27,18 @@ enum-known-admitted c = search rules
 
 returns : tie.Need-returns-in-Refused
 returns c =
-    let s = c.before.before.before in
-    let a = (start s).args in
-    let g = c.before.admitted-1.given in
-    refused_floor a.label.now (content s) s.admit-admitted.result s.admit-admitted.ensures.0 g.0.0 g.1 (lent_of a.bytes-1.now a.numbers-1.now a.texts-1.now)
+    let a = (start c.before).args in
+    refused_floor a.label.now (content c.before) c.admit-admitted.result c.admit-admitted.ensures.0 c.in-Refused.f c.in-Refused.is (lent_of a.bytes.now a.numbers.now a.texts.now)
 
 enum-known-admitted-2 : tie.Need-enum_known-admitted-in-Fine-1
 enum-known-admitted-2 c = search rules
 
 put-whole-requires : tie.Need-put_whole-requires
 put-whole-requires c κs =
-    let s = c.before.before.before.before.before.before.before.before.before in
-    let l = (start s).args.label.now in
-    let g = c.before.before.before.before.before.before.before.admitted-in-Fine-1.given in
-    let r = s.admit-admitted in (
-      passed l (content s) r.result r.ensures.0 g.0.0 g.1,
-      office_size l (content s) r.result r.ensures.0 g.0.0 g.1 r.ensures.1,
+    let l = (start c.before.before.before.before.before.before.before).args.label.now in
+    let r = c.admit-admitted in (
+      passed l (content c.before.before.before.before.before.before.before) r.result r.ensures.0 c.in-Fine.z c.in-Fine.is,
+      office_size l (content c.before.before.before.before.before.before.before) r.result r.ensures.0 c.in-Fine.z c.in-Fine.is r.ensures.1,
     )
 
 same_length : tie.Need-shape_of-bytes-then-not-floor
@@ -56,22 +52,17 @@ same-length-3 c = search rules
 
 returns-2 : tie.Need-returns-then-not-floor
 returns-2 c =
-    let p = c.before.before.before.before.before.before in
-    let s = p.before.before.before.before.before.before.before.before.before.before in
-    let a = (start s).args in
-    let g = p.before.before.before.before.before.before.before.before.admitted-in-Fine-1.given in
-    let r = s.admit-admitted in
-    absent_kept a.label.now (content s) r.result r.ensures.0 g.0.0 g.1 r.ensures.1 p.before.before.before.before.if-not-floor.true
-    (lent_of a.bytes-1.now a.numbers-1.now a.texts-1.now) (lent_of _ _ _) p.put_whole.result p.put_whole.ensures
+    let a = (start c.before.before.before.before.before.before.before.before.before.before.before.before.before.before).args in
+    let r = c.admit-admitted in
+    absent_kept a.label.now (content c.before.before.before.before.before.before.before.before.before.before.before.before.before.before) r.result r.ensures.0 c.in-Fine.z c.in-Fine.is r.ensures.1 c.if-not-floor.true
+    (lent_of a.bytes.now a.numbers.now a.texts.now) (lent_of _ _ _) c.put_whole.result c.put_whole.ensures
 
 put-starred-requires : tie.Need-put_starred-requires
 put-starred-requires c κs =
-    let s = c.before.before.before.before.before.before.before.before.before in
-    let l = (start s).args.label.now in
-    let g = c.before.before.before.before.before.before.before.admitted-in-Fine-1.given in
-    let r = s.admit-admitted in (
-      (passed l (content s) r.result r.ensures.0 g.0.0 g.1, office_size l (content s) r.result r.ensures.0 g.0.0 g.1 r.ensures.1),
-      scan_told l (content s) r.result r.ensures.0 g.0.0 g.1 r.ensures.1,
+    let l = (start c.before.before.before.before.before.before.before).args.label.now in
+    let r = c.admit-admitted in (
+      (passed l (content c.before.before.before.before.before.before.before) r.result r.ensures.0 c.in-Fine.z c.in-Fine.is, office_size l (content c.before.before.before.before.before.before.before) r.result r.ensures.0 c.in-Fine.z c.in-Fine.is r.ensures.1),
+      scan_told l (content c.before.before.before.before.before.before.before) r.result r.ensures.0 c.in-Fine.z c.in-Fine.is r.ensures.1,
     )
 
 same-length-4 : tie.Need-shape_of-bytes
@@ -85,13 +76,10 @@ same-length-6 c = search rules
 
 returns-3 : tie.Need-returns
 returns-3 c =
-    let p = c.before.before.before.before.before.before in
-    let s = p.before.before.before.before.before.before.before.before.before.before in
-    let a = (start s).args in
-    let g = p.before.before.before.before.before.before.before.before.admitted-in-Fine-1.given in
-    let r = s.admit-admitted in
-    floor_kept a.label.now (content s) r.result r.ensures.0 g.0.0 g.1
-    (lent_of a.bytes-1.now a.numbers-1.now a.texts-1.now) (lent_of _ _ _) p.put_starred.result p.put_starred.ensures
+    let a = (start c.before.before.before.before.before.before.before.before.before.before.before.before.before.before).args in
+    let r = c.admit-admitted in
+    floor_kept a.label.now (content c.before.before.before.before.before.before.before.before.before.before.before.before.before.before) r.result r.ensures.0 c.in-Fine.z c.in-Fine.is
+    (lent_of a.bytes.now a.numbers.now a.texts.now) (lent_of _ _ _) c.put_starred.result c.put_starred.ensures
 
 pub write_for_floor_spec : {M : Type 1} → statement M
 write_for_floor_spec =

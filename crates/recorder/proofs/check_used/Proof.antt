@@ -17,49 +17,49 @@ use Rattle.recording_check.proofs.check.Reads as check-reads
 returns : tie.Need-returns-then-content-d
 unfolding fault_of number_of_refusal
 returns c =
-    let a = c.before.before.before.before.args in
+    let a = c.args in
     let b = lent_of a.content.now a.entries.now a.text.now in
     sym (at_once b a.d a.e a.n (long_data _ _ _ _ c.if-content-d.true))
 
 returns-2 : tie.Need-returns-then-entries-e
 unfolding fault_of number_of_refusal
 returns-2 c =
-    let a = c.before.before.before.before.before.args in
+    let a = c.args in
     let b = lent_of a.content.now a.entries.now a.text.now in
-    sym (at_once b a.d a.e a.n (long_entries _ _ _ _ c.before.if-content-d.false c.if-entries-e.true))
+    sym (at_once b a.d a.e a.n (long_entries _ _ _ _ c.if-content-d.false c.if-entries-e.true))
 
 returns-3 : tie.Need-returns-then-text-n
 unfolding fault_of number_of_refusal
 returns-3 c =
-    let a = c.before.before.before.before.before.before.args in
+    let a = c.args in
     let b = lent_of a.content.now a.entries.now a.text.now in
-    sym (at_once b a.d a.e a.n (long_text _ _ _ _ c.before.before.if-content-d.false c.before.if-entries-e.false c.if-text-n.true))
+    sym (at_once b a.d a.e a.n (long_text _ _ _ _ c.if-content-d.false c.if-entries-e.false c.if-text-n.true))
 
 slice-aggregate-check : tie.Need-slice_bounds-check-end
 slice-aggregate-check c =
-    let a = c.before.before.before.before.before.before.before.args in
-    sym (length-take-le a.d a.content.now c.before.before.before.if-content-d.false)
+    let a = c.args in
+    sym (length-take-le a.d a.content.now c.if1.false)
 
 slice-aggregate-check-2 : tie.Need-slice_bounds-check-end-2
 slice-aggregate-check-2 c =
-    let a = c.before.before.before.before.before.before.before.before.args in
-    sym (length-take-le a.e a.entries.now c.before.before.before.if-entries-e.false)
+    let a = c.args in
+    sym (length-take-le a.e a.entries.now c.if2.false)
 
 slice-aggregate-check-3 : tie.Need-slice_bounds-check-end-3
 slice-aggregate-check-3 c =
-    let a = c.before.before.before.before.before.before.before.before.before.args in
-    sym (length-take-le a.n a.text.now c.before.before.before.if-text-n.false)
+    let a = c.args in
+    sym (length-take-le a.n a.text.now c.if3.false)
 
 check-requires : tie.Need-check-requires
 check-requires c κs = search rules
 
 returns-4 : tie.Need-returns
 returns-4 c =
-    let a = c.before.before.before.before.before.before.before.before.before.before.args in
+    let a = c.args in
     let b = lent_of a.content.now a.entries.now a.text.now in
     let k = c.check in
-    let z = no_long b a.d a.e a.n c.before.before.before.before.before.before.if-content-d.false c.before.before.before.before.before.if-entries-e.false
-    c.before.before.before.before.if-text-n.false in
+    let z = no_long b a.d a.e a.n c.if1.false c.if2.false
+    c.if3.false in
     let r = recording_fault (used_of b a.d a.e a.n) in
     k.ensures.0 ∙ sym (first_on (lengths_fault b a.d a.e a.n) (r ∷ []) z ∙ first_one r)
 

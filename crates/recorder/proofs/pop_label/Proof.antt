@@ -28,25 +28,23 @@ same_length c = search rules
 returns : tie.Need-returns-in-Refused
 unfolding popped with_pop
 returns c =
-    let a = c.before.before.before.before.before.before.before.before.args in
-    let b = lent_of a.content.now a.entries-1.now a.text.now in
+    let a = c.args in
+    let b = lent_of a.content.now a.entries.now a.text.now in
     let u = used_of b a.content-len a.entries-len a.text-len in
     let q = with_entry 1 0 0 [] u in
-    let k = c.before.before.before.check_used-checked in
-    let g = c.before.checked-1.given in
-    add-refused (add_faults 0 b a.content-len a.entries-len a.text-len) b q g.0.0
-    (check_refused b a.content-len a.entries-len a.text-len k.result k.ensures 0 (room_in b) (leaves q) g.0.0 g.1)
+    let k = c.check_used-checked in
+    add-refused (add_faults 0 b a.content-len a.entries-len a.text-len) b q c.in-Refused.f
+    (check_refused b a.content-len a.entries-len a.text-len k.result k.ensures 0 (room_in b) (leaves q) c.in-Refused.f c.in-Refused.is)
 
 enum_told : tie.Need-enum_told-1
 enum_told c = search rules
 
 add-settle : tie.Need-overflow_add-entries_len
 add-settle c =
-    let a = c.before.before.before.before.before.before.before.args in
-    let b = lent_of a.content.now a.entries-1.now a.text.now in
-    let k = c.before.before.check_used-checked in
-    let g = c.enum_told-1.given in
-    omega (arith, limits b a.content-len a.entries-len a.text-len k.result k.ensures g.0.0 g.1, c.before.before.before.before.before.before.before.well_formed)
+    let a = c.args in
+    let b = lent_of a.content.now a.entries.now a.text.now in
+    let k = c.check_used-checked in
+    omega (arith, limits b a.content-len a.entries-len a.text-len k.result k.ensures c.in-Fine.field-0 c.in-Fine.is, c.well_formed)
 
 settle-requires : tie.Need-settle-verdict-requires
 settle-requires c κs = search rules
@@ -60,65 +58,56 @@ same-length-2 c = search rules
 returns-2 : tie.Need-returns-in-Refused-verdict
 unfolding popped with_pop
 returns-2 c =
-    let a = c.before.before.before.before.before.before.before.before.before.before.before.args in
-    let b = lent_of a.content.now a.entries-1.now a.text.now in
+    let a = c.args in
+    let b = lent_of a.content.now a.entries.now a.text.now in
     let u = used_of b a.content-len a.entries-len a.text-len in
     let q = with_entry 1 0 0 [] u in
-    let k = c.before.before.before.before.before.before.check_used-checked in
-    let v = c.before.before.before.settle-verdict in
-    let g = c.before.before.before.before.enum_told-1.given in
-    let h = c.before.verdict-1.given in
-    let i = is_inside b a.content-len a.entries-len a.text-len k.result k.ensures g.0.0 g.1 in
+    let k = c.check_used-checked in
+    let v = c.settle-verdict in
+    let i = is_inside b a.content-len a.entries-len a.text-len k.result k.ensures c.in-Fine.field-0 c.in-Fine.is in
     let s = entry_sizes b a.content-len a.entries-len a.text-len [] i 1 0 0 in
-    add-refused (add_faults 0 b a.content-len a.entries-len a.text-len) b q h.0.0
-    (too_large b a.content-len a.entries-len a.text-len k.result k.ensures g.0.0 g.1 0 refl (room_in b) (leaves q) v.result a.content-len (a.entries-len + 4)
-    a.text-len v.ensures s.0 s.1 (omega (arith, s.2)) refl h.0.0 h.1)
+    add-refused (add_faults 0 b a.content-len a.entries-len a.text-len) b q c.in-Refused-verdict.f
+    (too_large b a.content-len a.entries-len a.text-len k.result k.ensures c.in-Fine.field-0 c.in-Fine.is 0 refl (room_in b) (leaves q) v.result a.content-len (a.entries-len + 4)
+    a.text-len v.ensures s.0 s.1 (omega (arith, s.2)) refl c.in-Refused-verdict.f c.in-Refused-verdict.is)
 
 enum-told-2 : tie.Need-enum_told-in-Room
 enum-told-2 c = search rules
 
 cast-t18 : tie.Need-overflow_cast-e
 cast-t18 c =
-    let a = c.before.before.before.before.before.before.before.before.before.before.args in
-    let b = lent_of a.content.now a.entries-1.now a.text.now in
-    let k = c.before.before.before.before.before.check_used-checked in
-    let g = c.before.before.before.enum_told-1.given in
+    let a = c.args in
+    let b = lent_of a.content.now a.entries.now a.text.now in
+    let k = c.check_used-checked in
     omega (
       arith,
-      limits b a.content-len a.entries-len a.text-len k.result k.ensures g.0.0 g.1,
-      c.before.before.before.before.before.before.before.before.before.before.well_formed,
+      limits b a.content-len a.entries-len a.text-len k.result k.ensures c.in-Fine.field-0 c.in-Fine.is,
+      c.well_formed,
     )
 
 set-entry-requires : tie.Need-set_entry-requires
 set-entry-requires c κs =
-    let a = c.before.before.before.before.before.before.before.before.before.before.before.args in
-    let b = lent_of a.content.now a.entries-1.now a.text.now in
+    let a = c.args in
+    let b = lent_of a.content.now a.entries.now a.text.now in
     let u = used_of b a.content-len a.entries-len a.text-len in
     let q = with_entry 1 0 0 [] u in
-    let k = c.before.before.before.before.before.before.check_used-checked in
-    let v = c.before.before.before.settle-verdict in
-    let g = c.before.before.before.before.enum_told-1.given in
-    let g₂ = c.before.enum_told-in-Room-1.given in
-    let i = is_inside b a.content-len a.entries-len a.text-len k.result k.ensures g.0.0 g.1 in
+    let k = c.check_used-checked in
+    let v = c.settle-verdict in
+    let i = is_inside b a.content-len a.entries-len a.text-len k.result k.ensures c.in-Fine.field-0 c.in-Fine.is in
     let s = entry_sizes b a.content-len a.entries-len a.text-len [] i 1 0 0 in
-    let f = fits b a.content-len a.entries-len a.text-len k.result k.ensures g.0.0 g.1 0 refl (room_in b) (leaves q) v.result a.content-len (a.entries-len + 4)
-    a.text-len v.ensures s.0 s.1 (omega (arith, s.2)) refl g₂.1 in
-    let m = limits b a.content-len a.entries-len a.text-len k.result k.ensures g.0.0 g.1 in
+    let f = fits b a.content-len a.entries-len a.text-len k.result k.ensures c.in-Fine.field-0 c.in-Fine.is 0 refl (room_in b) (leaves q) v.result a.content-len (a.entries-len + 4)
+    a.text-len v.ensures s.0 s.1 (omega (arith, s.2)) refl c.in-Room.is in
+    let m = limits b a.content-len a.entries-len a.text-len k.result k.ensures c.in-Fine.field-0 c.in-Fine.is in
     omega (arith, f.entry_room, s.1)
 
 add-t14 : tie.Need-overflow_add-result
 add-t14 c =
-    let at-enum-told = c.before.before.before.before.before.before.before in
-    let at-check-used = at-enum-told.before.before in
-    let start = at-check-used.before.before.before.before.before in
-    let a = start.args in
-    let b = lent_of a.content.now a.entries-1.now a.text.now in
-    let k = at-check-used.check_used-checked in
-    let g = at-enum-told.enum_told-1.given in
+    let a = c.args in
+    let b = lent_of a.content.now a.entries.now a.text.now in
+    let k = c.check_used-checked in
     omega (
       arith,
-      limits b a.content-len a.entries-len a.text-len k.result k.ensures g.0.0 g.1,
-      start.well_formed,
+      limits b a.content-len a.entries-len a.text-len k.result k.ensures c.in-Fine.field-0 c.in-Fine.is,
+      c.well_formed,
     )
 
 same-length-3 : tie.Need-shape_of-entries
@@ -127,24 +116,17 @@ same-length-3 c = search rules
 returns-3 : tie.Need-returns
 unfolding popped with_pop
 returns-3 c =
-    let at-enum-told2 = c.before.before.before.before in
-    let at-settle = at-enum-told2.before.before in
-    let at-enum-told = at-settle.before in
-    let at-check-used = at-enum-told.before.before in
-    let start = at-check-used.before.before.before.before.before in
-    let a = start.args in
-    let b = lent_of a.content.now a.entries-1.now a.text.now in
+    let a = c.args in
+    let b = lent_of a.content.now a.entries.now a.text.now in
     let u = used_of b a.content-len a.entries-len a.text-len in
     let q = with_entry 1 0 0 [] u in
-    let k = at-check-used.check_used-checked in
-    let v = at-settle.settle-verdict in
-    let p = c.before.before.set_entry in
-    let g = at-enum-told.enum_told-1.given in
-    let g₂ = at-enum-told2.enum_told-in-Room-1.given in
-    let i = is_inside b a.content-len a.entries-len a.text-len k.result k.ensures g.0.0 g.1 in
+    let k = c.check_used-checked in
+    let v = c.settle-verdict in
+    let p = c.set_entry in
+    let i = is_inside b a.content-len a.entries-len a.text-len k.result k.ensures c.in-Fine.field-0 c.in-Fine.is in
     let s = entry_sizes b a.content-len a.entries-len a.text-len [] i 1 0 0 in
-    let z = accepted b a.content-len a.entries-len a.text-len k.result k.ensures g.0.0 g.1 0 refl (room_in b) (leaves q) v.result a.content-len
-    (a.entries-len + 4) a.text-len v.ensures s.0 s.1 (omega (arith, s.2)) refl g₂.1 in
+    let z = accepted b a.content-len a.entries-len a.text-len k.result k.ensures c.in-Fine.field-0 c.in-Fine.is 0 refl (room_in b) (leaves q) v.result a.content-len
+    (a.entries-len + 4) a.text-len v.ensures s.0 s.1 (omega (arith, s.2)) refl c.in-Room.is in
     let w = entry_left b a.content-len a.entries-len a.text-len [] i 1 0 0 0 _ _ refl p.ensures (sym (over_none _ _)) in
     add_done (add_faults 0 b a.content-len a.entries-len a.text-len) b q a.content-len (a.entries-len + 4) a.text-len _ _ _ z s.0 s.1 (omega (arith, s.2)) w.0
     w.1 w.2 refl

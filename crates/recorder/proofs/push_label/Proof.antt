@@ -31,7 +31,7 @@ use Rattle.writer.proofs.settle.Reads as settle-reads
 -- ── the places on the way, and what is known there
 -- what the call was given: its buffers, the recording in them, and the label
 abbrev lent : tie.Start → Lent
-lent s = let a = s.args in lent_of a.content.now a.entries-1.now a.text-1.now
+lent s = let a = s.args in lent_of a.content.now a.entries.now a.text.now
 
 abbrev used : tie.Start → Recording
 used s = let a = s.args in used_of (lent s) a.content-len a.entries-len a.text-len
@@ -41,10 +41,10 @@ label s = s.args.label.now
 
 -- where the label has its part, and what comes to the text
 abbrev from : tie.Start → ℕ
-from s = start_in (label s) (used s).text-1 (length (used s).text-1) (entries_of (used s).entry_numbers)
+from s = start_in (label s) (used s).text (length (used s).text) (entries_of (used s).entry_numbers)
 
 abbrev new : tie.Start → Bytes
-new s = new_text (label s) (used s).text-1 (entries_of (used s).entry_numbers)
+new s = new_text (label s) (used s).text (entries_of (used s).entry_numbers)
 
 abbrev result : tie.Start → Recording
 result s = with_entry 0 (from s) (length (label s)) (new s) (used s)
@@ -54,10 +54,10 @@ fault s = refuse_if (not (well_formed_of (label s))) 6
 
 -- once the content is checked
 abbrev start : tie.After-check_used-checked → tie.Start
-start c = c.before.before.before.before.before.before.before
+start c = c.before.before.before.before.before
 
 abbrev checked : tie.In-Fine → tie.After-check_used-checked
-checked c = c.before.before
+checked c = c.before
 
 abbrev call : tie.In-Fine → tie.Start
 call c = start (checked c)
@@ -66,36 +66,32 @@ inside : (c : tie.In-Fine) → let a = (call c).args in Inside (lent (call c)) a
 inside c =
     let a = (call c).args in
     let k = (checked c).check_used-checked in
-    let g = c.enum_told-1.given in
-    is_inside (lent (call c)) a.content-len a.entries-len a.text-len k.result k.ensures g.0.0 g.1
+    is_inside (lent (call c)) a.content-len a.entries-len a.text-len k.result k.ensures c.in-Fine.field-0 c.in-Fine.is
 
 within : (c : tie.In-Fine) → let a = (call c).args in (a.content-len ≤ 1048576) × (a.entries-len ≤ 16384) × (a.text-len ≤ 65536)
 within c =
     let a = (call c).args in
     let k = (checked c).check_used-checked in
-    let g = c.enum_told-1.given in
-    limits (lent (call c)) a.content-len a.entries-len a.text-len k.result k.ensures g.0.0 g.1
+    limits (lent (call c)) a.content-len a.entries-len a.text-len k.result k.ensures c.in-Fine.field-0 c.in-Fine.is
 
-text-used : (c : tie.In-Fine) → length (used (call c)).text-1 ≡ (call c).args.text-len
+text-used : (c : tie.In-Fine) → length (used (call c)).text ≡ (call c).args.text-len
 text-used c =
     let a = (call c).args in
     let k = (checked c).check_used-checked in
-    let g = c.enum_told-1.given in
-    used_t (lent (call c)) a.content-len a.entries-len a.text-len k.result k.ensures g.0.0 g.1
+    used_t (lent (call c)) a.content-len a.entries-len a.text-len k.result k.ensures c.in-Fine.field-0 c.in-Fine.is
 
 -- the label's part lies in the text
-part_in : (c : tie.In-Fine) → from (call c) + length (label (call c)) ≤ length (used (call c)).text-1 + length (new (call c))
+part_in : (c : tie.In-Fine) → from (call c) + length (label (call c)) ≤ length (used (call c)).text + length (new (call c))
 part_in c =
     let s = call c in
     let a = s.args in
     let k = (checked c).check_used-checked in
-    let g = c.enum_told-1.given in
-    let f = is_fine (lent s) a.content-len a.entries-len a.text-len k.result k.ensures g.0.0 g.1 in
+    let f = is_fine (lent s) a.content-len a.entries-len a.text-len k.result k.ensures c.in-Fine.field-0 c.in-Fine.is in
     let es = entries_of (used s).entry_numbers in
     omega (
       arith,
-      start_inside (label s) (used s).text-1 es (inside_of es 0 (used s).data_bytes (used s).text-1 (no_fault (used s) f).entries-1),
-      length-append (used s).text-1 (new s),
+      start_inside (label s) (used s).text es (inside_of es 0 (used s).data_bytes (used s).text (no_fault (used s) f).entries),
+      length-append (used s).text (new s),
     )
 
 -- once the label is searched
@@ -103,7 +99,7 @@ abbrev well : tie.Else-not-is_well_formed → tie.In-Fine
 well c = c.before.before
 
 good : (c : tie.Else-not-is_well_formed) → fault (call (well c)) ≡ 0
-good c = let w = c.before.is_well_formed in good_label w.result (label (call (well c))) w.ensures c.if-not-is_well_formed.false
+good c = let w = c.is_well_formed in good_label w.result (label (call (well c))) w.ensures (not_false w.result c.if-not-is_well_formed.false)
 
 abbrev fine : tie.After-place_label-place → tie.Else-not-is_well_formed
 fine c = c.before.before.before.before.before
@@ -114,8 +110,8 @@ searched c = call (well (fine c))
 found : (c : tie.After-place_label-place) → (c.place_label-place.result.start ≡ from (searched c)) × (c.place_label-place.result.add ≡ length (new (searched c)))
 found c =
     let a = (searched c).args in
-    let n = lent_front a.entries-len a.entries-1.now in
-    let t = lent_front a.text-len a.text-1.now in
+    let n = lent_front a.entries-len a.entries.now in
+    let t = lent_front a.text-len a.text.now in
     let e = c.place_label-place.ensures in (
       e.0 ∙ (λ i. start_in a.label.now (t i) (length (t i)) (entries_of (n i))),
       e.1 ∙ (λ i. length (new_text a.label.now (t i) (entries_of (n i)))),
@@ -126,13 +122,13 @@ lent-new : (c : tie.After-place_label-place) → take (c.place_label-place.resul
 lent-new c =
     let s = searched c in
     lent_front c.place_label-place.result.add (label s) ∙ ap (λ (n : ℕ). take n (label s)) (found c).1
-    ∙ new_front (label s) (used s).text-1 (entries_of (used s).entry_numbers)
+    ∙ new_front (label s) (used s).text (entries_of (used s).entry_numbers)
 
 -- the sizes that are settled are the result's
 sizes : (c : tie.After-place_label-place)
     → let s = searched c in
     let a = s.args in
-    (a.content-len ≡ length (result s).data_bytes) × (a.entries-len + 4 ≡ length (result s).entry_numbers) × (a.text-len + c.place_label-place.result.add ≡ length (result s).text-1)
+    (a.content-len ≡ length (result s).data_bytes) × (a.entries-len + 4 ≡ length (result s).entry_numbers) × (a.text-len + c.place_label-place.result.add ≡ length (result s).text)
 sizes c =
     let s = searched c in
     let a = s.args in
@@ -143,18 +139,17 @@ sizes c =
 abbrev placed : tie.After-settle-verdict → tie.After-place_label-place
 placed c = c.before.before
 
-fitting : (c : tie.In-Room) → let s = searched (placed c.before.before) in Fitting (leaves (result s)) (room_in (lent s))
+fitting : (c : tie.In-Room) → let s = searched (placed c.before) in Fitting (leaves (result s)) (room_in (lent s))
 fitting c =
-    let p = placed c.before.before in
+    let p = placed c.before in
     let w = well (fine p) in
     let s = searched p in
     let a = s.args in
     let k = (checked w).check_used-checked in
-    let g = w.enum_told-1.given in
-    let v = c.before.before.settle-verdict in
+    let v = c.settle-verdict in
     let z = sizes p in
-    fits (lent s) a.content-len a.entries-len a.text-len k.result k.ensures g.0.0 g.1 (fault s) (good (fine p)) (room_in (lent s)) (leaves (result s))
-    v.result _ _ _ v.ensures z.0 z.1 z.2 refl c.enum_told-in-Room-1.given.1
+    fits (lent s) a.content-len a.entries-len a.text-len k.result k.ensures w.in-Fine.field-0 w.in-Fine.is (fault s) (good (fine p)) (room_in (lent s)) (leaves (result s))
+    v.result _ _ _ v.ensures z.0 z.1 z.2 refl c.in-Room.is
 
 -- ── what is asked on the way
 check-used-requires : tie.Need-check_used-checked-requires
@@ -172,12 +167,10 @@ same-length-2 c = search rules
 returns : tie.Need-returns-in-Refused
 unfolding pushed with_label
 returns c =
-    let k = c.before.before.before in
-    let s = start k in
+    let s = start c.before in
     let a = s.args in
-    let g = c.before.checked-1.given in
-    add-refused (add_faults (fault s) (lent s) a.content-len a.entries-len a.text-len) (lent s) (result s) g.0.0
-    (check_refused (lent s) a.content-len a.entries-len a.text-len k.check_used-checked.result k.check_used-checked.ensures (fault s) (room_in (lent s)) (leaves (result s)) g.0.0 g.1)
+    add-refused (add_faults (fault s) (lent s) a.content-len a.entries-len a.text-len) (lent s) (result s) c.in-Refused.f
+    (check_refused (lent s) a.content-len a.entries-len a.text-len c.check_used-checked.result c.check_used-checked.ensures (fault s) (room_in (lent s)) (leaves (result s)) c.in-Refused.f c.in-Refused.is)
 
 enum_told : tie.Need-enum_told-1
 enum_told c = search rules
@@ -194,14 +187,12 @@ same-length-4 c = search rules
 returns-2 : tie.Need-returns-then-not-is_well_formed
 unfolding pushed with_label number_of_refusal
 returns-2 c =
-    let t = c.before.before in
-    let s = call t in
+    let s = call c.before.before in
     let a = s.args in
-    let k = (checked t).check_used-checked in
-    let g = t.enum_told-1.given in
-    let w = c.before.is_well_formed in
+    let k = (checked c.before.before).check_used-checked in
+    let w = c.is_well_formed in
     add-refused (add_faults (fault s) (lent s) a.content-len a.entries-len a.text-len) (lent s) (result s) LabelIllFormed
-    (added_refused (lent s) a.content-len a.entries-len a.text-len k.result k.ensures g.0.0 g.1 (fault s) (room_in (lent s)) (leaves (result s)) LabelIllFormed
+    (added_refused (lent s) a.content-len a.entries-len a.text-len k.result k.ensures c.in-Fine.field-0 c.in-Fine.is (fault s) (room_in (lent s)) (leaves (result s)) LabelIllFormed
     (bad_label w.result (label s) w.ensures c.if-not-is_well_formed.true))
 
 sub-place-label : tie.Need-slice_bounds-place_label-count
@@ -220,22 +211,21 @@ part-place-label-start-2 : tie.Need-slice_bounds-place_label-start-2
 part-place-label-start-2 c = search rules
 
 part-place-label-end-2 : tie.Need-slice_bounds-place_label-end-2
-part-place-label-end-2 c = omega (arith, (inside (well c.before.before.before)).text-1)
+part-place-label-end-2 c = omega (arith, (inside (well c.before.before.before)).text)
 
 place-label-requires : tie.Need-place_label-place-requires
 place-label-requires c κs =
     let w = well c.before.before.before.before in
     let a = (call w).args in
-    omega (arith, text-used w, (within w).2, ap length (lent_front a.text-len a.text-1.now))
+    omega (arith, text-used w, (within w).2, ap length (lent_front a.text-len a.text.now))
 
 add-settle : tie.Need-overflow_add-entries_len
 add-settle c = omega (arith, (within (well (fine c))).1)
 
 add-settle-2 : tie.Need-overflow_add-text_len
 add-settle-2 c =
-    let p = c.before in
-    let s = searched p in
-    omega (arith, (within (well (fine p))).2, (found p).1, new_short (label s) (used s).text-1 (entries_of (used s).entry_numbers), s.good)
+    let s = searched c.before in
+    omega (arith, (within (well (fine c.before))).2, (found c.before).1, new_short (label s) (used s).text (entries_of (used s).entry_numbers), s.good)
 
 settle-requires : tie.Need-settle-verdict-requires
 settle-requires c κs = search rules
@@ -252,28 +242,25 @@ same-length-6 c = search rules
 returns-3 : tie.Need-returns-in-Refused-verdict
 unfolding pushed with_label
 returns-3 c =
-    let v = c.before.before.before in
-    let p = placed v in
+    let p = placed c.before in
     let w = well (fine p) in
     let s = searched p in
     let a = s.args in
     let k = (checked w).check_used-checked in
-    let g = w.enum_told-1.given in
-    let h = c.before.verdict-1.given in
     let z = sizes p in
-    add-refused (add_faults (fault s) (lent s) a.content-len a.entries-len a.text-len) (lent s) (result s) h.0.0
-    (too_large (lent s) a.content-len a.entries-len a.text-len k.result k.ensures g.0.0 g.1 (fault s) (good (fine p)) (room_in (lent s)) (leaves (result s))
-    v.settle-verdict.result _ _ _ v.settle-verdict.ensures z.0 z.1 z.2 refl h.0.0 h.1)
+    add-refused (add_faults (fault s) (lent s) a.content-len a.entries-len a.text-len) (lent s) (result s) c.in-Refused-verdict.f
+    (too_large (lent s) a.content-len a.entries-len a.text-len k.result k.ensures w.in-Fine.field-0 w.in-Fine.is (fault s) (good (fine p)) (room_in (lent s)) (leaves (result s))
+    c.settle-verdict.result _ _ _ c.settle-verdict.ensures z.0 z.1 z.2 refl c.in-Refused-verdict.f c.in-Refused-verdict.is)
 
 enum-told-2 : tie.Need-enum_told-in-Room
 enum-told-2 c = search rules
 
 cast-t33 : tie.Need-overflow_cast-e
-cast-t33 c = omega (arith, (within (well (fine (placed c.before.before)))).0)
+cast-t33 c = omega (arith, (within (well (fine (placed c.before)))).0)
 
 cast-t34 : tie.Need-overflow_cast-e-2
 cast-t34 c =
-    let p = placed c.before.before in
+    let p = placed c.before in
     omega (arith, part_in (well (fine p)), text-used (well (fine p)), (found p).1, (sizes p).2, (fitting c).text_limit_lem)
 
 sub-put-mark : tie.Need-slice_bounds-put_mark-count
@@ -284,15 +271,14 @@ part-put-mark-start c = search rules
 
 part-put-mark-end : tie.Need-slice_bounds-put_mark-end
 part-put-mark-end c =
-    let p = placed c.before.before.before.before in
+    let p = placed c.before.before.before in
     let s = searched p in
-    omega (arith, (found p).1, new_short (label s) (used s).text-1 (entries_of (used s).entry_numbers))
+    omega (arith, (found p).1, new_short (label s) (used s).text (entries_of (used s).entry_numbers))
 
 put-mark-requires : tie.Need-put_mark-requires
 put-mark-requires c κs =
-    let t = c.before.before.before in
-    let p = placed t.before.before in
-    let f = fitting t in
+    let p = placed c.before.before.before.before in
+    let f = fitting c.before.before.before in
     let z = sizes p in
     (omega (arith, f.entry_room, z.1), omega (arith, f.text_room, z.2, ap length (lent-new p)))
 
@@ -301,10 +287,10 @@ abbrev roomy : tie.After-slice_known-4-1 → tie.In-Room
 roomy c = c.before.before.before.before.before.before.before.before
 
 add-t27 : tie.Need-overflow_add-result
-add-t27 c = omega (arith, (within (well (fine (placed (roomy c).before.before)))).1)
+add-t27 c = omega (arith, (within (well (fine (placed (roomy c).before)))).1)
 
 add-t32 : tie.Need-overflow_add-result-2
-add-t32 c = omega (arith, (sizes (placed (roomy c).before.before)).2, (fitting (roomy c)).text_limit_lem)
+add-t32 c = omega (arith, (sizes (placed (roomy c).before)).2, (fitting (roomy c)).text_limit_lem)
 
 same-length-7 : tie.Need-shape_of-entries
 same-length-7 c = search rules
@@ -315,20 +301,17 @@ same-length-8 c = search rules
 returns-4 : tie.Need-returns
 unfolding pushed with_label
 returns-4 c =
-    let m = c.before.before.before.before in
     let t = roomy c in
-    let v = t.before.before in
-    let p = placed v in
+    let p = placed t.before in
     let w = well (fine p) in
     let s = searched p in
     let a = s.args in
     let k = (checked w).check_used-checked in
-    let g = w.enum_told-1.given in
     let z = sizes p in
-    let ok = accepted (lent s) a.content-len a.entries-len a.text-len k.result k.ensures g.0.0 g.1 (fault s) (good (fine p)) (room_in (lent s)) (leaves (result s))
-    v.settle-verdict.result _ _ _ v.settle-verdict.ensures z.0 z.1 z.2 refl t.enum_told-in-Room-1.given.1 in
-    let l = entry_left (lent s) a.content-len a.entries-len a.text-len (new s) (inside w) 0 (from s) (length (label s)) _ _ _ (found p).0 m.put_mark.ensures.0
-    (m.put_mark.ensures.1 ∙ ap (λ (x : Bytes). over_at a.text-len x a.text-1.now) (lent-new p)) in
+    let ok = accepted (lent s) a.content-len a.entries-len a.text-len k.result k.ensures w.in-Fine.field-0 w.in-Fine.is (fault s) (good (fine p)) (room_in (lent s)) (leaves (result s))
+    t.settle-verdict.result _ _ _ t.settle-verdict.ensures z.0 z.1 z.2 refl t.in-Room.is in
+    let l = entry_left (lent s) a.content-len a.entries-len a.text-len (new s) (inside w) 0 (from s) (length (label s)) _ _ _ (found p).0 c.put_mark.ensures.0
+    (c.put_mark.ensures.1 ∙ ap (λ (x : Bytes). over_at a.text-len x a.text.now) (lent-new p)) in
     add_done (add_faults (fault s) (lent s) a.content-len a.entries-len a.text-len) (lent s) (result s) _ _ _ _ _ _ ok z.0 z.1 z.2 l.0 l.1 l.2 refl
 
 pub push_label_spec : {M : Type 1} → statement M

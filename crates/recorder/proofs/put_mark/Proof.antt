@@ -23,7 +23,7 @@ same-length-2 c = search rules
 
 returns : tie.Need-returns
 returns c =
-    (c.before.before.before.before.before.before.set_entry.ensures, c.before.before.put.ensures.1 ∙ whole_part _ _ _)
+    (c.set_entry.ensures, c.put.ensures.1 ∙ whole_part _ _ _)
 
 pub put_mark_spec : {M : Type 1} → statement M
 put_mark_spec =

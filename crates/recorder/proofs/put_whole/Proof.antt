@@ -32,17 +32,16 @@ whole c = let a = (start c).args in items (recording a.content.now a.entries.now
 
 sized : (c : tie.After-settle-verdict)
     → let a = (start c).args in
-    Sized (length a.out_text-1.now) (whole c) (length a.content.now) (length a.entries.now) c.before.own_size-shared.result
+    Sized (length a.out-text.now) (whole c) (length a.content.now) (length a.entries.now) c.own_size-shared.result
 sized c =
     let a = (start c).args in
-    let o = c.before.own_size-shared in
-    whole_sized a.content.now a.entries.now a.text.now (length a.out_text-1.now) o.result (start c).requires.0 o.ensures
+    let o = c.own_size-shared in
+    whole_sized a.content.now a.entries.now a.text.now (length a.out-text.now) o.result (start c).requires.0 o.ensures
 
 own-size-requires : tie.Need-own_size-shared-requires
 own-size-requires c κs =
-    let s = c.before.before.before.before.before.before in
-    let a = s.args in
-    own_asked a.content.now a.entries.now a.text.now a.size s.requires.0 s.requires.1
+    let a = c.args in
+    own_asked a.content.now a.entries.now a.text.now a.size c.requires.0 c.requires.1
 
 settle-requires : tie.Need-settle-verdict-requires
 settle-requires c κs = search rules
@@ -52,10 +51,8 @@ enum-known-verdict c = search rules
 
 returns : tie.Need-returns-in-Refused
 returns c =
-    let s = c.before.before.before in
-    let a = (start s).args in
-    let g = c.before.verdict-1.given in
-    left_refused (whole s) a.out_data-1.now a.out_entries-1.now a.out_text-1.now _ _ _ (sized s) s.settle-verdict.result s.settle-verdict.ensures g.0.0 g.1
+    let a = (start c.before).args in
+    left_refused (whole c.before) a.out-data.now a.out-entries.now a.out-text.now _ _ _ (sized c.before) c.settle-verdict.result c.settle-verdict.ensures c.in-Refused.f c.in-Refused.is
 
 enum_told : tie.Need-enum_told-1
 enum_told c = search rules
@@ -67,13 +64,12 @@ all-items ds ns ts = front_start ds ns ts begin refl refl (length ds) ∙ keep_a
 keep-entries-requires : tie.Need-keep_entries-c-requires
 unfolding out
 keep-entries-requires c κs =
-    let s = c.before.before.before.before.before in
-    let a = (start s).args in (
-      ready_start a.content.now a.entries.now a.text.now begin refl refl (sound a.content.now a.entries.now a.text.now (start s).requires.0),
+    let a = (start c.before.before.before.before).args in (
+      ready_start a.content.now a.entries.now a.text.now begin refl refl (sound a.content.now a.entries.now a.text.now (start c.before.before.before.before).requires.0),
       (
         (omega arith, omega arith),
         rw (all-items a.content.now a.entries.now a.text.now)
-            (left_room (whole s) a.out_data-1.now a.out_entries-1.now a.out_text-1.now _ _ _ (sized s) s.settle-verdict.result s.settle-verdict.ensures c.before.before.before.enum_told-1.given.1),
+            (left_room (whole c.before.before.before.before) a.out-data.now a.out-entries.now a.out-text.now _ _ _ (sized c.before.before.before.before) c.settle-verdict.result c.settle-verdict.ensures c.in-Room.is),
       ),
     )
 
@@ -89,13 +85,11 @@ same-length-3 c = search rules
 returns-2 : tie.Need-returns
 unfolding out
 returns-2 c =
-    let p = c.before.before.before.before.before.before in
-    let s = p.before.before.before.before.before.before in
-    let a = (start s).args in
-    left_settled (whole s) a.out_data-1.now a.out_entries-1.now a.out_text-1.now _ _ _ (sized s) s.settle-verdict.result s.settle-verdict.ensures
-    p.before.before.before.before.enum_told-1.given.1 _ _ _
-    p.keep_entries-c.result
-    (p.keep_entries-c.ensures.0 ∙ ap (λ (is : List Item). add is (out a.out_data-1.now a.out_entries-1.now a.out_text-1.now begin)) (all-items a.content.now a.entries.now a.text.now))
+    let a = (start c.before.before.before.before.before.before.before.before.before.before.before).args in
+    left_settled (whole c.before.before.before.before.before.before.before.before.before.before.before) a.out-data.now a.out-entries.now a.out-text.now _ _ _ (sized c.before.before.before.before.before.before.before.before.before.before.before) c.settle-verdict.result c.settle-verdict.ensures
+    c.in-Room.is _ _ _
+    c.keep_entries-c.result
+    (c.keep_entries-c.ensures.0 ∙ ap (λ (is : List Item). add is (out a.out-data.now a.out-entries.now a.out-text.now begin)) (all-items a.content.now a.entries.now a.text.now))
 
 pub put_whole_spec : {M : Type 1} → statement M
 put_whole_spec =

@@ -33,15 +33,14 @@ same-length-2 c = search rules
 returns : tie.Need-returns-in-Refused
 unfolding raw_added with_raw
 returns c =
-    let a = c.before.before.before.before.before.before.before.before.before.before.args in
-    let b = lent_of a.content.now a.entries-1.now a.text-1.now in
+    let a = c.args in
+    let b = lent_of a.content.now a.entries.now a.text.now in
     let u = used_of b a.content-len a.entries-len a.text-len in
     let n = refuse_if (eqb (length a.sequence.now) 0) 3 in
-    let q = with_entry 2 (length (take a.text-len a.text-1.now)) (length a.sequence.now) a.sequence.now u in
-    let k = c.before.before.before.check_used-checked in
-    let g = c.before.checked-1.given in
-    add-refused (add_faults n b a.content-len a.entries-len a.text-len) b q g.0.0
-    (check_refused b a.content-len a.entries-len a.text-len k.result k.ensures n (room_in b) (leaves q) g.0.0 g.1)
+    let q = with_entry 2 (length (take a.text-len a.text.now)) (length a.sequence.now) a.sequence.now u in
+    let k = c.check_used-checked in
+    add-refused (add_faults n b a.content-len a.entries-len a.text-len) b q c.in-Refused.f
+    (check_refused b a.content-len a.entries-len a.text-len k.result k.ensures n (room_in b) (leaves q) c.in-Refused.f c.in-Refused.is)
 
 enum_told : tie.Need-enum_told-1
 enum_told c = search rules
@@ -55,38 +54,35 @@ same-length-4 c = search rules
 returns-2 : tie.Need-returns-then-sequence-eq0
 unfolding raw_added with_raw number_of_refusal
 returns-2 c =
-    let a = c.before.before.before.before.before.before.before.before.before.before.args in
-    let b = lent_of a.content.now a.entries-1.now a.text-1.now in
+    let a = c.args in
+    let b = lent_of a.content.now a.entries.now a.text.now in
     let u = used_of b a.content-len a.entries-len a.text-len in
     let n = refuse_if (eqb (length a.sequence.now) 0) 3 in
-    let q = with_entry 2 (length (take a.text-len a.text-1.now)) (length a.sequence.now) a.sequence.now u in
-    let k = c.before.before.before.check_used-checked in
-    let g = c.before.enum_told-1.given in
+    let q = with_entry 2 (length (take a.text-len a.text.now)) (length a.sequence.now) a.sequence.now u in
+    let k = c.check_used-checked in
     add-refused (add_faults n b a.content-len a.entries-len a.text-len) b q EntryShape
-    (added_refused b a.content-len a.entries-len a.text-len k.result k.ensures g.0.0 g.1 n (room_in b) (leaves q) EntryShape (empty_raw _ c.if-sequence-eq0.true))
+    (added_refused b a.content-len a.entries-len a.text-len k.result k.ensures c.in-Fine.field-0 c.in-Fine.is n (room_in b) (leaves q) EntryShape (empty_raw _ c.if-sequence-eq0.true))
 
 add-settle : tie.Need-overflow_add-entries_len
 add-settle c =
-    let a = c.before.before.before.before.before.before.before.before.before.before.args in
-    let b = lent_of a.content.now a.entries-1.now a.text-1.now in
-    let k = c.before.before.before.check_used-checked in
-    let g = c.before.enum_told-1.given in
+    let a = c.args in
+    let b = lent_of a.content.now a.entries.now a.text.now in
+    let k = c.check_used-checked in
     omega (
       arith,
-      limits b a.content-len a.entries-len a.text-len k.result k.ensures g.0.0 g.1,
-      c.before.before.before.before.before.before.before.before.before.before.well_formed,
+      limits b a.content-len a.entries-len a.text-len k.result k.ensures c.in-Fine.field-0 c.in-Fine.is,
+      c.well_formed,
     )
 
 add-settle-2 : tie.Need-overflow_add-text_len
 add-settle-2 c =
-    let a = c.before.before.before.before.before.before.before.before.before.before.args in
-    let b = lent_of a.content.now a.entries-1.now a.text-1.now in
-    let k = c.before.before.before.check_used-checked in
-    let g = c.before.enum_told-1.given in
+    let a = c.args in
+    let b = lent_of a.content.now a.entries.now a.text.now in
+    let k = c.check_used-checked in
     omega (
       arith,
-      limits b a.content-len a.entries-len a.text-len k.result k.ensures g.0.0 g.1,
-      c.before.before.before.before.before.before.before.before.before.before.well_formed,
+      limits b a.content-len a.entries-len a.text-len k.result k.ensures c.in-Fine.field-0 c.in-Fine.is,
+      c.well_formed,
     )
 
 settle-requires : tie.Need-settle-verdict-requires
@@ -104,52 +100,40 @@ same-length-6 c = search rules
 returns-3 : tie.Need-returns-in-Refused-verdict
 unfolding raw_added with_raw
 returns-3 c =
-    let at-if1 = c.before.before.before.before in
-    let at-enum-told = at-if1.before in
-    let at-check-used = at-enum-told.before.before in
-    let start = at-check-used.before.before.before.before.before.before.before in
-    let a = start.args in
-    let b = lent_of a.content.now a.entries-1.now a.text-1.now in
+    let a = c.args in
+    let b = lent_of a.content.now a.entries.now a.text.now in
     let u = used_of b a.content-len a.entries-len a.text-len in
     let n = refuse_if (eqb (length a.sequence.now) 0) 3 in
-    let q = with_entry 2 (length (take a.text-len a.text-1.now)) (length a.sequence.now) a.sequence.now u in
-    let k = at-check-used.check_used-checked in
-    let v = c.before.before.before.settle-verdict in
-    let g = at-enum-told.enum_told-1.given in
-    let h = c.before.verdict-1.given in
-    let i = is_inside b a.content-len a.entries-len a.text-len k.result k.ensures g.0.0 g.1 in
-    let s = entry_sizes b a.content-len a.entries-len a.text-len a.sequence.now i 2 (length (take a.text-len a.text-1.now)) (length a.sequence.now) in
-    add-refused (add_faults n b a.content-len a.entries-len a.text-len) b q h.0.0
-    (too_large b a.content-len a.entries-len a.text-len k.result k.ensures g.0.0 g.1 n (some_raw _ at-if1.if-sequence-eq0.false) (room_in b)
-    (leaves q) v.result a.content-len (a.entries-len + 4) (a.text-len + length a.sequence.now) v.ensures s.0 s.1 s.2 refl h.0.0 h.1)
+    let q = with_entry 2 (length (take a.text-len a.text.now)) (length a.sequence.now) a.sequence.now u in
+    let k = c.check_used-checked in
+    let v = c.settle-verdict in
+    let i = is_inside b a.content-len a.entries-len a.text-len k.result k.ensures c.in-Fine.field-0 c.in-Fine.is in
+    let s = entry_sizes b a.content-len a.entries-len a.text-len a.sequence.now i 2 (length (take a.text-len a.text.now)) (length a.sequence.now) in
+    add-refused (add_faults n b a.content-len a.entries-len a.text-len) b q c.in-Refused-verdict.f
+    (too_large b a.content-len a.entries-len a.text-len k.result k.ensures c.in-Fine.field-0 c.in-Fine.is n (some_raw _ c.if-sequence-eq0.false) (room_in b)
+    (leaves q) v.result a.content-len (a.entries-len + 4) (a.text-len + length a.sequence.now) v.ensures s.0 s.1 s.2 refl c.in-Refused-verdict.f c.in-Refused-verdict.is)
 
 enum-told-2 : tie.Need-enum_told-in-Room
 enum-told-2 c = search rules
 
 -- once there is room: the limits, and the room
 sizes : (c : tie.In-Room)
-    → let a = c.before.before.before.before.before.before.before.before.before.before.before.before.before.args in
+    → let a = c.args in
     (a.content-len ≤ 1048576) × (a.text-len + length a.sequence.now ≤ 65536)
-    × (a.entries-len + 4 ≤ length a.entries-1.now) × (a.text-len + length a.sequence.now ≤ length a.text-1.now)
+    × (a.entries-len + 4 ≤ length a.entries.now) × (a.text-len + length a.sequence.now ≤ length a.text.now)
 sizes c =
-    let at-settle = c.before.before in
-    let at-if1 = at-settle.before in
-    let at-enum-told = at-if1.before in
-    let at-check-used = at-enum-told.before.before in
-    let start = at-check-used.before.before.before.before.before.before.before in
-    let a = start.args in
-    let b = lent_of a.content.now a.entries-1.now a.text-1.now in
+    let a = c.args in
+    let b = lent_of a.content.now a.entries.now a.text.now in
     let u = used_of b a.content-len a.entries-len a.text-len in
     let n = refuse_if (eqb (length a.sequence.now) 0) 3 in
-    let q = with_entry 2 (length (take a.text-len a.text-1.now)) (length a.sequence.now) a.sequence.now u in
-    let k = at-check-used.check_used-checked in
-    let v = at-settle.settle-verdict in
-    let g = at-enum-told.enum_told-1.given in
-    let i = is_inside b a.content-len a.entries-len a.text-len k.result k.ensures g.0.0 g.1 in
-    let s = entry_sizes b a.content-len a.entries-len a.text-len a.sequence.now i 2 (length (take a.text-len a.text-1.now)) (length a.sequence.now) in
-    let f = fits b a.content-len a.entries-len a.text-len k.result k.ensures g.0.0 g.1 n (some_raw _ at-if1.if-sequence-eq0.false) (room_in b)
-    (leaves q) v.result a.content-len (a.entries-len + 4) (a.text-len + length a.sequence.now) v.ensures s.0 s.1 s.2 refl c.enum_told-in-Room-1.given.1 in
-    let m = limits b a.content-len a.entries-len a.text-len k.result k.ensures g.0.0 g.1 in
+    let q = with_entry 2 (length (take a.text-len a.text.now)) (length a.sequence.now) a.sequence.now u in
+    let k = c.check_used-checked in
+    let v = c.settle-verdict in
+    let i = is_inside b a.content-len a.entries-len a.text-len k.result k.ensures c.in-Fine.field-0 c.in-Fine.is in
+    let s = entry_sizes b a.content-len a.entries-len a.text-len a.sequence.now i 2 (length (take a.text-len a.text.now)) (length a.sequence.now) in
+    let f = fits b a.content-len a.entries-len a.text-len k.result k.ensures c.in-Fine.field-0 c.in-Fine.is n (some_raw _ c.if-sequence-eq0.false) (room_in b)
+    (leaves q) v.result a.content-len (a.entries-len + 4) (a.text-len + length a.sequence.now) v.ensures s.0 s.1 s.2 refl c.in-Room.is in
+    let m = limits b a.content-len a.entries-len a.text-len k.result k.ensures c.in-Fine.field-0 c.in-Fine.is in
     (m.0, omega (arith, f.text_limit_lem, s.2), omega (arith, f.entry_room, s.1), omega (arith, f.text_room, s.2))
 
 cast-t25 : tie.Need-overflow_cast-e
@@ -166,32 +150,24 @@ put-mark-requires c κs = let z = sizes c.before.before in (z.2, z.3)
 
 add-t24 : tie.Need-overflow_add-result
 add-t24 c =
-    let at-enum-told = c.before.before.before.before.before.before.before.before.before.before.before in
-    let at-check-used = at-enum-told.before.before in
-    let start = at-check-used.before.before.before.before.before.before.before in
-    let a = start.args in
-    let b = lent_of a.content.now a.entries-1.now a.text-1.now in
-    let k = at-check-used.check_used-checked in
-    let g = at-enum-told.enum_told-1.given in
+    let a = c.args in
+    let b = lent_of a.content.now a.entries.now a.text.now in
+    let k = c.check_used-checked in
     omega (
       arith,
-      limits b a.content-len a.entries-len a.text-len k.result k.ensures g.0.0 g.1,
-      start.well_formed,
+      limits b a.content-len a.entries-len a.text-len k.result k.ensures c.in-Fine.field-0 c.in-Fine.is,
+      c.well_formed,
     )
 
 add-t21 : tie.Need-overflow_add-result-2
 add-t21 c =
-    let at-enum-told = c.before.before.before.before.before.before.before.before.before.before.before in
-    let at-check-used = at-enum-told.before.before in
-    let start = at-check-used.before.before.before.before.before.before.before in
-    let a = start.args in
-    let b = lent_of a.content.now a.entries-1.now a.text-1.now in
-    let k = at-check-used.check_used-checked in
-    let g = at-enum-told.enum_told-1.given in
+    let a = c.args in
+    let b = lent_of a.content.now a.entries.now a.text.now in
+    let k = c.check_used-checked in
     omega (
       arith,
-      limits b a.content-len a.entries-len a.text-len k.result k.ensures g.0.0 g.1,
-      start.well_formed,
+      limits b a.content-len a.entries-len a.text-len k.result k.ensures c.in-Fine.field-0 c.in-Fine.is,
+      c.well_formed,
     )
 
 same-length-7 : tie.Need-shape_of-entries
@@ -203,30 +179,21 @@ same-length-8 c = search rules
 returns-4 : tie.Need-returns
 unfolding raw_added with_raw
 returns-4 c =
-    let at-put-mark = c.before.before.before.before in
-    let at-enum-told2 = at-put-mark.before.before.before in
-    let at-settle = at-enum-told2.before.before in
-    let at-if1 = at-settle.before in
-    let at-enum-told = at-if1.before in
-    let at-check-used = at-enum-told.before.before in
-    let start = at-check-used.before.before.before.before.before.before.before in
-    let a = start.args in
-    let b = lent_of a.content.now a.entries-1.now a.text-1.now in
+    let a = c.args in
+    let b = lent_of a.content.now a.entries.now a.text.now in
     let u = used_of b a.content-len a.entries-len a.text-len in
     let n = refuse_if (eqb (length a.sequence.now) 0) 3 in
-    let q = with_entry 2 (length (take a.text-len a.text-1.now)) (length a.sequence.now) a.sequence.now u in
-    let k = at-check-used.check_used-checked in
-    let v = at-settle.settle-verdict in
-    let p = at-put-mark.put_mark in
-    let g = at-enum-told.enum_told-1.given in
-    let g₂ = at-enum-told2.enum_told-in-Room-1.given in
-    let i = is_inside b a.content-len a.entries-len a.text-len k.result k.ensures g.0.0 g.1 in
-    let s = entry_sizes b a.content-len a.entries-len a.text-len a.sequence.now i 2 (length (take a.text-len a.text-1.now)) (length a.sequence.now) in
-    let z = accepted b a.content-len a.entries-len a.text-len k.result k.ensures g.0.0 g.1 n
-    (some_raw _ at-if1.if-sequence-eq0.false) (room_in b) (leaves q) v.result a.content-len (a.entries-len + 4)
-    (a.text-len + length a.sequence.now) v.ensures s.0 s.1 s.2 refl g₂.1 in
+    let q = with_entry 2 (length (take a.text-len a.text.now)) (length a.sequence.now) a.sequence.now u in
+    let k = c.check_used-checked in
+    let v = c.settle-verdict in
+    let p = c.put_mark in
+    let i = is_inside b a.content-len a.entries-len a.text-len k.result k.ensures c.in-Fine.field-0 c.in-Fine.is in
+    let s = entry_sizes b a.content-len a.entries-len a.text-len a.sequence.now i 2 (length (take a.text-len a.text.now)) (length a.sequence.now) in
+    let z = accepted b a.content-len a.entries-len a.text-len k.result k.ensures c.in-Fine.field-0 c.in-Fine.is n
+    (some_raw _ c.if-sequence-eq0.false) (room_in b) (leaves q) v.result a.content-len (a.entries-len + 4)
+    (a.text-len + length a.sequence.now) v.ensures s.0 s.1 s.2 refl c.in-Room.is in
     let w = entry_left b a.content-len a.entries-len a.text-len a.sequence.now i 2 _ _ _ _ _
-    (sym (used_t b a.content-len a.entries-len a.text-len k.result k.ensures g.0.0 g.1)) p.ensures.0 p.ensures.1 in
+    (sym (used_t b a.content-len a.entries-len a.text-len k.result k.ensures c.in-Fine.field-0 c.in-Fine.is)) p.ensures.0 p.ensures.1 in
     add_done (add_faults n b a.content-len a.entries-len a.text-len) b q a.content-len (a.entries-len + 4) (a.text-len + length a.sequence.now) _ _ _ z s.0 s.1 s.2
     w.0 w.1 w.2 refl
 

@@ -27,22 +27,18 @@ enum-known-checked c = search rules
 
 returns : tie.Need-returns-in-Refused
 returns c =
-    let s = c.before.before.before in
-    let a = (start s).args in
-    let g = c.before.checked-1.given in
-    check_refused (content s) (lent_of a.out_data-1.now a.out_entries-1.now a.out_text-1.now) s.check-checked.result s.check-checked.ensures.0 g.0.0 g.1
+    let a = (start c.before).args in
+    check_refused (content c.before) (lent_of a.out-data.now a.out-entries.now a.out-text.now) c.check-checked.result c.check-checked.ensures.0 c.in-Refused.f c.in-Refused.is
 
 enum-known-checked-2 : tie.Need-enum_known-checked-in-Fine-1
 enum-known-checked-2 c = search rules
 
 put-whole-requires : tie.Need-put_whole-requires
 put-whole-requires c κs =
-    let s = c.before.before.before.before.before.before in
-    let a = (start s).args in
-    let g = c.before.before.before.before.checked-in-Fine-1.given in
-    let k = s.check-checked in (
-      passed (content s) (lent_of a.out_data-1.now a.out_entries-1.now a.out_text-1.now) k.result k.ensures.0 g.0.0 g.1,
-      fine_count k.result g.0.0 (length (text_of (items (content s)))) g.1 k.ensures.1.0,
+    let a = (start c.before.before.before.before).args in
+    let k = c.check-checked in (
+      passed (content c.before.before.before.before) (lent_of a.out-data.now a.out-entries.now a.out-text.now) k.result k.ensures.0 c.in-Fine.n c.in-Fine.is,
+      fine_count k.result c.in-Fine.n (length (text_of (items (content c.before.before.before.before)))) c.in-Fine.is k.ensures.1.0,
     )
 
 same_length : tie.Need-shape_of-out_data
@@ -56,13 +52,10 @@ same-length-3 c = search rules
 
 returns-2 : tie.Need-returns
 returns-2 c =
-    let p = c.before.before.before.before.before.before in
-    let s = p.before.before.before.before.before.before.before in
-    let a = (start s).args in
-    let g = p.before.before.before.before.before.checked-in-Fine-1.given in
-    let k = s.check-checked in
-    sizes_left (content s) (lent_of a.out_data-1.now a.out_entries-1.now a.out_text-1.now) k.result k.ensures.0 g.0.0 g.1 (lent_of _ _ _) p.put_whole.result
-    p.put_whole.ensures
+    let a = (start c.before.before.before.before.before.before.before.before.before.before.before).args in
+    let k = c.check-checked in
+    sizes_left (content c.before.before.before.before.before.before.before.before.before.before.before) (lent_of a.out-data.now a.out-entries.now a.out-text.now) k.result k.ensures.0 c.in-Fine.n c.in-Fine.is (lent_of _ _ _) c.put_whole.result
+    c.put_whole.ensures
 
 pub replay_spec : {M : Type 1} → statement M
 replay_spec =

@@ -94,7 +94,7 @@ returns-6 c =
           ∙ c.if-bad_shape.false)
           c.if-e-at.false
           c.if-content-e.false c.if-text-end.false c.if-e-ne0.false
-          c.is_well_formed.result c.is_well_formed.ensures (not-true c.is_well_formed.result c.if-not-is_well_formed.true)),
+          c.is_well_formed.result c.is_well_formed.ensures c.if-not-is_well_formed.true),
       tt,
     )
 

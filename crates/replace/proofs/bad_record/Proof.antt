@@ -11,19 +11,19 @@ returns c =
 
 returns-2 : tie.Need-returns-then-n-end
 returns-2 c =
-    rw (le-ltb _ _ c.before.if-end-start.false, lt-ltb _ _ c.if-n-end.true)
+    rw (le-ltb _ _ c.if-end-start.false, lt-ltb _ _ c.if-n-end.true)
 
 returns-3 : tie.Need-returns-then-start-at
 returns-3 c =
-    rw (le-ltb _ _ c.before.before.if-end-start.false, le-ltb _ _ c.before.if-n-end.false, lt-ltb _ _ c.if-start-at.true)
+    rw (le-ltb _ _ c.if-end-start.false, le-ltb _ _ c.if-n-end.false, lt-ltb _ _ c.if-start-at.true)
 
 returns-4 : tie.Need-returns-then-to-from
 returns-4 c =
-    rw (le-ltb _ _ c.before.before.before.if-end-start.false, le-ltb _ _ c.before.before.if-n-end.false, le-ltb _ _ c.before.if-start-at.false, lt-ltb _ _ c.if-to-from.true)
+    rw (le-ltb _ _ c.if-end-start.false, le-ltb _ _ c.if-n-end.false, le-ltb _ _ c.if-start-at.false, lt-ltb _ _ c.if-to-from.true)
 
 returns-5 : tie.Need-returns
 returns-5 c =
-    rw (le-ltb _ _ c.before.before.before.if-end-start.false, le-ltb _ _ c.before.before.if-n-end.false, le-ltb _ _ c.before.if-start-at.false, le-ltb _ _ c.if-to-from.false)
+    rw (le-ltb _ _ c.if-end-start.false, le-ltb _ _ c.if-n-end.false, le-ltb _ _ c.if-start-at.false, le-ltb _ _ c.if-to-from.false)
 
 pub bad_record_spec : {M : Type 1} → statement M
 bad_record_spec =

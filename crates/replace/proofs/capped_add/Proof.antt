@@ -14,14 +14,14 @@ returns c =
 
 returns-2 : tie.Need-returns-then-size-more
 returns-2 c =
-    sym (capped_over _ (omega (arith, c.before.if-size-gt1048576.false, c.if-size-more.true)))
+    sym (capped_over _ (omega (arith, c.if-size-gt1048576.false, c.if-size-more.true)))
 
 add-result : tie.Need-overflow_add-result
 add-result c = search rules
 
 returns-3 : tie.Need-returns
 returns-3 c =
-    sym (capped_in _ (omega (arith, c.before.if-size-gt1048576.false, c.if-size-more.false)))
+    sym (capped_in _ (omega (arith, c.if-size-gt1048576.false, c.if-size-more.false)))
 
 pub capped_add_spec : {M : Type 1} → statement M
 capped_add_spec = tie.close (tie.spec returns returns-2 add-result returns-3)

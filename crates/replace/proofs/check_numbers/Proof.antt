@@ -22,13 +22,13 @@ bad-record-requires c κs = search rules
 returns-2 : tie.Need-returns-then-bad_record
 unfolding check_step
 returns-2 c =
-    let e = sym c.before.bad_record.ensures ∙ c.if-bad_record.true in
-    rw (c.before.before.if-s.false, e)
+    let e = sym c.bad_record.ensures ∙ c.if-bad_record.true in
+    rw (c.if-s.false, e)
 
 sub-capped-add : tie.Need-overflow_sub-start
 sub-capped-add c =
-    let a = c.before.before.before.before.args in
-    let g = good a.s.at a.n a.t (replacement a.start a.end a.from a.to) (sym c.before.before.bad_record.ensures ∙ c.before.if-bad_record.false) in
+    let a = c.args in
+    let g = good a.s.at a.n a.t (replacement a.start a.end a.from a.to) (sym c.bad_record.ensures ∙ c.if-bad_record.false) in
     omega (arith, g.low)
 
 cast-capped-add : tie.Need-overflow_cast-start
@@ -39,8 +39,8 @@ capped-add-requires c κs = search rules
 
 sub-capped-add-2 : tie.Need-overflow_sub-to
 sub-capped-add-2 c =
-    let a = c.before.before.before.before.before.args in
-    let g = good a.s.at a.n a.t (replacement a.start a.end a.from a.to) (sym c.before.before.before.bad_record.ensures ∙ c.before.before.if-bad_record.false) in
+    let a = c.args in
+    let g = good a.s.at a.n a.t (replacement a.start a.end a.from a.to) (sym c.bad_record.ensures ∙ c.if-bad_record.false) in
     omega (arith, g.part)
 
 cast-capped-add-2 : tie.Need-overflow_cast-to
@@ -52,8 +52,8 @@ capped-add-requires-2 c κs = search rules
 returns-3 : tie.Need-returns
 unfolding check_step
 returns-3 c =
-    let e = sym c.before.before.before.before.bad_record.ensures ∙ c.before.before.before.if-bad_record.false in
-    rw (c.before.before.before.before.before.if-s.false, e, c.capped_add.ensures, c.before.capped_add-kept.ensures)
+    let e = sym c.bad_record.ensures ∙ c.if-bad_record.false in
+    rw (c.if-s.false, e, c.capped_add.ensures, c.capped_add-kept.ensures)
 
 pub check_numbers_spec : {M : Type 1} → statement M
 check_numbers_spec =

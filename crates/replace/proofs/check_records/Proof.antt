@@ -42,14 +42,14 @@ loop-less c = search rules
 
 loop-again : tie.Need-loop-i-preserved invariant-loop decreases-loop
 loop-again c =
-    let a = c.before.before.before.before.before.args in
-    let r = c.before.record_at-x in
-    (search rules, scan_next a.n a.t a.records.now c.before.before.before.loop-i.i r.result _ _ _ r.ensures c.check_numbers-s.ensures c.before.before.before.loop-i.invariant.1)
+    let a = c.args in
+    let r = c.record_at-x in
+    (search rules, scan_next a.n a.t a.records.now c.loop-i.i r.result _ _ _ r.ensures c.check_numbers-s.ensures c.loop-i.invariant.1)
 
 returns : tie.Need-returns invariant-loop decreases-loop
 returns c =
-    let a = c.before.before.before.args in
-    let l = c.before.loop-i in
+    let a = c.args in
+    let l = c.loop-i in
     scan_end a.n a.t a.records.now l.i _ _ (omega (arith, length-drop l.i a.records.now, c.loop-i-test.false)) l.invariant.1
 
 pub check_records_spec : {M : Type 1} → statement M

@@ -41,7 +41,7 @@ shared-slice-read-t17 c = search rules
 
 returns : tie.Need-returns
 returns c =
-    records_next _ _ c.before.before.before.before.requires
+    records_next _ _ c.requires
 
 pub record_at_spec : {M : Type 1} → statement M
 record_at_spec =

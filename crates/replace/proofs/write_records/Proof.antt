@@ -32,7 +32,7 @@ decreases-loop content entries text records new bytes₀ numbers₀ texts₀ c�
 loop-holds : tie.Need-loop-k-init invariant-loop decreases-loop
 unfolding out
 loop-holds c =
-    let p = c.before.before.before.before.before.before.before.before.requires in
+    let p = c.requires in
     (omega arith, state_first _ _ _ _ _ _ _ refl refl p.0 p.1.0)
 
 -- at the loop's head: where the function started
@@ -47,37 +47,33 @@ record-at-requires c κs = search rules
 
 write-step-requires : tie.Need-write_step-c-requires invariant-loop decreases-loop
 write-step-requires c κs =
-    let l = c.before.before.before.before.before in
-    let a = (start l).args in
-    let x = c.before.before.before.record_at in
-    may_turn a.content.now a.entries.now a.text.now a.new.now (records_of a.records.now) _ _ _ _ l.loop-k.invariant.1 (start l).requires.1.1 x.result _ x.ensures
+    let a = (start c.before.before.before.before.before).args in
+    let x = c.record_at in
+    may_turn a.content.now a.entries.now a.text.now a.new.now (records_of a.records.now) _ _ _ _ c.loop-k.invariant.1 (start c.before.before.before.before.before).requires.1.1 x.result _ x.ensures
 
 add-k : tie.Need-overflow_add-k-in-loop-k invariant-loop decreases-loop
 add-k c =
-    let l = c.before.before.before.before.before.before.before.before.before.before.before.before in
-    omega (arith, c.before.before.before.before.before.before.before.before.before.before.before.loop-k-test, (start l).well_formed)
+    omega (arith, c.loop-k-test, (start c.before.before.before.before.before.before.before.before.before.before.before.before).well_formed)
 
 loop-less : tie.Need-loop-k-smaller invariant-loop decreases-loop
 loop-less c = search rules
 
 loop-again : tie.Need-loop-k-preserved invariant-loop decreases-loop
 loop-again c =
-    let l = c.before.before.before.before.before.before.before.before.before.before.before.before in
-    let a = (start l).args in
-    let x = c.before.before.before.before.before.before.before.before.before.before.record_at in (
-      omega (arith, c.before.before.before.before.before.before.before.before.before.before.before.loop-k-test),
-      state_next a.content.now a.entries.now a.text.now a.new.now (records_of a.records.now) _ _ _ _ l.loop-k.invariant.1 (start l).requires.1.1 x.result _ x.ensures _ _
-          c.before.before.before.before.before.before.write_step-c.ensures,
+    let a = (start c.before.before.before.before.before.before.before.before.before.before.before.before).args in
+    let x = c.record_at in (
+      omega (arith, c.loop-k-test),
+      state_next a.content.now a.entries.now a.text.now a.new.now (records_of a.records.now) _ _ _ _ c.loop-k.invariant.1 (start c.before.before.before.before.before.before.before.before.before.before.before.before).requires.1.1 x.result _ x.ensures _ _
+          c.write_step-c.ensures,
     )
 
 keep-requires : tie.Need-keep-requires invariant-loop decreases-loop
 keep-requires c κs =
-    let h = c.before.before.before.before in
-    let a = (start h).args in
-    let l = h.loop-k in
+    let a = (start c.before.before.before.before).args in
+    let l = c.loop-k in
     let s = l.invariant.1 in
-    let p = (start h).requires in
-    let e = none_left a.records.now l.k c.before.before.before.loop-k-test.false in (
+    let p = (start c.before.before.before.before).requires in
+    let e = none_left a.records.now l.k c.loop-k-test.false in (
       s.ready,
       (
         (within a.content.now a.entries.now a.text.now a.new.now (records_of a.records.now) _ _ _ _ s p.1.1 e, omega arith),
@@ -88,35 +84,31 @@ keep-requires c κs =
 same_length : tie.Need-shape_of-bytes invariant-loop decreases-loop
 unfolding out
 same_length c =
-    let l = c.before.before.before.before.before.before.before.before.before.before.before in
-    let a = (start l).args in
-    let g = long_now a.content.now a.entries.now a.text.now a.new.now (records_of a.records.now) _ _ _ _ l.loop-k.invariant.1 (start l).requires.1.1 in
-    c.before.before.before.before.before.before.keep.auto.0 ∙ g.data_bytes
+    let a = (start c.before.before.before.before.before.before.before.before.before.before.before).args in
+    let g = long_now a.content.now a.entries.now a.text.now a.new.now (records_of a.records.now) _ _ _ _ c.loop-k.invariant.1 (start c.before.before.before.before.before.before.before.before.before.before.before).requires.1.1 in
+    c.keep.auto.0 ∙ g.data_bytes
 
 same-length-2 : tie.Need-shape_of-numbers invariant-loop decreases-loop
 unfolding out
 same-length-2 c =
-    let l = c.before.before.before.before.before.before.before.before.before.before.before in
-    let a = (start l).args in
-    let g = long_now a.content.now a.entries.now a.text.now a.new.now (records_of a.records.now) _ _ _ _ l.loop-k.invariant.1 (start l).requires.1.1 in
-    c.before.before.before.before.before.before.keep.auto.1.0 ∙ g.entry_numbers
+    let a = (start c.before.before.before.before.before.before.before.before.before.before.before).args in
+    let g = long_now a.content.now a.entries.now a.text.now a.new.now (records_of a.records.now) _ _ _ _ c.loop-k.invariant.1 (start c.before.before.before.before.before.before.before.before.before.before.before).requires.1.1 in
+    c.keep.auto.1.0 ∙ g.entry_numbers
 
 same-length-3 : tie.Need-shape_of-texts invariant-loop decreases-loop
 unfolding out
 same-length-3 c =
-    let l = c.before.before.before.before.before.before.before.before.before.before.before in
-    let a = (start l).args in
-    let g = long_now a.content.now a.entries.now a.text.now a.new.now (records_of a.records.now) _ _ _ _ l.loop-k.invariant.1 (start l).requires.1.1 in
-    c.before.before.before.before.before.before.keep.auto.1.1.0 ∙ g.text
+    let a = (start c.before.before.before.before.before.before.before.before.before.before.before).args in
+    let g = long_now a.content.now a.entries.now a.text.now a.new.now (records_of a.records.now) _ _ _ _ c.loop-k.invariant.1 (start c.before.before.before.before.before.before.before.before.before.before.before).requires.1.1 in
+    c.keep.auto.1.1.0 ∙ g.text
 
 returns : tie.Need-returns invariant-loop decreases-loop
 returns c =
-    let h = c.before.before.before.before.before.before.before.before.before.before.before in
-    let a = (start h).args in
-    let l = h.loop-k in
-    finish a.content.now a.entries.now a.text.now a.new.now (records_of a.records.now) _ _ _ _ l.invariant.1 (start h).requires.1.1
-    (none_left a.records.now l.k c.before.before.before.before.before.before.before.before.before.before.loop-k-test.false) _
-    c.before.before.before.before.before.before.keep.ensures.0
+    let a = (start c.before.before.before.before.before.before.before.before.before.before.before).args in
+    let l = c.loop-k in
+    finish a.content.now a.entries.now a.text.now a.new.now (records_of a.records.now) _ _ _ _ l.invariant.1 (start c.before.before.before.before.before.before.before.before.before.before.before).requires.1.1
+    (none_left a.records.now l.k c.loop-k-test.false) _
+    c.keep.ensures.0
 
 pub write_records_spec : {M : Type 1} → statement M
 write_records_spec =

@@ -55,28 +55,28 @@ abbrev lent : tie.Start → Lent
 lent s = lent_of s.args.bytes.now s.args.numbers.now s.args.texts.now
 
 -- once the content is checked
-abbrev start : tie.In-Fine-2 → tie.Start
+abbrev start : tie.In-Fine → tie.Start
 start c = c.before.before.before.before.before.before.before.before.before.before.before
 
-abbrev size : tie.In-Fine-2 → ℕ
-size c = c.checked-in-Fine-1.given.0.0
+abbrev size : tie.In-Fine → ℕ
+size c = c.in-Fine.n
 
-fine : (c : tie.In-Fine-2) → Fine (ds (start c)) (ns (start c)) (ts (start c)) (size c)
+fine : (c : tie.In-Fine) → Fine (ds (start c)) (ns (start c)) (ts (start c)) (size c)
 fine c =
     let s = start c in
-    let k = c.before.before.check-checked in
-    content_fine (call s) (ds s) (ns s) (ts s) (lent s) k.result k.ensures.0 k.ensures.1.0 k.ensures.1.1 (size c) c.checked-in-Fine-1.given.1
+    let k = c.check-checked in
+    content_fine (call s) (ds s) (ns s) (ts s) (lent s) k.result k.ensures.0 k.ensures.1.0 k.ensures.1.1 (size c) c.in-Fine.is
 
 -- once the records are scanned
-abbrev checked : tie.After-check_records-s → tie.In-Fine-2
-checked c = c.before.before
+abbrev checked : tie.After-check_records-s → tie.In-Fine
+checked c = c.before
 
 -- once the sizes are settled: no record was bad
 abbrev scanned : tie.After-settle-verdict → tie.After-check_records-s
 scanned c = c.before.before.before.before.before
 
-abbrev no-bad : (c : tie.After-settle-verdict) → (scanned c).check_records-s.result.bad ≡ false
-no-bad c = c.before.before.before.before.if-s.false
+abbrev no-bad : (c : tie.After-settle-verdict) → (scanned c).check-records.result.bad ≡ false
+no-bad c = c.if-s.false
 
 good : (c : tie.After-settle-verdict) → single_fault (call (start (checked (scanned c)))) (ds (start (checked (scanned c)))) ≡ 0
 good c =
@@ -88,12 +88,12 @@ good c =
 sized : (c : tie.After-settle-verdict)
     → settled_fault c.settle-verdict.result
     ≡ sizes_fault (length (edit_data (single_ops (call (start (checked (scanned c)))) (ds (start (checked (scanned c))))) (ds (start (checked (scanned c)))))) (length (ns (start (checked (scanned c)))))
-    c.before.own_size-shared.result 0 (room_in (lent (start (checked (scanned c)))))
+    c.own_size-shared.result 0 (room_in (lent (start (checked (scanned c)))))
 sized c =
     let r = scanned c in
     let s = start (checked r) in
-    let d = c.before.before.capped_add-d in
-    settled (ds s) (new s) (xs s) r.check_records-s.result r.check_records-s.ensures (no-bad c) d.result (length (ns s)) c.before.own_size-shared.result (room_in (lent s)) d.ensures
+    let d = c.capped_add-d in
+    settled (ds s) (new s) (xs s) r.check_records-s.result r.check_records-s.ensures (no-bad c) d.result (length (ns s)) c.own_size-shared.result (room_in (lent s)) d.ensures
     c.settle-verdict.result c.settle-verdict.ensures
 
 -- ── what is asked on the way
@@ -105,9 +105,7 @@ enum-known-checked c = search rules
 
 returns : tie.Need-returns-in-Refused
 returns c =
-    let k = c.before.before.before in
-    let s = k.before.before.before.before.before.before.before.before.before in
-    content-refused (call s) (ds s) (ns s) (ts s) (lent s) k.check-checked.result k.check-checked.ensures.0 c.before.checked-1.given.0.0 c.before.checked-1.given.1
+    content-refused (call c.before.before.before.before.before.before.before.before.before.before) (ds c.before.before.before.before.before.before.before.before.before.before) (ns c.before.before.before.before.before.before.before.before.before.before) (ts c.before.before.before.before.before.before.before.before.before.before) (lent c.before.before.before.before.before.before.before.before.before.before) c.check-checked.result c.check-checked.ensures.0 c.in-Refused.f c.in-Refused.is
 
 enum-known-checked-2 : tie.Need-enum_known-checked-in-Fine-1
 enum-known-checked-2 c = search rules
@@ -117,19 +115,17 @@ check-records-requires c κs = search rules
 
 returns-2 : tie.Need-returns-then-s
 returns-2 c =
-    let r = c.before in
-    let s = start (checked r) in
-    own_refused (call s) (ds s) (ns s) (ts s) (lent s) (fine (checked r)).passed ReplacementRange
-    (some_bad (ds s) (new s) (xs s) r.check_records-s.result r.check_records-s.ensures c.if-s.true)
+    let s = start (checked c.before) in
+    own_refused (call s) (ds s) (ns s) (ts s) (lent s) (fine (checked c.before)).passed ReplacementRange
+    (some_bad (ds s) (new s) (xs s) c.check_records-s.result c.check_records-s.ensures c.if-s.true)
 
 cast-capped-add : tie.Need-overflow_cast-s
 cast-capped-add c = search rules
 
 sub-capped-add : tie.Need-overflow_sub-content
 sub-capped-add c =
-    let r = c.before.before in
-    let s = start (checked r) in
-    within (ds s) (new s) (xs s) r.check_records-s.result r.check_records-s.ensures c.before.if-s.false
+    let s = start (checked c.before.before) in
+    within (ds s) (new s) (xs s) c.check_records-s.result c.check_records-s.ensures c.if-s.false
 
 capped-add-requires : tie.Need-capped_add-d-requires
 capped-add-requires c κs = search rules
@@ -149,23 +145,21 @@ enum-known-verdict c = search rules
 
 returns-3 : tie.Need-returns-in-Refused-verdict
 returns-3 c =
-    let p = c.before.before.before in
-    let r = scanned p in
+    let r = scanned c.before in
     let s = start (checked r) in
-    sizes_refused (call s) (ds s) (ns s) (ts s) (lent s) (fine (checked r)).passed (good p) _ _ 0 refl p.before.own_size-shared.ensures refl p.settle-verdict.result (sized p)
-    c.before.verdict-1.given.0.0 c.before.verdict-1.given.1
+    sizes_refused (call s) (ds s) (ns s) (ts s) (lent s) (fine (checked r)).passed (good c.before) _ _ 0 refl c.own_size-shared.ensures refl c.settle-verdict.result (sized c.before)
+    c.in-Refused-verdict.f c.in-Refused-verdict.is
 
 enum_told : tie.Need-enum_told-1
 enum_told c = search rules
 
 write-records-requires : tie.Need-write_records-c-requires
 write-records-requires c κs =
-    let p = c.before.before.before.before.before in
-    let r = scanned p in
+    let r = scanned c.before.before.before.before in
     let s = start (checked r) in
-    let room = has_room (call s) (ds s) (ns s) (ts s) (lent s) (fine (checked r)).passed (good p) _ _ 0 refl p.before.own_size-shared.ensures refl p.settle-verdict.result
-    (sized p) c.before.before.before.enum_told-1.given.1 in
-    ((fine (checked r)).whole, (good p, room))
+    let room = has_room (call s) (ds s) (ns s) (ts s) (lent s) (fine (checked r)).passed (good c.before.before.before.before) _ _ 0 refl c.own_size-shared.ensures refl c.settle-verdict.result
+    (sized c.before.before.before.before) c.in-Room.is in
+    ((fine (checked r)).whole, (good c.before.before.before.before, room))
 
 same_length : tie.Need-shape_of-bytes
 same_length c = search rules
@@ -179,13 +173,11 @@ same-length-3 c = search rules
 returns-4 : tie.Need-returns
 unfolding number over
 returns-4 c =
-    let w = c.before.before.before.before.before.before.write_records-c in
-    let t = c.before.before.before.before.before.before.before.before.before.before in
-    let p = t.before.before in
-    let r = scanned p in
+    let w = c.write_records-c in
+    let r = scanned c.before.before.before.before.before.before.before.before.before.before.before in
     let s = start (checked r) in
-    written (call s) (ds s) (ns s) (ts s) (lent s) (fine (checked r)).passed (good p) _ _ 0 refl p.before.own_size-shared.ensures refl p.settle-verdict.result (sized p)
-    t.enum_told-1.given.1
+    written (call s) (ds s) (ns s) (ts s) (lent s) (fine (checked r)).passed (good c.before.before.before.before.before.before.before.before.before.before.before) _ _ 0 refl c.own_size-shared.ensures refl c.settle-verdict.result (sized c.before.before.before.before.before.before.before.before.before.before.before)
+    c.in-Room.is
     0 _ _ _ _ w.result refl w.ensures refl
 
 pub write_replaced_flat_spec : {M : Type 1} → statement M

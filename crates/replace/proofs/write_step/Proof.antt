@@ -27,8 +27,8 @@ kept c = c.before.before.before.before.before.before.before.before.before.before
 
 keep-requires : tie.Need-keep-a-requires
 keep-requires c κs =
-    let a = c.before.before.before.before.before.before.before.before.before.before.before.args in
-    let p = c.before.before.before.before.before.before.before.before.before.before.before.requires in
+    let a = c.args in
+    let p = c.requires in
     let g = is_good a.content.now a.entries.now a.text.now a.new.now a.x a.c _ p in
     (p.ready, ((g.low, omega (arith, g.order, g.high)), room_keep a.content.now a.entries.now a.text.now a.new.now a.x a.c _ p))
 
@@ -40,10 +40,9 @@ cast-put-bytes-2 c = search rules
 
 put-bytes-requires : tie.Need-put_bytes-b-requires
 put-bytes-requires c κs =
-    let q = c.before.before.before.before.before.before.before.before.before in
-    let a = (start q).args in
-    let p = (start q).requires in
-    let k = q.keep-a in
+    let a = (start c.before.before.before.before.before.before.before.before.before).args in
+    let p = (start c.before.before.before.before.before.before.before.before.before).requires in
+    let k = c.keep-a in
     let g = is_good a.content.now a.entries.now a.text.now a.new.now a.x a.c _ p in
     let f = room_put a.content.now a.entries.now a.text.now a.new.now a.x a.c _ p _ k.ensures.0 in
     (g.part, g.within, bytes_room _ _ _ (part a.x.from a.x.to a.new.now) k.result _ (length_part a.x.from a.x.to a.new.now g.within) f)
@@ -53,11 +52,10 @@ cast-skip c = search rules
 
 skip-requires : tie.Need-skip-requires
 skip-requires c κs =
-    let q = c.before.before.before.before.before.before in
-    let a = (start (kept q)).args in
-    let p = (start (kept q)).requires in
-    let k = (kept q).keep-a in
-    let b = q.put_bytes-b in
+    let a = (start (kept c.before.before.before.before.before.before)).args in
+    let p = (start (kept c.before.before.before.before.before.before)).requires in
+    let k = (kept c.before.before.before.before.before.before).keep-a in
+    let b = c.put_bytes-b in
     let g = is_good a.content.now a.entries.now a.text.now a.new.now a.x a.c _ p in
     let w = part_wrote _ _ _ _ a.new.now k.result b.result a.x.from a.x.to g.within b.ensures.1.0 b.ensures.0 in (
       ready_skip a.content.now a.entries.now a.text.now a.new.now a.x a.c _ p _ k.ensures.0 _ w k.result b.result b.ensures.0.0 b.ensures.0.1
@@ -71,27 +69,23 @@ skip-requires c κs =
 
 same_length : tie.Need-shape_of-bytes
 same_length c =
-    let q = c.before.before.before.before.before.before.before.before.before.before.before.before.before in
-    c.before.before.before.before.before.before.skip.auto.0 ∙ q.put_bytes-b.auto.0 ∙ (kept q).keep-a.auto.0
+    c.skip.auto.0 ∙ c.put_bytes-b.auto.0 ∙ (kept c.before.before.before.before.before.before.before.before.before.before.before.before.before).keep-a.auto.0
 
 same-length-2 : tie.Need-shape_of-numbers
 same-length-2 c =
-    let q = c.before.before.before.before.before.before.before.before.before.before.before.before.before in
-    c.before.before.before.before.before.before.skip.auto.1.0 ∙ (kept q).keep-a.auto.1.0
+    c.skip.auto.1.0 ∙ (kept c.before.before.before.before.before.before.before.before.before.before.before.before.before).keep-a.auto.1.0
 
 same-length-3 : tie.Need-shape_of-texts
 same-length-3 c =
-    let q = c.before.before.before.before.before.before.before.before.before.before.before.before.before in
-    c.before.before.before.before.before.before.skip.auto.1.1.0 ∙ (kept q).keep-a.auto.1.1.0
+    c.skip.auto.1.1.0 ∙ (kept c.before.before.before.before.before.before.before.before.before.before.before.before.before).keep-a.auto.1.1.0
 
 returns : tie.Need-returns
 returns c =
-    let q = c.before.before.before.before.before.before.before.before.before.before.before.before.before in
-    let a = (start (kept q)).args in
-    let p = (start (kept q)).requires in
-    let k = (kept q).keep-a in
-    let b = q.put_bytes-b in
-    let s = c.before.before.before.before.before.before.skip in
+    let a = (start (kept c.before.before.before.before.before.before.before.before.before.before.before.before.before)).args in
+    let p = (start (kept c.before.before.before.before.before.before.before.before.before.before.before.before.before)).requires in
+    let k = (kept c.before.before.before.before.before.before.before.before.before.before.before.before.before).keep-a in
+    let b = c.put_bytes-b in
+    let s = c.skip in
     let g = is_good a.content.now a.entries.now a.text.now a.new.now a.x a.c _ p in
     let w = part_wrote _ _ _ _ a.new.now k.result b.result a.x.from a.x.to g.within b.ensures.1.0 b.ensures.0 in
     turned a.content.now a.entries.now a.text.now a.new.now a.x a.c _ p _ k.ensures.0 _ w k.result b.result b.ensures.0.0 b.ensures.0.1

@@ -14,9 +14,8 @@ enum-known-v c = search rules
 
 returns : tie.Need-returns-in-Refused
 returns c =
-    let a = c.before.before.before.before.before.before.before.before.before.args in
-    let g = c.before.v-1.given in
-    ended_refused a.content.now a.entries.now a.text.now (world a.w a.bytes-1.now a.numbers-1.now a.texts-1.now) g.0.0 g.1
+    let a = c.args in
+    ended_refused a.content.now a.entries.now a.text.now (world a.w a.bytes.now a.numbers.now a.texts.now) c.in-Refused.f c.in-Refused.is
 
 enum_told : tie.Need-enum_told-1
 enum_told c = search rules
@@ -24,7 +23,7 @@ enum_told c = search rules
 keep-requires : tie.Need-keep-c-requires
 unfolding MayEnd
 keep-requires c κs =
-    let l = c.before.before.before.before.before.before.before.before.before.before.before.requires c.before.before.before.enum_told-1.given.1 in
+    let l = c.requires c.in-Room.is in
     (l.ready, ((l.within, omega arith), l.fits))
 
 same_length : tie.Need-shape_of-bytes
@@ -38,10 +37,9 @@ same-length-3 c = search rules
 
 returns-2 : tie.Need-returns
 returns-2 c =
-    let a = c.before.before.before.before.before.before.before.before.before.before.before.before.before.before.before.before.before.before.args in
-    let g = c.before.before.before.before.before.before.before.before.before.before.enum_told-1.given in
-    let k = c.before.before.before.before.before.before.keep-c in
-    ended_done a.content.now a.entries.now a.text.now (world a.w a.bytes-1.now a.numbers-1.now a.texts-1.now) g.1 k.result _ _ _ k.ensures.0
+    let a = c.args in
+    let k = c.keep-c in
+    ended_done a.content.now a.entries.now a.text.now (world a.w a.bytes.now a.numbers.now a.texts.now) c.in-Room.is k.result _ _ _ k.ensures.0
 
 pub finish_spec : {M : Type 1} → statement M
 finish_spec =

@@ -13,16 +13,15 @@ enum-known-v c = search rules
 
 returns : tie.Need-returns-in-Refused
 returns c =
-    let a = c.before.before.before.before.before.before.before.before.before.before.args in
-    let g = c.before.v-1.given in
-    turn_none a.content.now a.entries.now a.text.now a.new.now a.x (world a.w a.bytes-1.now a.numbers-1.now a.texts-1.now) g.0.0 g.1
+    let a = c.args in
+    turn_none a.content.now a.entries.now a.text.now a.new.now a.x (world a.w a.bytes.now a.numbers.now a.texts.now) c.in-Refused.f c.in-Refused.is
 
 enum_told : tie.Need-enum_told-1
 enum_told c = search rules
 
 write-step-requires : tie.Need-write_step-c-requires
 unfolding MayTurn
-write-step-requires c κs = c.before.before.before.before.before.before.before.before.before.before.before.before.before.requires c.before.before.before.before.enum_told-1.given.1
+write-step-requires c κs = c.requires c.in-Room.is
 
 same_length : tie.Need-shape_of-bytes
 same_length c = search rules
@@ -35,10 +34,9 @@ same-length-3 c = search rules
 
 returns-2 : tie.Need-returns
 returns-2 c =
-    let a = c.before.before.before.before.before.before.before.before.before.before.before.before.before.before.before.before.before.before.before.before.args in
-    let g = c.before.before.before.before.before.before.before.before.before.before.before.enum_told-1.given in
-    let k = c.before.before.before.before.before.before.write_step-c in
-    turn_made a.content.now a.entries.now a.text.now a.new.now a.x (world a.w a.bytes-1.now a.numbers-1.now a.texts-1.now) g.1 k.result _ _ _ k.ensures
+    let a = c.args in
+    let k = c.write_step-c in
+    turn_made a.content.now a.entries.now a.text.now a.new.now a.x (world a.w a.bytes.now a.numbers.now a.texts.now) c.in-Room.is k.result _ _ _ k.ensures
 
 pub write_turn_spec : {M : Type 1} → statement M
 write_turn_spec =

@@ -17,9 +17,6 @@ abbrev decreases-loop : tie.decreases-loop-i
 decreases-loop s i₀ i =
     length s - i
 
-slice-aggregate-write-all : tie.Need-slice-aggregate-write-all invariant-loop decreases-loop
-slice-aggregate-write-all c = search rules
-
 write-all-requires : tie.Need-write_all-requires invariant-loop decreases-loop
 write-all-requires c κs = search rules
 
@@ -50,7 +47,6 @@ text_spec =
     (tie.spec
     invariant-loop
     decreases-loop
-    slice-aggregate-write-all
     write-all-requires
     loop-holds
     shared-slice-read-byte

@@ -25,8 +25,7 @@ decreases-loop calls p q k₀ k =
 
 loop-holds : tie.Need-loop-k-init invariant-loop decreases-loop
 loop-holds c =
-    let s = c.before in
-    (omega arith, ap (all_fit_in s.args.p s.args.q) (rest_all (length s.args.calls.now / 8) s.args.calls.now))
+    (omega arith, ap (all_fit_in c.args.p c.args.q) (rest_all (length c.args.calls.now / 8) c.args.calls.now))
 
 mul-request-at : tie.Need-overflow_mul-k invariant-loop decreases-loop
 mul-request-at c = search rules
@@ -39,13 +38,11 @@ fits-requires c κs = search rules
 
 returns : tie.Need-returns-then-not-fits invariant-loop decreases-loop
 returns c =
-    let w = c.before.fits2 in
-    let q = c.before.before.request_at in
-    let t = c.before.before.before in
-    let l = t.before.loop-k in
-    let s = t.before.before.before in
-    let n = length s.args.calls.now / 8 in
-    sym (one_bad s.args.p s.args.q n l.k s.args.calls.now t.loop-k-test.true q.result w.result q.ensures w.ensures
+    let w = c.fits2 in
+    let q = c.request_at in
+    let l = c.loop-k in
+    let n = length c.args.calls.now / 8 in
+    sym (one_bad c.args.p c.args.q n l.k c.args.calls.now c.loop-k-test.true q.result w.result q.ensures w.ensures
     c.if-not-fits.true) ∙ l.invariant.1
 
 add-k : tie.Need-overflow_add-k invariant-loop decreases-loop
@@ -56,22 +53,19 @@ loop-less c = search rules
 
 loop-again : tie.Need-loop-k-preserved invariant-loop decreases-loop
 loop-again c =
-    let w = c.before.fits2 in
-    let q = c.before.before.request_at in
-    let t = c.before.before.before in
-    let l = t.before.loop-k in
-    let s = t.before.before.before in
-    let n = length s.args.calls.now / 8 in (
+    let w = c.fits2 in
+    let q = c.request_at in
+    let l = c.loop-k in
+    let n = length c.args.calls.now / 8 in (
       search rules,
-      sym (one_good s.args.p s.args.q n l.k s.args.calls.now t.loop-k-test.true q.result w.result q.ensures w.ensures
-          c.if-not-fits.false) ∙ l.invariant.1,
+      sym (one_good c.args.p c.args.q n l.k c.args.calls.now c.loop-k-test.true q.result w.result q.ensures w.ensures
+          (not_false w.result c.if-not-fits.false)) ∙ l.invariant.1,
     )
 
 returns-2 : tie.Need-returns invariant-loop decreases-loop
 returns-2 c =
-    let s = c.before.before.before in
-    let l = c.before.loop-k in
-    sym (ap (all_fit_in s.args.p s.args.q) (none (length s.args.calls.now / 8) l.k s.args.calls.now c.loop-k-test.false)) ∙ l.invariant.1
+    let l = c.loop-k in
+    sym (ap (all_fit_in c.args.p c.args.q) (none (length c.args.calls.now / 8) l.k c.args.calls.now c.loop-k-test.false)) ∙ l.invariant.1
 
 pub all_fit_spec : {M : Type 1} → statement M
 all_fit_spec =

@@ -36,7 +36,7 @@ abbrev content : tie.Start → Recording
 content s = recording s.args.content.now s.args.entries.now s.args.text.now
 
 abbrev second : tie.Start → Recording
-second s = recording s.args.second.now s.args.second-entries.now s.args.second-text.now
+second s = recording s.args.second.now s.args.second_entries.now s.args.second_text.now
 
 abbrev job : tie.Start → Job
 job s = job_of s.args.kind s.args.width (second s)
@@ -64,11 +64,9 @@ same-length-3 c = search rules
 returns : tie.Need-returns-then-kind-eq0
 unfolding lines_left
 returns c =
-    let w = c.before.before.before.before.before.before in
-    let t = w.before.before.before.before in
-    let s = start t.before in
+    let s = start c.before.before.before.before.before.before.before.before.before.before.before in
     no_lines s (truncate_start s.args.width (second s))
-    (job_start s.args.kind s.args.width (second s) t.if-kind-eq0.true) refl _ _ _ w.write_truncated_start.result w.write_truncated_start.ensures
+    (job_start s.args.kind s.args.width (second s) c.if-kind-eq0.true) refl _ _ _ c.write_truncated_start.result c.write_truncated_start.ensures
 
 write-truncated-end-requires : tie.Need-write_truncated_end-requires
 write-truncated-end-requires c κs = search rules
@@ -85,11 +83,9 @@ same-length-6 c = search rules
 returns-2 : tie.Need-returns-then-kind-eq1
 unfolding lines_left
 returns-2 c =
-    let w = c.before.before.before.before.before.before in
-    let t = w.before.before.before.before in
-    let s = start t.before.before in
+    let s = start c.before.before.before.before.before.before.before.before.before.before.before.before in
     no_lines s (truncate_end s.args.width (second s))
-    (job_end s.args.kind s.args.width (second s) t.if-kind-eq1.true) refl _ _ _ w.write_truncated_end.result w.write_truncated_end.ensures
+    (job_end s.args.kind s.args.width (second s) c.if-kind-eq1.true) refl _ _ _ c.write_truncated_end.result c.write_truncated_end.ensures
 
 write-padded-start-requires : tie.Need-write_padded_start-requires
 write-padded-start-requires c κs = search rules
@@ -106,11 +102,9 @@ same-length-9 c = search rules
 returns-3 : tie.Need-returns-then-kind-eq2
 unfolding lines_left
 returns-3 c =
-    let w = c.before.before.before.before.before.before in
-    let t = w.before.before.before.before in
-    let s = start t.before.before.before in
+    let s = start c.before.before.before.before.before.before.before.before.before.before.before.before.before in
     no_lines s (pad_start s.args.width (second s))
-    (job_pad_start s.args.kind s.args.width (second s) t.if-kind-eq2.true) refl _ _ _ w.write_padded_start.result w.write_padded_start.ensures
+    (job_pad_start s.args.kind s.args.width (second s) c.if-kind-eq2.true) refl _ _ _ c.write_padded_start.result c.write_padded_start.ensures
 
 write-padded-end-requires : tie.Need-write_padded_end-requires
 write-padded-end-requires c κs = search rules
@@ -127,11 +121,9 @@ same-length-12 c = search rules
 returns-4 : tie.Need-returns-then-kind-eq3
 unfolding lines_left
 returns-4 c =
-    let w = c.before.before.before.before.before.before in
-    let t = w.before.before.before.before in
-    let s = start t.before.before.before.before in
+    let s = start c.before.before.before.before.before.before.before.before.before.before.before.before.before.before in
     no_lines s (pad_end s.args.width (second s))
-    (job_pad_end s.args.kind s.args.width (second s) t.if-kind-eq3.true) refl _ _ _ w.write_padded_end.result w.write_padded_end.ensures
+    (job_pad_end s.args.kind s.args.width (second s) c.if-kind-eq3.true) refl _ _ _ c.write_padded_end.result c.write_padded_end.ensures
 
 write-padded-centered-requires : tie.Need-write_padded_centered-requires
 write-padded-centered-requires c κs = search rules
@@ -148,11 +140,9 @@ same-length-15 c = search rules
 returns-5 : tie.Need-returns-then-kind-eq4
 unfolding lines_left
 returns-5 c =
-    let w = c.before.before.before.before.before.before in
-    let t = w.before.before.before.before in
-    let s = start t.before.before.before.before.before in
+    let s = start c.before.before.before.before.before.before.before.before.before.before.before.before.before.before.before in
     no_lines s (pad_centered s.args.width (second s))
-    (job_pad_centered s.args.kind s.args.width (second s) t.if-kind-eq4.true) refl _ _ _ w.write_padded_centered.result w.write_padded_centered.ensures
+    (job_pad_centered s.args.kind s.args.width (second s) c.if-kind-eq4.true) refl _ _ _ c.write_padded_centered.result c.write_padded_centered.ensures
 
 write-indented-requires : tie.Need-write_indented-requires
 write-indented-requires c κs = search rules
@@ -169,11 +159,9 @@ same-length-18 c = search rules
 returns-6 : tie.Need-returns-then-kind-eq5
 unfolding lines_left
 returns-6 c =
-    let w = c.before.before.before.before.before.before in
-    let t = w.before.before.before.before in
-    let s = start t.before.before.before.before.before.before in
+    let s = start c.before.before.before.before.before.before.before.before.before.before.before.before.before.before.before.before in
     no_lines s (indent (second s))
-    (job_indent s.args.kind s.args.width (second s) t.if-kind-eq5.true) refl _ _ _ w.write_indented.result w.write_indented.ensures
+    (job_indent s.args.kind s.args.width (second s) c.if-kind-eq5.true) refl _ _ _ c.write_indented.result c.write_indented.ensures
 
 write-wrapped-requires : tie.Need-write_wrapped-requires
 write-wrapped-requires c κs = search rules
@@ -192,18 +180,10 @@ same-length-22 c = search rules
 
 returns-7 : tie.Need-returns-then-kind-lt8
 returns-7 c =
-    let w = c.before.before.before.before.before.before.before.before in
-    let e7 = w.before.before.before.before.before in
-    let e6 = e7.before in
-    let e5 = e6.before in
-    let e4 = e5.before in
-    let e3 = e4.before in
-    let e2 = e3.before in
-    let e1 = e2.before in
-    let s = start e1.before in
+    let s = start c.before.before.before.before.before.before.before.before.before.before.before.before.before.before.before.before.before.before.before.before in
     lined (job s) (wrap s.args.width (eqb s.args.kind 7)) (content s) s.args.bytes.now s.args.numbers.now s.args.texts.now s.args.lines.now _ _ _ _
-    w.write_wrapped.result (job_wrap s.args.kind s.args.width (second s)
-    (omega (arith, e1.if-kind-eq0.false, e2.if-kind-eq1.false, e3.if-kind-eq2.false, e4.if-kind-eq3.false, e5.if-kind-eq4.false, e6.if-kind-eq5.false)) e7.if-kind-lt8.true) w.write_wrapped.ensures
+    c.write_wrapped.result (job_wrap s.args.kind s.args.width (second s)
+    (omega (arith, c.if-kind-eq0.false, c.if-kind-eq1.false, c.if-kind-eq2.false, c.if-kind-eq3.false, c.if-kind-eq4.false, c.if-kind-eq5.false)) c.if-kind-lt8.true) c.write_wrapped.ensures
 
 write-replaced-flat-requires : tie.Need-write_replaced_flat-requires
 write-replaced-flat-requires c κs = search rules
@@ -220,11 +200,9 @@ same-length-25 c = search rules
 returns-8 : tie.Need-returns-then-kind-eq8
 unfolding lines_left
 returns-8 c =
-    let w = c.before.before.before.before.before.before in
-    let t = w.before.before.before.before in
-    let s = start t.before.before.before.before.before.before.before.before in
+    let s = start c.before.before.before.before.before.before.before.before.before.before.before.before.before.before.before.before.before.before in
     no_lines s (replace (records_of (second s).entry_numbers) (second s).data_bytes)
-    (job_replace s.args.kind s.args.width (second s) t.if-kind-eq8.true) refl _ _ _ w.write_replaced_flat.result w.write_replaced_flat.ensures
+    (job_replace s.args.kind s.args.width (second s) c.if-kind-eq8.true) refl _ _ _ c.write_replaced_flat.result c.write_replaced_flat.ensures
 
 write-tabs-expanded-requires : tie.Need-write_tabs_expanded-requires
 write-tabs-expanded-requires c κs = search rules
@@ -241,11 +219,9 @@ same-length-28 c = search rules
 returns-9 : tie.Need-returns-then-kind-eq9
 unfolding lines_left
 returns-9 c =
-    let w = c.before.before.before.before.before.before in
-    let t = w.before.before.before.before in
-    let s = start t.before.before.before.before.before.before.before.before.before in
+    let s = start c.before.before.before.before.before.before.before.before.before.before.before.before.before.before.before.before.before.before.before in
     no_lines s (expand_tabs s.args.width)
-    (job_tabs s.args.kind s.args.width (second s) t.if-kind-eq9.true) refl _ _ _ w.write_tabs_expanded.result w.write_tabs_expanded.ensures
+    (job_tabs s.args.kind s.args.width (second s) c.if-kind-eq9.true) refl _ _ _ c.write_tabs_expanded.result c.write_tabs_expanded.ensures
 
 write-unindented-requires : tie.Need-write_unindented-requires
 write-unindented-requires c κs = search rules
@@ -262,13 +238,9 @@ same-length-31 c = search rules
 returns-10 : tie.Need-returns
 unfolding lines_left
 returns-10 c =
-    let w = c.before.before.before.before.before.before in
-    let e9 = w.before.before.before.before in
-    let e8 = e9.before in
-    let e7 = e8.before in
-    let s = start e7.before.before.before.before.before.before.before in
+    let s = start c.before.before.before.before.before.before.before.before.before.before.before.before.before.before.before.before.before.before.before in
     no_lines s (unindent (second s))
-    (job_unindent s.args.kind s.args.width (second s) (omega (arith, e7.if-kind-lt8.false, e8.if-kind-eq8.false, e9.if-kind-eq9.false))) refl _ _ _ w.write_unindented.result w.write_unindented.ensures
+    (job_unindent s.args.kind s.args.width (second s) (omega (arith, c.if-kind-lt8.false, c.if-kind-eq8.false, c.if-kind-eq9.false))) refl _ _ _ c.write_unindented.result c.write_unindented.ensures
 
 pub apply_spec : {M : Type 1} → statement M
 apply_spec =

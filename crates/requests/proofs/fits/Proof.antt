@@ -19,8 +19,8 @@ range-fits-requires c κs = search rules
 returns-2 : tie.Need-returns-then-not-range_fits
 unfolding fits_in
 returns-2 c =
-    let a = c.before.range_fits in
-    rw (le-leb _ _ c.before.before.if-x-gt-LAST_KIND.false, sym a.ensures, c.if-not-range_fits.true)
+    let a = c.range_fits in
+    rw (le-leb _ _ c.if-x-gt-LAST_KIND.false, sym a.ensures, c.if-not-range_fits.true)
 
 range-fits-requires-2 : tie.Need-range_fits-requires-2
 range-fits-requires-2 c κs = search rules
@@ -28,9 +28,9 @@ range-fits-requires-2 c κs = search rules
 returns-3 : tie.Need-returns-then-not-range_fits-2
 unfolding fits_in
 returns-3 c =
-    let a = c.before.before.before.range_fits in
-    let b = c.before.range_fits-2 in
-    rw (le-leb _ _ c.before.before.before.before.if-x-gt-LAST_KIND.false, sym a.ensures, c.before.before.if-not-range_fits.false, sym b.ensures, c.if-not-range_fits-2.true)
+    let a = c.range_fits in
+    let b = c.range_fits-2 in
+    rw (le-leb _ _ c.if-x-gt-LAST_KIND.false, sym a.ensures, not_false a.result c.if-not-range_fits.false, sym b.ensures, c.if-not-range_fits-2.true)
 
 range-fits-requires-3 : tie.Need-range_fits-requires-3
 range-fits-requires-3 c κs = search rules
@@ -38,14 +38,14 @@ range-fits-requires-3 c κs = search rules
 returns-4 : tie.Need-returns
 unfolding fits_in
 returns-4 c =
-    let a = c.before.before.before.before.range_fits in
-    let b = c.before.before.range_fits-2 in
+    let a = c.range_fits in
+    let b = c.range_fits-2 in
     rw (
-      le-leb _ _ c.before.before.before.before.before.if-x-gt-LAST_KIND.false,
+      le-leb _ _ c.if-x-gt-LAST_KIND.false,
       sym a.ensures,
-      c.before.before.before.if-not-range_fits.false,
+      not_false a.result c.if-not-range_fits.false,
       sym b.ensures,
-      c.before.if-not-range_fits-2.false,
+      not_false b.result c.if-not-range_fits-2.false,
       c.range_fits-3.ensures,
     )
 

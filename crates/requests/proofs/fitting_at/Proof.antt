@@ -11,7 +11,7 @@ request-at-requires : tie.Need-request_at-requires
 request-at-requires c κs = search rules
 
 returns : tie.Need-returns
-returns c = let s = c.before.before in (c.request_at.ensures, fit s.args.p s.args.q _ _ c.request_at.ensures s.requires.1)
+returns c = (c.request_at.ensures, fit c.args.p c.args.q _ _ c.request_at.ensures c.requires.1)
 
 pub fitting_at_spec : {M : Type 1} → statement M
 fitting_at_spec = tie.close (tie.spec request-at-requires returns)

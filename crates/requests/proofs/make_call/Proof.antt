@@ -63,14 +63,11 @@ same-length-4 c = search rules
 returns : tie.Need-returns
 unfolding job_in
 returns c =
-    let w = c.before.before.before.before.before.before.before.before in
-    let x = w.before.before.before.before.before.before.before.before in
-    let s = x.before.before.before.before.before.before.before.before.before.before.before in
-    let ps = s.args.pool.now in
-    let ns = s.args.pool-numbers.now in
-    lined (job_in ps ns (request_in (drop s.args.i s.args.calls.now))) (job_in ps ns x.fitting_at-x.result)
-    (recording s.args.content.now s.args.entries.now s.args.text.now) s.args.bytes.now s.args.numbers.now s.args.texts.now s.args.lines.now _ _ _ _
-    w.apply.result (ap (job_in ps ns) (sym x.fitting_at-x.ensures.0)) w.apply.ensures
+    let ps = c.args.pool.now in
+    let ns = c.args.pool_numbers.now in
+    lined (job_in ps ns (request_in (drop c.args.i c.args.calls.now))) (job_in ps ns c.fitting_at-x.result)
+    (recording c.args.content.now c.args.entries.now c.args.text.now) c.args.bytes.now c.args.numbers.now c.args.texts.now c.args.lines.now _ _ _ _
+    c.apply.result (ap (job_in ps ns) (sym c.fitting_at-x.ensures.0)) c.apply.ensures
 
 pub make_call_spec : {M : Type 1} → statement M
 make_call_spec =

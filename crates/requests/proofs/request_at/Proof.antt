@@ -33,7 +33,7 @@ shared-slice-read-t13 : tie.Need-bounds-calls-i-3
 shared-slice-read-t13 c = search rules
 
 cast-t14 : tie.Need-overflow_cast-result
-cast-t14 c = omega (arith, c.shared_slice_known-3-1.given (c.before.before.before.args.i + 2))
+cast-t14 c = omega (arith, c.shared_slice_known-3-1.given (c.args.i + 2))
 
 add-t15 : tie.Need-overflow_add-result-3
 add-t15 c = search rules
@@ -45,7 +45,7 @@ shared-slice-read-t18 : tie.Need-bounds-calls-i-4
 shared-slice-read-t18 c = search rules
 
 cast-t19 : tie.Need-overflow_cast-result-2
-cast-t19 c = omega (arith, c.shared_slice_known-4-1.given (c.before.before.before.before.args.i + 3))
+cast-t19 c = omega (arith, c.shared_slice_known-4-1.given (c.args.i + 3))
 
 add-t20 : tie.Need-overflow_add-result-4
 add-t20 c = search rules
@@ -57,7 +57,7 @@ shared-slice-read-t23 : tie.Need-bounds-calls-i-5
 shared-slice-read-t23 c = search rules
 
 cast-t24 : tie.Need-overflow_cast-result-3
-cast-t24 c = omega (arith, c.shared_slice_known-5-1.given (c.before.before.before.before.before.args.i + 4))
+cast-t24 c = omega (arith, c.shared_slice_known-5-1.given (c.args.i + 4))
 
 add-t25 : tie.Need-overflow_add-result-5
 add-t25 c = search rules
@@ -69,7 +69,7 @@ shared-slice-read-t28 : tie.Need-bounds-calls-i-6
 shared-slice-read-t28 c = search rules
 
 cast-t29 : tie.Need-overflow_cast-result-4
-cast-t29 c = omega (arith, c.shared_slice_known-6-1.given (c.before.before.before.before.before.before.args.i + 5))
+cast-t29 c = omega (arith, c.shared_slice_known-6-1.given (c.args.i + 5))
 
 add-t30 : tie.Need-overflow_add-result-6
 add-t30 c = search rules
@@ -81,7 +81,7 @@ shared-slice-read-t33 : tie.Need-bounds-calls-i-7
 shared-slice-read-t33 c = search rules
 
 cast-t34 : tie.Need-overflow_cast-result-5
-cast-t34 c = omega (arith, c.shared_slice_known-7-1.given (c.before.before.before.before.before.before.before.args.i + 6))
+cast-t34 c = omega (arith, c.shared_slice_known-7-1.given (c.args.i + 6))
 
 add-t35 : tie.Need-overflow_add-result-7
 add-t35 c = search rules
@@ -93,10 +93,10 @@ shared-slice-read-t38 : tie.Need-bounds-calls-i-8
 shared-slice-read-t38 c = search rules
 
 cast-t39 : tie.Need-overflow_cast-result-6
-cast-t39 c = omega (arith, c.shared_slice_known-8-1.given (c.before.before.before.before.before.before.before.before.args.i + 7))
+cast-t39 c = omega (arith, c.shared_slice_known-8-1.given (c.args.i + 7))
 
 returns : tie.Need-returns
-returns c = request_is c.before.before.before.before.before.before.before.before.args.calls.now c.before.before.before.before.before.before.before.before.args.i
+returns c = request_is c.args.calls.now c.args.i
 
 pub request_at_spec : {M : Type 1} → statement M
 request_at_spec =

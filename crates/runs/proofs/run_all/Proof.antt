@@ -31,7 +31,7 @@ abbrev first : tie.Start invariant-loop decreases-loop → Lent
 first s = lent_of s.args.bytes.now s.args.numbers.now s.args.texts.now
 
 abbrev other : tie.Start invariant-loop decreases-loop → Lent
-other s = lent_of s.args.other-bytes.now s.args.other_numbers.now s.args.other_texts.now
+other s = lent_of s.args.other_bytes.now s.args.other_numbers.now s.args.other_texts.now
 
 abbrev at-start : tie.Start invariant-loop decreases-loop → State
 at-start s = state s.args.s (first s) (other s) s.args.lines.now []
@@ -53,9 +53,8 @@ turn-of c = after_turn c.before.before.before.before
 -- ── what is asked on the way
 loop-holds : tie.Need-loop-k-init invariant-loop decreases-loop
 loop-holds c =
-    let s = c.before.before.before.before.before.before.before.before.before.before.before in
-    let p = s.requires in (
-      starts s.args.pool.now s.args.pool-numbers.now s.args.calls.now s.args.s (first s) (other s) s.args.lines.now s.args.answers.now
+    let p = c.requires in (
+      starts c.args.pool.now c.args.pool_numbers.now c.args.calls.now c.args.s (first c.before.before.before.before.before.before.before.before.before.before.before) (other c.before.before.before.before.before.before.before.before.before.before.before) c.args.lines.now c.args.answers.now
           p.1.0 p.1.1 p.0.0,
       record { bytes = refl; numbers = refl; texts = refl; other-bytes = refl; other_numbers = refl; other_texts = refl; lines = refl },
     )
@@ -66,84 +65,84 @@ mul-turn c = omega (arith, c.loop-k-test.true, (start c.before).good)
 turn-requires : tie.Need-turn-a-requires invariant-loop decreases-loop
 turn-requires c κs =
     let t = before-turn c in
-    let l = t.before.loop-k in
+    let l = t.loop-k in
     let s = start t.before in (
       omega (arith, t.loop-k-test.true),
       (
-        head_fits s.args.pool.now s.args.pool-numbers.now s.args.calls.now (at-start s) s.args.answers.now
-            l.held l.k l.bytes-1 l.numbers-1 l.texts-1 l.other_bytes-1 l.other_numbers-1 l.other_texts-1 l.lines-1 l.answers-1 l.invariant.0 t.loop-k-test.true,
+        head_fits s.args.pool.now s.args.pool_numbers.now s.args.calls.now (at-start s) s.args.answers.now
+            l.held l.k l.bytes l.numbers l.texts l.other-bytes l.other_numbers l.other_texts l.lines l.answers l.invariant.0 t.loop-k-test.true,
         l.invariant.0.sound,
       ),
     )
 
 mul-put-answer : tie.Need-overflow_mul-k-in-loop-k invariant-loop decreases-loop
-mul-put-answer c = let t = before-turn (after_turn c).before in omega (arith, t.loop-k-test.true, (start t.before).good)
+mul-put-answer c = let t = before-turn (after_turn c).before in omega (arith, t.loop-test.true, (start t.before).good)
 
 put-answer-requires : tie.Need-put_answer-requires invariant-loop decreases-loop
-put-answer-requires c κs = let t = before-turn (after_turn c).before in omega (arith, t.loop-k-test.true, (start t.before).requires.0.1, t.before.loop-k.invariant.0.long)
+put-answer-requires c κs = let t = before-turn (after_turn c).before in omega (arith, t.loop-test.true, (start t.before).requires.0.1, t.before.loop.invariant.0.long)
 
 moved-requires : tie.Need-moved-held-requires invariant-loop decreases-loop
-moved-requires c κs = let t = before-turn (after_turn c.before.before.before).before in omega (arith, t.loop-k-test.true, t.before.loop-k.invariant.0.made, (start t.before).good)
+moved-requires c κs = let t = before-turn (after_turn c.before.before.before).before in omega (arith, t.loop-test.true, t.before.loop.invariant.0.made, (start t.before).good)
 
 add-k : tie.Need-overflow_add-k invariant-loop decreases-loop
-add-k c = let t = before-turn (turn-of c).before in omega (arith, t.loop-k-test.true, (start t.before).good)
+add-k c = let t = before-turn (turn-of c).before in omega (arith, t.loop-test.true, (start t.before).good)
 
 loop-less : tie.Need-loop-k-smaller invariant-loop decreases-loop
-loop-less c = let t = before-turn (turn-of c).before in omega (arith, t.loop-k-test.true)
+loop-less c = let t = before-turn (turn-of c).before in omega (arith, t.loop-test.true)
 
 loop-again : tie.Need-loop-k-preserved invariant-loop decreases-loop
 loop-again c =
     let u = turn-of c in
     let t = before-turn u.before in
-    let l = t.before.loop-k in
+    let l = t.loop-k in
     let s = start t.before in
-    let w = c.before.before.before.put_answer in
+    let w = c.put_answer in
     let k = u.turn-a.kept.1.1.1.1.1 in
     let v = l.invariant.1 in (
-      again s.args.pool.now s.args.pool-numbers.now s.args.calls.now (at-start s) s.args.answers.now
-          l.held l.k l.bytes-1 l.numbers-1 l.texts-1 l.other_bytes-1 l.other_numbers-1 l.other_texts-1 l.lines-1 l.answers-1 l.invariant.0
+      again s.args.pool.now s.args.pool_numbers.now s.args.calls.now (at-start s) s.args.answers.now
+          l.held l.k l.bytes l.numbers l.texts l.other-bytes l.other_numbers l.other_texts l.lines l.answers l.invariant.0
           s.requires.0.1 t.loop-k-test.true u.turn-a.result _ _ _ _ _ _ _ _ u.turn-a.ensures w.ensures w.auto.0 c.moved-held.result c.moved-held.ensures,
       record {
-        bytes = k.0 ∙ v.bytes-1;
-        numbers = k.1.0 ∙ v.numbers-1;
-        texts = k.1.1.0 ∙ v.texts-1;
-        other-bytes = k.1.1.1.0 ∙ v.other_bytes-1;
-        other_numbers = k.1.1.1.1.0 ∙ v.other_numbers-1;
-        other_texts = k.1.1.1.1.1.0 ∙ v.other_texts-1;
-        lines = k.1.1.1.1.1.1.0 ∙ v.lines-1;
+        bytes = k.0 ∙ v.bytes;
+        numbers = k.1.0 ∙ v.numbers;
+        texts = k.1.1.0 ∙ v.texts;
+        other-bytes = k.1.1.1.0 ∙ v.other-bytes;
+        other_numbers = k.1.1.1.1.0 ∙ v.other_numbers;
+        other_texts = k.1.1.1.1.1.0 ∙ v.other_texts;
+        lines = k.1.1.1.1.1.1.0 ∙ v.lines;
       },
     )
 
 same_length : tie.Need-shape_of-bytes invariant-loop decreases-loop
-same_length c = c.before.loop-k.invariant.1.bytes-1
+same_length c = c.loop-k.invariant.1.bytes
 
 same-length-2 : tie.Need-shape_of-numbers invariant-loop decreases-loop
-same-length-2 c = c.before.loop-k.invariant.1.numbers-1
+same-length-2 c = c.loop-k.invariant.1.numbers
 
 same-length-3 : tie.Need-shape_of-texts invariant-loop decreases-loop
-same-length-3 c = c.before.loop-k.invariant.1.texts-1
+same-length-3 c = c.loop-k.invariant.1.texts
 
 same-length-4 : tie.Need-shape_of-other_bytes invariant-loop decreases-loop
-same-length-4 c = c.before.loop-k.invariant.1.other_bytes-1
+same-length-4 c = c.loop-k.invariant.1.other-bytes
 
 same-length-5 : tie.Need-shape_of-other_numbers invariant-loop decreases-loop
-same-length-5 c = c.before.loop-k.invariant.1.other_numbers-1
+same-length-5 c = c.loop-k.invariant.1.other_numbers
 
 same-length-6 : tie.Need-shape_of-other_texts invariant-loop decreases-loop
-same-length-6 c = c.before.loop-k.invariant.1.other_texts-1
+same-length-6 c = c.loop-k.invariant.1.other_texts
 
 same-length-7 : tie.Need-shape_of-lines invariant-loop decreases-loop
-same-length-7 c = c.before.loop-k.invariant.1.lines-1
+same-length-7 c = c.loop-k.invariant.1.lines
 
 same-length-8 : tie.Need-shape_of-answers invariant-loop decreases-loop
-same-length-8 c = c.before.loop-k.invariant.0.long
+same-length-8 c = c.loop-k.invariant.0.long
 
 returns : tie.Need-returns invariant-loop decreases-loop
 returns c =
-    let l = c.before.loop-k in
+    let l = c.loop-k in
     let s = start c.before in
-    ran s.args.pool.now s.args.pool-numbers.now s.args.calls.now (at-start s) s.args.answers.now
-    l.held l.k l.bytes-1 l.numbers-1 l.texts-1 l.other_bytes-1 l.other_numbers-1 l.other_texts-1 l.lines-1 l.answers-1 l.invariant.0 s.requires.0.1 c.loop-k-test.false
+    ran s.args.pool.now s.args.pool_numbers.now s.args.calls.now (at-start s) s.args.answers.now
+    l.held l.k l.bytes l.numbers l.texts l.other-bytes l.other_numbers l.other_texts l.lines l.answers l.invariant.0 s.requires.0.1 c.loop-k-test.false
 
 pub run_all_spec : {M : Type 1} → statement M
 run_all_spec =

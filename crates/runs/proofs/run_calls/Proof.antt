@@ -23,7 +23,7 @@ given-of s = let a = s.args in given a.calls.now a.pool.now a.pool-numbers.now a
 abbrev lent-of : tie.Start → Buffers
 lent-of s =
     let a = s.args in
-    buffers (lent_of a.bytes-1.now a.numbers-1.now a.texts-1.now) (lent_of a.other_bytes-1.now a.other_numbers-1.now a.other_texts-1.now) a.lines-1.now a.answers-1.now
+    buffers (lent_of a.bytes.now a.numbers.now a.texts.now) (lent_of a.other-bytes.now a.other_numbers.now a.other_texts.now) a.lines.now a.answers.now
 
 -- once the input is checked
 abbrev start : tie.After-check_input-checked → tie.Start
@@ -31,15 +31,15 @@ start c = c.before.before.before.before.before.before.before.before.before.befor
 
 fault : (c : tie.After-check_input-checked) → settled_fault c.check_input-checked.result ≡ run_fault (given-of (start c)) (lent-of (start c))
 fault c =
-    input_fault_lem (given-of (start c)) (lent-of (start c)) c.before.before.too_long-long.result c.before.alike-same.result c.check_input-checked.result
-    c.before.before.too_long-long.ensures c.before.alike-same.ensures c.check_input-checked.ensures
+    input_fault_lem (given-of (start c)) (lent-of (start c)) c.too_long-long.result c.alike-same.result c.check_input-checked.result
+    c.too_long-long.ensures c.alike-same.ensures c.check_input-checked.ensures
 
 -- once nothing is refused
 abbrev begun : tie.In-Room → tie.Start
-begun c = start c.before.before
+begun c = start c.before
 
 none : (c : tie.In-Room) → run_fault (given-of (begun c)) (lent-of (begun c)) ≡ 0
-none c = is_room (run_fault (given-of (begun c)) (lent-of (begun c))) c.before.before.check_input-checked.result c.enum_told-1.given.1 (fault c.before.before)
+none c = is_room (run_fault (given-of (begun c)) (lent-of (begun c))) c.check_input-checked.result c.in-Room.is (fault c.before)
 
 -- once all calls are made
 abbrev ran : tie.After-bring-back-arg6 → tie.After-run_all-end
@@ -60,20 +60,18 @@ enum-known-checked c = search rules
 
 returns : tie.Need-returns-in-Refused
 returns c =
-    let k = c.before.before.before in
-    refuses (given-of (start k)) (lent-of (start k)) c.before.checked-1.given.0.0 k.check_input-checked.result c.before.checked-1.given.1 (fault k)
+    refuses (given-of (start c.before)) (lent-of (start c.before)) c.in-Refused.f c.check_input-checked.result c.in-Refused.is (fault c.before)
 
 enum_told : tie.Need-enum_told-1
 enum_told c = search rules
 
 run-all-requires : tie.Need-run_all-end-requires
 run-all-requires c κs =
-    let e = c.before.before.before.before.before.before.before.before in
-    let k = accepted (given-of (begun e)) (lent-of (begun e)) (none e) in
+    let k = accepted (given-of (begun c.before.before.before.before.before.before.before.before)) (lent-of (begun c.before.before.before.before.before.before.before.before)) (none c.before.before.before.before.before.before.before.before) in
     ((refl, k.room), (k.fit, k.sound))
 
 bring-back-requires : tie.Need-bring_back-requires
-bring-back-requires c κs = (ran c).run_all-end.ensures.sound
+bring-back-requires c κs = (ran c).run-all.ensures.sound
 
 same_length : tie.Need-shape_of-bytes
 same_length c = search rules
@@ -101,10 +99,9 @@ same-length-8 c = search rules
 
 returns-2 : tie.Need-returns
 returns-2 c =
-    let d = c.before.before.before.before.before.before in
-    let k = ran d.before in
+    let k = ran c.before.before.before.before.before.before.before in
     let e = k.before.before.before.before.before.before.before.before.before in
-    finishes (given-of (begun e)) (lent-of (begun e)) (none e) k.run_all-end.result _ _ _ _ _ _ _ _ _ _ _ _ k.run_all-end.ensures d.bring_back.ensures
+    finishes (given-of (begun e)) (lent-of (begun e)) (none e) k.run-all.result _ _ _ _ _ _ _ _ _ _ _ _ k.run-all.ensures c.bring_back.ensures
 
 pub run_calls_spec : {M : Type 1} → statement M
 run_calls_spec =

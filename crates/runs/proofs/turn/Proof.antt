@@ -19,32 +19,32 @@ abbrev start : tie.After-slice_known-7-1 → tie.Start
 start c = c.before.before.before.before.before.before.before.before.before.before
 
 abbrev job : tie.Start → Job
-job s = job_in s.args.pool.now s.args.pool-numbers.now (request_in (drop s.args.i s.args.calls.now))
+job s = job_in s.args.pool.now s.args.pool_numbers.now (request_in (drop s.args.i s.args.calls.now))
 
 abbrev first : tie.Start → Lent
 first s = lent_of s.args.bytes.now s.args.numbers.now s.args.texts.now
 
 abbrev other : tie.Start → Lent
-other s = lent_of s.args.other-bytes.now s.args.other_numbers.now s.args.other_texts.now
+other s = lent_of s.args.other_bytes.now s.args.other_numbers.now s.args.other_texts.now
 
 -- ── what is asked on the way
 slice-reshare-prefix-make-call : tie.Need-slice_bounds-make_call-end
 slice-reshare-prefix-make-call c = search rules
 
 slice-aggregate-make-call : tie.Need-slice_bounds-make_call-end-then-s
-slice-aggregate-make-call c = let k = (start c.before.before).requires.1.1 in simp length-take (omega (arith, k.bytes-1, k.like_bytes))
+slice-aggregate-make-call c = let k = (start c.before.before).requires.1.1 in simp length-take (omega (arith, k.bytes, k.like_bytes))
 
 slice-reshare-prefix-make-call-2 : tie.Need-slice_bounds-make_call-end-then-s-2
 slice-reshare-prefix-make-call-2 c = search rules
 
 slice-aggregate-make-call-2 : tie.Need-slice_bounds-make_call-end-then-s-3
-slice-aggregate-make-call-2 c = let k = (start c.before.before.before).requires.1.1 in simp length-take (omega (arith, k.numbers-1, k.like_numbers))
+slice-aggregate-make-call-2 c = let k = (start c.before.before.before).requires.1.1 in simp length-take (omega (arith, k.numbers, k.like_numbers))
 
 slice-reshare-prefix-make-call-3 : tie.Need-slice_bounds-make_call-end-then-s-4
 slice-reshare-prefix-make-call-3 c = search rules
 
 slice-aggregate-make-call-3 : tie.Need-slice_bounds-make_call-end-then-s-5
-slice-aggregate-make-call-3 c = let k = (start c.before.before.before.before).requires.1.1 in simp length-take (omega (arith, k.texts-1, k.like_texts))
+slice-aggregate-make-call-3 c = let k = (start c.before.before.before.before).requires.1.1 in simp length-take (omega (arith, k.texts, k.like_texts))
 
 make-call-requires : tie.Need-make_call-requires
 make-call-requires c κs = let s = start c.before.before.before.before.before.before.before.before in (s.requires.0, s.requires.1.0)
@@ -72,28 +72,26 @@ same-length-7 c = search rules
 
 returns : tie.Need-returns-then-s
 returns c =
-    let w = c.before.before.before.before.before.before.before.before in
-    let t = w.before.before.before.before.before.before.before.before in
-    let s = start t.before in
-    to_other (job s) s.args.s (first s) (other s) _ s.args.lines.now _ w.make_call.result t.if-s.true w.make_call.ensures
+    let s = start c.before.before.before.before.before.before.before.before.before.before.before.before.before.before.before.before.before in
+    to_other (job s) s.args.s (first s) (other s) _ s.args.lines.now _ c.make_call.result c.if1.true c.make_call.ensures
 
 slice-reshare-prefix-make-call-4 : tie.Need-slice_bounds-make_call-end-2
 slice-reshare-prefix-make-call-4 c = search rules
 
 slice-aggregate-make-call-4 : tie.Need-slice_bounds-make_call-end-3
-slice-aggregate-make-call-4 c = let k = (start c.before.before).requires.1.1 in simp length-take (omega (arith, k.bytes-1, k.like_bytes))
+slice-aggregate-make-call-4 c = let k = (start c.before.before).requires.1.1 in simp length-take (omega (arith, k.bytes, k.like_bytes))
 
 slice-reshare-prefix-make-call-5 : tie.Need-slice_bounds-make_call-end-4
 slice-reshare-prefix-make-call-5 c = search rules
 
 slice-aggregate-make-call-5 : tie.Need-slice_bounds-make_call-end-5
-slice-aggregate-make-call-5 c = let k = (start c.before.before.before).requires.1.1 in simp length-take (omega (arith, k.numbers-1, k.like_numbers))
+slice-aggregate-make-call-5 c = let k = (start c.before.before.before).requires.1.1 in simp length-take (omega (arith, k.numbers, k.like_numbers))
 
 slice-reshare-prefix-make-call-6 : tie.Need-slice_bounds-make_call-end-6
 slice-reshare-prefix-make-call-6 c = search rules
 
 slice-aggregate-make-call-6 : tie.Need-slice_bounds-make_call-end-7
-slice-aggregate-make-call-6 c = let k = (start c.before.before.before.before).requires.1.1 in simp length-take (omega (arith, k.texts-1, k.like_texts))
+slice-aggregate-make-call-6 c = let k = (start c.before.before.before.before).requires.1.1 in simp length-take (omega (arith, k.texts, k.like_texts))
 
 make-call-requires-2 : tie.Need-make_call-requires-2
 make-call-requires-2 c κs = let s = start c.before.before.before.before.before.before.before.before in (s.requires.0, s.requires.1.0)
@@ -121,10 +119,8 @@ same-length-14 c = search rules
 
 returns-2 : tie.Need-returns
 returns-2 c =
-    let w = c.before.before.before.before.before.before.before.before in
-    let t = w.before.before.before.before.before.before.before.before in
-    let s = start t.before in
-    to_first (job s) s.args.s (other s) (first s) _ s.args.lines.now _ w.make_call-2.result t.if-s.false w.make_call-2.ensures
+    let s = start c.before.before.before.before.before.before.before.before.before.before.before.before.before.before.before.before.before in
+    to_first (job s) s.args.s (other s) (first s) _ s.args.lines.now _ c.make_call-2.result c.if1.false c.make_call-2.ensures
 
 pub turn_spec : {M : Type 1} → statement M
 turn_spec =

@@ -39,9 +39,6 @@ loop-holds c = (refl, refl, refl, refl, refl, refl, refl, refl)
 mul_at : tie.Need-overflow_mul-at invariant-loop decreases-loop
 mul_at c = omega (arith, c.loop-i-test.true, (start c.before).good)
 
-slice-aggregate-write-all : tie.Need-slice-aggregate-write-all invariant-loop decreases-loop
-slice-aggregate-write-all c = search rules
-
 write-all-requires : tie.Need-write_all-requires invariant-loop decreases-loop
 write-all-requires c κs = search rules
 
@@ -62,9 +59,6 @@ part-numbers-end c = search rules
 
 numbers-requires : tie.Need-numbers-requires invariant-loop decreases-loop
 numbers-requires c κs = search rules
-
-slice-aggregate-write-all-2 : tie.Need-slice-aggregate-write-all-2 invariant-loop decreases-loop
-slice-aggregate-write-all-2 c = search rules
 
 write-all-requires-2 : tie.Need-write_all-requires-in-loop-i invariant-loop decreases-loop
 write-all-requires-2 c κs = search rules
@@ -96,32 +90,32 @@ loop-less c = omega (arith, (tested (made c)).loop-i-test.true)
 loop-again : tie.Need-loop-i-preserved invariant-loop decreases-loop
 loop-again c =
     let k = (made c).one_call-used.auto.1.1.1.1 in
-    let v = (tested (made c)).before.loop-i.invariant in
+    let v = (tested (made c)).loop-i.invariant in
     (k.0 ∙ v.0, k.1.0 ∙ v.1, k.1.1.0 ∙ v.2, k.1.1.1.0 ∙ v.3, k.1.1.1.1.0 ∙ v.4, k.1.1.1.1.1.0 ∙ v.5, k.1.1.1.1.1.1.0 ∙ v.6, k.1.1.1.1.1.1.1.0 ∙ v.7)
 
 same_length : tie.Need-shape_of-bytes invariant-loop decreases-loop
-same_length c = c.before.loop-i.invariant.0
+same_length c = c.loop-i.invariant.0
 
 same-length-2 : tie.Need-shape_of-numbers invariant-loop decreases-loop
-same-length-2 c = c.before.loop-i.invariant.1
+same-length-2 c = c.loop-i.invariant.1
 
 same-length-3 : tie.Need-shape_of-texts invariant-loop decreases-loop
-same-length-3 c = c.before.loop-i.invariant.2
+same-length-3 c = c.loop-i.invariant.2
 
 same-length-4 : tie.Need-shape_of-other_bytes invariant-loop decreases-loop
-same-length-4 c = c.before.loop-i.invariant.3
+same-length-4 c = c.loop-i.invariant.3
 
 same-length-5 : tie.Need-shape_of-other_numbers invariant-loop decreases-loop
-same-length-5 c = c.before.loop-i.invariant.4
+same-length-5 c = c.loop-i.invariant.4
 
 same-length-6 : tie.Need-shape_of-other_texts invariant-loop decreases-loop
-same-length-6 c = c.before.loop-i.invariant.5
+same-length-6 c = c.loop-i.invariant.5
 
 same-length-7 : tie.Need-shape_of-lines invariant-loop decreases-loop
-same-length-7 c = c.before.loop-i.invariant.6
+same-length-7 c = c.loop-i.invariant.6
 
 same-length-8 : tie.Need-shape_of-answers invariant-loop decreases-loop
-same-length-8 c = c.before.loop-i.invariant.7
+same-length-8 c = c.loop-i.invariant.7
 
 returns : tie.Need-returns invariant-loop decreases-loop
 returns c = search rules
@@ -134,7 +128,6 @@ each_spec =
     decreases-loop
     loop-holds
     mul_at
-    slice-aggregate-write-all
     write-all-requires
     add-numbers
     mul-numbers
@@ -142,7 +135,6 @@ each_spec =
     part-numbers-start
     part-numbers-end
     numbers-requires
-    slice-aggregate-write-all-2
     write-all-requires-2
     add-one-call
     mul-one-call

@@ -53,32 +53,32 @@ loop-less c = omega (arith, (tested (made c)).loop-i-test.true)
 loop-again : tie.Need-loop-i-preserved invariant-loop decreases-loop
 loop-again c =
     let k = (made c).refused_list.auto.1.1.1.1 in
-    let v = (tested (made c)).before.loop-i.invariant in
+    let v = (tested (made c)).loop-i.invariant in
     (k.0 ∙ v.0, k.1.0 ∙ v.1, k.1.1.0 ∙ v.2, k.1.1.1.0 ∙ v.3, k.1.1.1.1.0 ∙ v.4, k.1.1.1.1.1.0 ∙ v.5, k.1.1.1.1.1.1.0 ∙ v.6, k.1.1.1.1.1.1.1.0 ∙ v.7)
 
 same_length : tie.Need-shape_of-bytes invariant-loop decreases-loop
-same_length c = c.before.loop-i.invariant.0
+same_length c = c.loop-i.invariant.0
 
 same-length-2 : tie.Need-shape_of-numbers invariant-loop decreases-loop
-same-length-2 c = c.before.loop-i.invariant.1
+same-length-2 c = c.loop-i.invariant.1
 
 same-length-3 : tie.Need-shape_of-texts invariant-loop decreases-loop
-same-length-3 c = c.before.loop-i.invariant.2
+same-length-3 c = c.loop-i.invariant.2
 
 same-length-4 : tie.Need-shape_of-other_bytes invariant-loop decreases-loop
-same-length-4 c = c.before.loop-i.invariant.3
+same-length-4 c = c.loop-i.invariant.3
 
 same-length-5 : tie.Need-shape_of-other_numbers invariant-loop decreases-loop
-same-length-5 c = c.before.loop-i.invariant.4
+same-length-5 c = c.loop-i.invariant.4
 
 same-length-6 : tie.Need-shape_of-other_texts invariant-loop decreases-loop
-same-length-6 c = c.before.loop-i.invariant.5
+same-length-6 c = c.loop-i.invariant.5
 
 same-length-7 : tie.Need-shape_of-lines invariant-loop decreases-loop
-same-length-7 c = c.before.loop-i.invariant.6
+same-length-7 c = c.loop-i.invariant.6
 
 same-length-8 : tie.Need-shape_of-answers invariant-loop decreases-loop
-same-length-8 c = c.before.loop-i.invariant.7
+same-length-8 c = c.loop-i.invariant.7
 
 returns : tie.Need-returns invariant-loop decreases-loop
 returns c = search rules

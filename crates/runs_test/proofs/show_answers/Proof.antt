@@ -15,9 +15,6 @@ invariant-loop answers i₀ t4 i = i ≤ length answers
 abbrev decreases-loop : tie.decreases-loop-i
 decreases-loop answers i₀ t4 i = length answers - i
 
-slice-aggregate-write-all : tie.Need-slice-aggregate-write-all invariant-loop decreases-loop
-slice-aggregate-write-all c = search rules
-
 write-all-requires : tie.Need-write_all-requires invariant-loop decreases-loop
 write-all-requires c κs = search rules
 
@@ -42,9 +39,6 @@ loop-less c = search rules
 loop-again : tie.Need-loop-i-preserved invariant-loop decreases-loop
 loop-again c = search rules
 
-slice-aggregate-write-all-2 : tie.Need-slice-aggregate-write-all-2 invariant-loop decreases-loop
-slice-aggregate-write-all-2 c = search rules
-
 write-all-requires-2 : tie.Need-write_all-requires-2 invariant-loop decreases-loop
 write-all-requires-2 c κs = search rules
 
@@ -57,7 +51,6 @@ show_answers_spec =
     (tie.spec
     invariant-loop
     decreases-loop
-    slice-aggregate-write-all
     write-all-requires
     loop-holds
     mul-number
@@ -66,6 +59,5 @@ show_answers_spec =
     add-i
     loop-less
     loop-again
-    slice-aggregate-write-all-2
     write-all-requires-2
     returns)

@@ -28,9 +28,9 @@ same_length c = search rules
 
 returns : tie.Need-returns-then-add-eq0
 returns c =
-    let a = c.before.before.before.before.before.before.before.before.args in
-    let b = brought a.text.now (entries_of a.entries.now) a.own.now a.firsts-1.now a.f.end a.e _ c.before.label_more-add.ensures.0 in
-    (omega (arith, b, c.if-add-eq0.true), ((c.before.before.before.before.before.before.before.before.requires.1.1, omega arith, omega arith), not_kept a.text.now (entries_of a.entries.now) a.own.now a.firsts-1.now a.f.end a.e (sym b ∙ c.if-add-eq0.true)))
+    let a = c.args in
+    let b = brought a.text.now (entries_of a.entries.now) a.own.now a.firsts.now a.f.end a.e _ c.label_more-add.ensures.0 in
+    (omega (arith, b, c.if-add-eq0.true), ((c.requires.1.1, omega arith, omega arith), not_kept a.text.now (entries_of a.entries.now) a.own.now a.firsts.now a.f.end a.e (sym b ∙ c.if-add-eq0.true)))
 
 set-entry-requires : tie.Need-set_entry-requires
 set-entry-requires c κs = search rules
@@ -46,10 +46,10 @@ same-length-2 c = search rules
 
 returns-2 : tie.Need-returns
 returns-2 c =
-    let a = c.before.before.before.before.before.before.before.before.before.before.before.before.before.args in
-    let pre = c.before.before.before.before.before.before.before.before.before.before.before.before.before.requires in
-    let b = brought a.text.now (entries_of a.entries.now) a.own.now a.firsts-1.now a.f.end a.e _ c.before.before.before.before.before.before.label_more-add.ensures.0 in
-    (omega (arith, b), ((omega (arith, pre.1.1), omega arith, omega (arith, c.before.before.before.before.before.before.label_more-add.ensures.1)), kept a.text.now (entries_of a.entries.now) a.own.now a.firsts-1.now a.f.end a.e _ (λ z. c.before.before.before.before.before.if-add-eq0.false (b ∙ z)) pre.1.1 pre.1.0 c.before.before.before.set_entry.ensures))
+    let a = c.args in
+    let pre = c.requires in
+    let b = brought a.text.now (entries_of a.entries.now) a.own.now a.firsts.now a.f.end a.e _ c.label_more-add.ensures.0 in
+    (omega (arith, b), ((omega (arith, pre.1.1), omega arith, omega (arith, c.label_more-add.ensures.1)), kept a.text.now (entries_of a.entries.now) a.own.now a.firsts.now a.f.end a.e _ (λ z. c.if-add-eq0.false (b ∙ z)) pre.1.1 pre.1.0 c.set_entry.ensures))
 
 pub add_first_spec : {M : Type 1} → statement M
 add_first_spec =

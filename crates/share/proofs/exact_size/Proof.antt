@@ -26,24 +26,23 @@ raw-size-requires : tie.Need-raw_size-requires
 raw-size-requires c κs = search rules
 
 sub-raws : tie.Need-overflow_sub-raws
-sub-raws c = omega (arith, c.raw_size.ensures.0, c.before.before.before.before.before.requires.0.3)
+sub-raws c = omega (arith, c.raw_size.ensures.0, c.requires.0.3)
 
 raw-size-requires-2 : tie.Need-raw_size-requires-2
 raw-size-requires-2 c κs = search rules
 
 mul-raws : tie.Need-overflow_mul-raws
 mul-raws c =
-    omega (arith, product_small _ _ (start c).requires.1.3 c.raw_size-2.ensures.1, c.before.raw_size.ensures.1)
+    omega (arith, product_small _ _ (start c).requires.1.3 c.raw_size-2.ensures.1, c.raw_size.ensures.1)
 
 add-raws : tie.Need-overflow_add-raws
 add-raws c =
-    omega (arith, product_small _ _ (start c).requires.1.3 c.raw_size-2.ensures.1, c.before.raw_size.ensures.1)
+    omega (arith, product_small _ _ (start c).requires.1.3 c.raw_size-2.ensures.1, c.raw_size.ensures.1)
 
 returns : tie.Need-returns-then-raws-gt65536
 returns c =
-    let m = c.before in
-    let a = (start m).args in
-    size_raws a.text.now (entries_of a.entries.now) a.own.now (entries_of a.second.now) a.n a.gone _ _ (ap (λ (k : ℕ). k - a.gone) m.before.raw_size.ensures.0) m.raw_size-2.ensures.0 c.if-raws-gt65536.true
+    let a = (start c.before).args in
+    size_raws a.text.now (entries_of a.entries.now) a.own.now (entries_of a.second.now) a.n a.gone _ _ (ap (λ (k : ℕ). k - a.gone) c.raw_size.ensures.0) c.raw_size-2.ensures.0 c.if-raws-gt65536.true
 
 sub-more-labels : tie.Need-slice_bounds-more_labels-count
 sub-more-labels c = search rules
@@ -71,17 +70,15 @@ more-labels-requires c κs = search rules
 
 returns-2 : tie.Need-returns-then-n-eq0
 returns-2 c =
-    let l = c.before.before in
-    let m = measured l in
+    let m = measured c.before.before in
     let a = (start m).args in
-    size_alone a.text.now (entries_of a.entries.now) a.own.now (entries_of a.second.now) a.n a.gone _ _ (ap (λ (k : ℕ). k - a.gone) m.before.raw_size.ensures.0) m.raw_size-2.ensures.0 _ l.more_labels-one.ensures.0 c.if-n-eq0.true
+    size_alone a.text.now (entries_of a.entries.now) a.own.now (entries_of a.second.now) a.n a.gone _ _ (ap (λ (k : ℕ). k - a.gone) m.raw_size.ensures.0) m.raw_size-2.ensures.0 _ c.more_labels-one.ensures.0 c.if-n-eq0.true
 
 returns-3 : tie.Need-returns-then-one-gt65536
 returns-3 c =
-    let l = c.before.before.before.before in
-    let m = measured l in
+    let m = measured c.before.before.before.before in
     let a = (start m).args in
-    size_over a.text.now (entries_of a.entries.now) a.own.now (entries_of a.second.now) a.n a.gone _ _ (ap (λ (k : ℕ). k - a.gone) m.before.raw_size.ensures.0) m.raw_size-2.ensures.0 _ l.more_labels-one.ensures.0 c.if-one-gt65536.true
+    size_over a.text.now (entries_of a.entries.now) a.own.now (entries_of a.second.now) a.n a.gone _ _ (ap (λ (k : ℕ). k - a.gone) m.raw_size.ensures.0) m.raw_size-2.ensures.0 _ c.more_labels-one.ensures.0 c.if-one-gt65536.true
 
 sub-more-labels-3 : tie.Need-slice_bounds-more_labels-count-3
 sub-more-labels-3 c = search rules
@@ -100,13 +97,10 @@ more-labels-requires-2 c κs = search rules
 
 returns-4 : tie.Need-returns
 returns-4 c =
-    let o = c.before.before.before.before.before in
-    let t = o.before.before in
-    let l = t.before.before in
-    let m = measured l in
+    let m = measured c.before.before.before.before.before.before.before.before in
     let a = (start m).args in
-    size_both a.text.now (entries_of a.entries.now) a.own.now (entries_of a.second.now) a.n a.gone _ _ (ap (λ (k : ℕ). k - a.gone) m.before.raw_size.ensures.0) m.raw_size-2.ensures.0 _ l.more_labels-one.ensures.0 t.if-n-eq0.false o.if-one-gt65536.false
-    l.more_labels-one.new.1.1.1.1.1.0 l.more_labels-one.result.end l.more_labels-one.ensures.1.1 _ c.before.more_labels.ensures.0
+    size_both a.text.now (entries_of a.entries.now) a.own.now (entries_of a.second.now) a.n a.gone _ _ (ap (λ (k : ℕ). k - a.gone) m.raw_size.ensures.0) m.raw_size-2.ensures.0 _ c.more_labels.ensures.0 c.if2.false c.if3.false
+    c.more_labels.new.1.1.1.1.1.0 c.more_labels.result.end c.more_labels.ensures.1.1 _ c.more_labels.ensures.0
 
 pub exact_size_spec : {M : Type 1} → statement M
 exact_size_spec =

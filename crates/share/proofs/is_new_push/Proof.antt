@@ -11,7 +11,7 @@ cast-if1 c = search rules
 
 returns : tie.Need-returns-then-e-top
 returns c =
-    let a = c.before.before.before.before.args in
+    let a = c.args in
     not_new a.label.now a.texts.now a.e a.top c.if-e-top.true
 
 is-push-requires : tie.Need-is_push-requires
@@ -19,8 +19,8 @@ is-push-requires c κs = search rules
 
 returns-2 : tie.Need-returns
 returns-2 c =
-    let a = c.before.before.before.before.before.args in
-    new_push a.label.now a.texts.now a.e a.top _ c.before.if-e-top.false c.is_push.ensures
+    let a = c.args in
+    new_push a.label.now a.texts.now a.e a.top _ c.if-e-top.false c.is_push.ensures
 
 pub is_new_push_spec : {M : Type 1} → statement M
 is_new_push_spec = tie.close (tie.spec cast-if1 returns is-push-requires returns-2)

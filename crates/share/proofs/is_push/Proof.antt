@@ -10,7 +10,7 @@ use Rattle.share.proofs.same_text.Reads as same-text-reads
 
 returns : tie.Need-returns-then-e-ne0
 returns c =
-    let g = c.before.before.before.before.args in
+    let g = c.args in
     sym (other_kind g.label.now g.texts.now g.e c.if-e-ne0.true)
 
 cast-if2 : tie.Need-overflow_cast-e
@@ -18,8 +18,8 @@ cast-if2 c = search rules
 
 returns-2 : tie.Need-returns-then-e-label
 returns-2 c =
-    let g = c.before.before.before.before.before.before.args in
-    sym (other_length g.label.now g.texts.now g.e c.before.before.if-e-ne0.false c.if-e-label.true)
+    let g = c.args in
+    sym (other_length g.label.now g.texts.now g.e c.if-e-ne0.false c.if-e-label.true)
 
 cast-start : tie.Need-overflow_cast-start
 cast-start c = search rules
@@ -32,8 +32,8 @@ add-end c = search rules
 
 returns-3 : tie.Need-returns-then-texts-end
 returns-3 c =
-    let g = c.before.before.before.before.before.before.before.before.before.before.args in
-    sticks_out g.label.now g.texts.now g.e c.before.before.before.before.before.before.if-e-ne0.false c.before.before.before.before.if-e-label.false c.before.if-texts-end.true
+    let g = c.args in
+    sticks_out g.label.now g.texts.now g.e c.if-e-ne0.false c.if-e-label.false c.if-texts-end.true
 
 sub-same-text : tie.Need-slice_bounds-same_text-count
 sub-same-text c = search rules
@@ -49,8 +49,8 @@ same-text-requires c κs = search rules
 
 returns-4 : tie.Need-returns
 returns-4 c =
-    let g = c.before.before.before.before.before.before.before.before.before.before.before.args in
-    compared g.label.now g.texts.now g.e c.before.before.before.before.before.before.before.if-e-ne0.false c.before.before.before.before.before.if-e-label.false _ c.same_text.ensures
+    let g = c.args in
+    compared g.label.now g.texts.now g.e c.if-e-ne0.false c.if-e-label.false _ c.same_text.ensures
 
 pub is_push_spec : {M : Type 1} → statement M
 is_push_spec =

@@ -13,8 +13,8 @@ use Rattle.share.proofs.place_label.Reads as place-label-reads
 
 returns : tie.Need-returns-then-e-ne0
 returns c =
-    let a = c.before.before.before.before.before.before.args in
-    let pre = c.before.before.before.before.before.before.requires in
+    let a = c.args in
+    let pre = c.requires in
     (no_label a.text.now (entries_of a.entries.now) a.own.now (entries_of a.before.now) a.e c.if-e-ne0.true, omega arith)
 
 cast-start : tie.Need-overflow_cast-start
@@ -40,9 +40,9 @@ place-label-requires c κs = search rules
 
 returns-2 : tie.Need-returns-then-first-eq0
 returns-2 c =
-    let a = c.before.before.before.before.before.before.before.before.before.before.before.before.args in
-    let pre = c.before.before.before.before.before.before.before.before.before.before.before.before.requires in
-    (none_new a.text.now (entries_of a.entries.now) a.own.now (entries_of a.before.now) a.e c.before.before.before.before.before.before.if-e-ne0.false (take ((a.e.start + a.e.len) - a.e.start) (drop a.e.start a.own.now)) (let h : (a.e.start + a.e.len) - a.e.start ≡ a.e.len = omega arith in ap (λ (n : ℕ). take n (drop a.e.start a.own.now)) h) (sym c.before.before.place_label-first.ensures.1 ∙ c.if-first-eq0.true), omega arith)
+    let a = c.args in
+    let pre = c.requires in
+    (none_new a.text.now (entries_of a.entries.now) a.own.now (entries_of a.before.now) a.e c.if-e-ne0.false (take ((a.e.start + a.e.len) - a.e.start) (drop a.e.start a.own.now)) (let h : (a.e.start + a.e.len) - a.e.start ≡ a.e.len = omega arith in ap (λ (n : ℕ). take n (drop a.e.start a.own.now)) h) (sym c.place_label-first.ensures.1 ∙ c.if-first-eq0.true), omega arith)
 
 sub-place-label-2 : tie.Need-slice_bounds-place_label-count-2
 sub-place-label-2 c = search rules
@@ -58,12 +58,12 @@ place-label-requires-2 c κs = search rules
 
 returns-3 : tie.Need-returns
 returns-3 c =
-    let a = c.before.before.before.before.before.before.before.before.before.before.before.before.before.before.args in
-    let pre = c.before.before.before.before.before.before.before.before.before.before.before.before.before.before.requires in
+    let a = c.args in
+    let pre = c.requires in
     let l = (take ((a.e.start + a.e.len) - a.e.start) (drop a.e.start a.own.now)) in
-    let m = label_most a.text.now (entries_of a.entries.now) a.own.now (entries_of a.before.now) a.e c.before.before.before.before.before.before.before.before.if-e-ne0.false l (let h : (a.e.start + a.e.len) - a.e.start ≡ a.e.len = omega arith in ap (λ (n : ℕ). take n (drop a.e.start a.own.now)) h) in
+    let m = label_most a.text.now (entries_of a.entries.now) a.own.now (entries_of a.before.now) a.e c.if-e-ne0.false l (let h : (a.e.start + a.e.len) - a.e.start ≡ a.e.len = omega arith in ap (λ (n : ℕ). take n (drop a.e.start a.own.now)) h) in
     let r = c.place_label.ensures.1 in
-    (r ∙ some_new a.text.now (entries_of a.entries.now) a.own.now (entries_of a.before.now) a.e c.before.before.before.before.before.before.before.before.if-e-ne0.false l (let h : (a.e.start + a.e.len) - a.e.start ≡ a.e.len = omega arith in ap (λ (n : ℕ). take n (drop a.e.start a.own.now)) h) (λ z. c.before.before.if-first-eq0.false (c.before.before.before.before.place_label-first.ensures.1 ∙ z)), omega (arith, r, m, pre.1, pre.2, length-take ((a.e.start + a.e.len) - a.e.start) (drop a.e.start a.own.now), length-drop a.e.start a.own.now))
+    (r ∙ some_new a.text.now (entries_of a.entries.now) a.own.now (entries_of a.before.now) a.e c.if-e-ne0.false l (let h : (a.e.start + a.e.len) - a.e.start ≡ a.e.len = omega arith in ap (λ (n : ℕ). take n (drop a.e.start a.own.now)) h) (λ z. c.if-first-eq0.false (c.place_label-first.ensures.1 ∙ z)), omega (arith, r, m, pre.1, pre.2, length-take ((a.e.start + a.e.len) - a.e.start) (drop a.e.start a.own.now), length-drop a.e.start a.own.now))
 
 pub label_more_spec : {M : Type 1} → statement M
 label_more_spec =

@@ -10,7 +10,7 @@ use Rattle.share.proofs.exact_size.Reads as exact-size-reads
 
 returns : tie.Need-returns-then-plain-room
 returns c =
-    roomy _ _ _ c.before.before.before.before.requires.1.1 c.before.if-plain-le65536.true c.if-plain-room.true
+    roomy _ _ _ c.requires.1.1 c.if-plain-le65536.true c.if-plain-room.true
 
 sub-exact-size : tie.Need-slice_bounds-exact_size-count
 sub-exact-size c = search rules

@@ -21,9 +21,9 @@ decreases-loop size entries text more own firsts₀ k₀ f₀ firsts k f = lengt
 
 loop-holds : tie.Need-loop-k-init invariant-loop decreases-loop
 loop-holds c =
-    let a = c.before.before.before.before.before.args in
-    let pre = c.before.before.before.before.before.requires in
-    (gathered_none a.text.now (entries_of a.entries.now) a.own.now a.more.now a.size a.firsts-1.now pre.0 pre.4, search rules)
+    let a = c.args in
+    let pre = c.requires in
+    (gathered_none a.text.now (entries_of a.entries.now) a.own.now a.more.now a.size a.firsts.now pre.0 pre.4, search rules)
 
 sub-loop : tie.Need-overflow_sub-more invariant-loop decreases-loop
 sub-loop c = search rules
@@ -33,18 +33,18 @@ entry-at-requires c κs = search rules
 
 add-first-requires : tie.Need-add_first-f-requires invariant-loop decreases-loop
 add-first-requires c κs =
-    let pre = c.before.before.before.before.before.before.before.before.before.requires in
-    let l = c.before.before.before.loop-k in
-    let i = entry-inside _ _ _ _ _ _ _ _ _ l.invariant.0 c.before.before.loop-k-test.true _ c.before.entry_at-e.ensures in
-    ((pre.1, pre.2, i.0), (omega (arith, l.invariant.0.few, l.invariant.0.within, l.invariant.1, c.before.before.loop-k-test.true, pre.3), l.invariant.0.quads, l.invariant.0.low))
+    let pre = c.requires in
+    let l = c.loop-k in
+    let i = entry-inside _ _ _ _ _ _ _ _ _ l.invariant.0 c.loop-k-test.true _ c.entry_at-e.ensures in
+    ((pre.1, pre.2, i.0), (omega (arith, l.invariant.0.few, l.invariant.0.within, l.invariant.1, c.loop-k-test.true, pre.3), l.invariant.0.quads, l.invariant.0.low))
 
 same_length : tie.Need-shape_of-firsts-then-f-gt65536 invariant-loop decreases-loop
 same_length c = search rules
 
 returns : tie.Need-returns-then-f-gt65536 invariant-loop decreases-loop
 returns c =
-    let g = gathered_over _ _ _ _ _ _ _ _ _ c.before.before.before.before.before.before.before.before.loop-k.invariant.0 c.before.before.before.before.before.before.before.loop-k-test.true _ c.before.before.before.before.before.before.entry_at-e.ensures _ _ _ c.before.before.before.before.add_first-f.ensures.0 c.before.before.before.before.add_first-f.ensures.1.0 c.before.before.before.before.add_first-f.ensures.1.1 (omega (arith, c.if-f-gt65536.true)) in
-    (g.0, ((omega (arith, c.before.before.before.before.add_first-f.ensures.1.0.1, c.before.before.before.before.before.before.before.before.loop-k.invariant.0.few, c.before.before.before.before.before.before.before.loop-k-test.true, c.before.before.before.before.before.before.before.before.before.before.before.before.before.before.requires.3), omega (arith, c.before.before.before.before.add_first-f.ensures.1.0.2, c.before.before.before.before.before.before.before.before.loop-k.invariant.0.low)), g.1))
+    let g = gathered_over _ _ _ _ _ _ _ _ _ c.loop-k.invariant.0 c.loop-k-test.true _ c.entry_at-e.ensures _ _ _ c.add_first-f.ensures.0 c.add_first-f.ensures.1.0 c.add_first-f.ensures.1.1 (omega (arith, c.if-f-gt65536.true)) in
+    (g.0, ((omega (arith, c.add_first-f.ensures.1.0.1, c.loop-k.invariant.0.few, c.loop-k-test.true, c.requires.3), omega (arith, c.add_first-f.ensures.1.0.2, c.loop-k.invariant.0.low)), g.1))
 
 add-k : tie.Need-overflow_add-k invariant-loop decreases-loop
 add-k c = search rules
@@ -54,16 +54,16 @@ loop-less c = search rules
 
 loop-again : tie.Need-loop-k-preserved invariant-loop decreases-loop
 loop-again c =
-    (gathered_next _ _ _ _ _ _ _ _ _ c.before.before.before.before.before.before.before.before.loop-k.invariant.0 c.before.before.before.before.before.before.before.loop-k-test.true _ c.before.before.before.before.before.before.entry_at-e.ensures _ _ _ c.before.before.before.before.add_first-f.ensures.0 c.before.before.before.before.add_first-f.ensures.1.0 c.before.before.before.before.add_first-f.ensures.1.1 (omega (arith, c.if-f-gt65536.false)), search rules)
+    (gathered_next _ _ _ _ _ _ _ _ _ c.loop-k.invariant.0 c.loop-k-test.true _ c.entry_at-e.ensures _ _ _ c.add_first-f.ensures.0 c.add_first-f.ensures.1.0 c.add_first-f.ensures.1.1 (omega (arith, c.if-f-gt65536.false)), search rules)
 
 same-length-2 : tie.Need-shape_of-firsts invariant-loop decreases-loop
 same-length-2 c = search rules
 
 returns-2 : tie.Need-returns invariant-loop decreases-loop
 returns-2 c =
-    let i = c.before.loop-k.invariant in
+    let i = c.loop-k.invariant in
     let g = gathered_all _ _ _ _ _ _ _ _ _ i.0 c.loop-k-test.false in
-    (g.0, ((omega (arith, i.0.few, i.0.within, c.before.before.before.before.before.before.before.requires.3), omega (arith, i.0.low)), g.1))
+    (g.0, ((omega (arith, i.0.few, i.0.within, c.requires.3), omega (arith, i.0.low)), g.1))
 
 pub more_labels_spec : {M : Type 1} → statement M
 more_labels_spec =

@@ -10,7 +10,7 @@ cast-start c = search rules
 
 returns : tie.Need-returns-then-start-top
 returns c =
-    (top_same _ c.before.before.args.e c.if-start-top.true, c.before.before.requires)
+    (top_same _ c.args.e c.if-start-top.true, c.requires)
 
 cast-result : tie.Need-overflow_cast-result
 cast-result c = search rules
@@ -20,7 +20,7 @@ add-result c = search rules
 
 returns-2 : tie.Need-returns
 returns-2 c =
-    (top_more _ c.before.before.before.args.e c.before.if-start-top.false, search rules)
+    (top_more _ c.args.e c.if-start-top.false, search rules)
 
 pub next_top_spec : {M : Type 1} → statement M
 next_top_spec = tie.close (tie.spec cast-start returns cast-result add-result returns-2)

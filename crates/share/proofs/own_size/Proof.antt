@@ -13,13 +13,12 @@ use Rattle.share.proofs.text_size.Reads as text-size-reads
 
 text-size-requires : tie.Need-text_size-requires
 text-size-requires c κs =
-    let s = c.before.before in
-    let a = s.args in
-    let p = s.requires in (p.0, ((p.0.0, p.0.1, p.0.2, omega arith), rw (none_more a.text.now (entries_of a.entries.now) a.text.now (entries_of a.entries.now)) p.1))
+    let a = c.args in
+    let p = c.requires in (p.0, ((p.0.0, p.0.1, p.0.2, omega arith), rw (none_more a.text.now (entries_of a.entries.now) a.text.now (entries_of a.entries.now)) p.1))
 
 returns : tie.Need-returns
 returns c =
-    let a = c.before.before.before.args in
+    let a = c.args in
     subst (λ (k : ℕ). Stands a.room k c.text_size.result) (none_more a.text.now (entries_of a.entries.now) a.text.now (entries_of a.entries.now)) c.text_size.ensures
 
 pub own_size_spec : {M : Type 1} → statement M

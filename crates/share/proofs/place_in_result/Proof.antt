@@ -22,8 +22,8 @@ decreases-loop numbers texts label k₀ top₀ k top = length numbers - k
 
 loop-holds : tie.Need-loop-k-init invariant-loop decreases-loop
 loop-holds c =
-    let g = c.before.before.before.args in
-    (new_first g.label.now g.texts.now g.numbers.now c.before.before.before.requires.1, omega arith)
+    let g = c.args in
+    (new_first g.label.now g.texts.now g.numbers.now c.requires.1, omega arith)
 
 sub-loop : tie.Need-overflow_sub-numbers invariant-loop decreases-loop
 sub-loop c =
@@ -31,41 +31,41 @@ sub-loop c =
 
 entry-at-requires : tie.Need-entry_at-e-requires invariant-loop decreases-loop
 entry-at-requires c κs =
-    omega (arith, c.before.loop-k.invariant.0.passed.within, c.loop-k-test.true)
+    omega (arith, c.loop-k.invariant.0.passed.within, c.loop-k-test.true)
 
 is-new-push-requires : tie.Need-is_new_push-requires invariant-loop decreases-loop
 is-new-push-requires c κs = search rules
 
 returns : tie.Need-returns-then-is_new_push invariant-loop decreases-loop
 returns c =
-    let g = c.before.before.before.before.before.before.before.before.args in
-    let f = new_found g.label.now g.texts.now g.numbers.now _ _ c.before.before.before.before.loop-k.invariant.0 c.before.before.before.loop-k-test.true _ c.before.before.entry_at-e.ensures (sym c.before.is_new_push.ensures ∙ c.if-is_new_push.true) in
+    let g = c.args in
+    let f = new_found g.label.now g.texts.now g.numbers.now _ _ c.loop-k.invariant.0 c.loop-k-test.true _ c.entry_at-e.ensures (sym c.is_new_push.ensures ∙ c.if-is_new_push.true) in
     (f.0, f.1)
 
 next-top-requires : tie.Need-next_top-top-requires invariant-loop decreases-loop
 next-top-requires c κs =
-    c.before.before.before.before.loop-k.invariant.1
+    c.loop-k.invariant.1
 
 add-k : tie.Need-overflow_add-k invariant-loop decreases-loop
 add-k c =
-    omega (arith, c.before.before.before.before.before.loop-k.invariant.0.passed.within, c.before.before.before.before.loop-k-test.true, c.before.before.before.before.before.before.before.before.before.well_formed)
+    omega (arith, c.loop-k.invariant.0.passed.within, c.loop-k-test.true, c.well_formed)
 
 loop-less : tie.Need-loop-k-smaller invariant-loop decreases-loop
 loop-less c =
-    omega (arith, c.before.before.before.before.before.loop-k.invariant.0.passed.within, c.before.before.before.before.loop-k-test.true)
+    omega (arith, c.loop-k.invariant.0.passed.within, c.loop-k-test.true)
 
 loop-again : tie.Need-loop-k-preserved invariant-loop decreases-loop
 loop-again c =
-    let g = c.before.before.before.before.before.before.before.before.before.args in
-    (new_next g.label.now g.texts.now g.numbers.now _ _ c.before.before.before.before.before.loop-k.invariant.0 c.before.before.before.before.loop-k-test.true _ c.before.before.before.entry_at-e.ensures (sym c.before.before.is_new_push.ensures ∙ c.before.if-is_new_push.false) _ c.next_top-top.ensures.0, c.next_top-top.ensures.1)
+    let g = c.args in
+    (new_next g.label.now g.texts.now g.numbers.now _ _ c.loop-k.invariant.0 c.loop-k-test.true _ c.entry_at-e.ensures (sym c.is_new_push.ensures ∙ c.if-is_new_push.false) _ c.next_top-top.ensures.0, c.next_top-top.ensures.1)
 
 cast-t12 : tie.Need-overflow_cast-result invariant-loop decreases-loop
 cast-t12 c = search rules
 
 returns-2 : tie.Need-returns invariant-loop decreases-loop
 returns-2 c =
-    let g = c.before.before.before.before.before.args in
-    let f = passed_all g.label.now g.texts.now g.numbers.now _ c.before.loop-k.invariant.0.passed c.loop-k-test.false in
+    let g = c.args in
+    let f = passed_all g.label.now g.texts.now g.numbers.now _ c.loop-k.invariant.0.passed c.loop-k-test.false in
     (f.0, f.1)
 
 pub place_in_result_spec : {M : Type 1} → statement M

@@ -33,8 +33,8 @@ is-push-requires c κs = search rules
 
 returns : tie.Need-returns-then-is_push invariant-loop decreases-loop
 returns c =
-    let g = c.before.before.before.before.before.before.before.before.args in
-    let f = found g.label.now g.texts.now g.numbers.now _ c.before.before.before.before.loop-at.invariant _ c.before.before.entry_at-e.ensures (sym c.before.is_push.ensures ∙ c.if-is_push.true) in
+    let g = c.args in
+    let f = found g.label.now g.texts.now g.numbers.now _ c.loop-at.invariant _ c.entry_at-e.ensures (sym c.is_push.ensures ∙ c.if-is_push.true) in
     (f.0, f.1)
 
 add_at : tie.Need-overflow_add-at invariant-loop decreases-loop
@@ -45,16 +45,16 @@ loop-less c = search rules
 
 loop-again : tie.Need-loop-at-preserved invariant-loop decreases-loop
 loop-again c =
-    let g = c.before.before.before.before.before.before.before.before.args in
-    passed_one g.label.now g.texts.now g.numbers.now _ c.before.before.before.before.loop-at.invariant _ c.before.before.entry_at-e.ensures (omega (arith, c.before.before.before.loop-at-test.true, c.before.before.before.before.loop-at.invariant.within)) (sym c.before.is_push.ensures ∙ c.if-is_push.false)
+    let g = c.args in
+    passed_one g.label.now g.texts.now g.numbers.now _ c.loop-at.invariant _ c.entry_at-e.ensures (omega (arith, c.loop-at-test.true, c.loop-at.invariant.within)) (sym c.is_push.ensures ∙ c.if-is_push.false)
 
 cast-t11 : tie.Need-overflow_cast-result invariant-loop decreases-loop
 cast-t11 c = search rules
 
 returns-2 : tie.Need-returns invariant-loop decreases-loop
 returns-2 c =
-    let g = c.before.before.before.before.before.args in
-    let f = passed_all g.label.now g.texts.now g.numbers.now _ c.before.loop-at.invariant c.loop-at-test.false in
+    let g = c.args in
+    let f = passed_all g.label.now g.texts.now g.numbers.now _ c.loop-at.invariant c.loop-at-test.false in
     (f.0, f.1)
 
 pub place_label_spec : {M : Type 1} → statement M

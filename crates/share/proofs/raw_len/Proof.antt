@@ -10,11 +10,11 @@ cast-result c = search rules
 
 returns : tie.Need-returns-then-e-eq2
 returns c =
-    raw_len_lem c.before.before.before.args.e c.before.if-e-eq2.true
+    raw_len_lem c.args.e c.if-e-eq2.true
 
 returns-2 : tie.Need-returns
 returns-2 c =
-    no_raw c.before.before.args.e c.if-e-eq2.false
+    no_raw c.args.e c.if-e-eq2.false
 
 pub raw_len_spec : {M : Type 1} → statement M
 raw_len_spec = tie.close (tie.spec cast-result returns returns-2)

@@ -18,7 +18,7 @@ decreases-loop entries text k₀ size₀ k size = length entries - k
 
 loop-holds : tie.Need-loop-k-init invariant-loop decreases-loop
 loop-holds c =
-    raws_first _ _ c.before.before.requires.2
+    raws_first _ _ c.requires.2
 
 sub-loop : tie.Need-overflow_sub-entries invariant-loop decreases-loop
 sub-loop c = search rules
@@ -31,7 +31,7 @@ raw-len-requires c κs = search rules
 
 add-size : tie.Need-overflow_add-size invariant-loop decreases-loop
 add-size c =
-    omega (arith, raws_small _ _ _ _ c.before.before.before.loop-k.invariant c.before.before.loop-k-test.true _ c.before.entry_at-e.ensures _ c.raw_len-size.ensures c.before.before.before.before.before.before.requires.1, c.before.before.before.before.before.before.requires.0, c.before.before.loop-k-test.true)
+    omega (arith, raws_small _ _ _ _ c.loop-k.invariant c.loop-k-test.true _ c.entry_at-e.ensures _ c.raw_len-size.ensures c.requires.1, c.requires.0, c.loop-k-test.true)
 
 add-k : tie.Need-overflow_add-k invariant-loop decreases-loop
 add-k c = search rules
@@ -41,11 +41,11 @@ loop-less c = search rules
 
 loop-again : tie.Need-loop-k-preserved invariant-loop decreases-loop
 loop-again c =
-    raws_next _ _ _ _ c.before.before.before.loop-k.invariant c.before.before.loop-k-test.true _ c.before.entry_at-e.ensures _ c.raw_len-size.ensures c.before.before.before.before.before.before.requires.1
+    raws_next _ _ _ _ c.loop-k.invariant c.loop-k-test.true _ c.entry_at-e.ensures _ c.raw_len-size.ensures c.requires.1
 
 returns : tie.Need-returns invariant-loop decreases-loop
 returns c =
-    (raws_last _ _ _ _ c.before.loop-k.invariant c.loop-k-test.false, omega (arith, c.before.loop-k.invariant.small, c.before.loop-k.invariant.within, c.before.before.before.before.requires.0))
+    (raws_last _ _ _ _ c.loop-k.invariant c.loop-k-test.false, omega (arith, c.loop-k.invariant.small, c.loop-k.invariant.within, c.requires.0))
 
 pub raw_size_spec : {M : Type 1} → statement M
 raw_size_spec =

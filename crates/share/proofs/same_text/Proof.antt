@@ -17,7 +17,7 @@ decreases-loop a b i₀ i = i
 
 returns : tie.Need-returns-then-a-b invariant-loop decreases-loop
 returns c =
-    let g = c.before.args in
+    let g = c.args in
     sym (differ g.a.now g.b.now (λ e. c.if-a-b.true (ap length e)))
 
 loop-holds : tie.Need-loop-i-init invariant-loop decreases-loop
@@ -35,20 +35,20 @@ shared-slice-read-if2-2 c = search rules
 
 returns-2 : tie.Need-returns-then-a-i invariant-loop decreases-loop
 returns-2 c =
-    let g = c.before.before.before.before.before.before.args in
-    sym (differ g.a.now g.b.now (λ e. c.if-a-i.true (ap (λ (x : List ℕ). get_or x (c.before.before.before.before.loop-i.i - 1) 0) e)))
+    let g = c.args in
+    sym (differ g.a.now g.b.now (λ e. c.if-a-i.true (ap (λ (x : List ℕ). get_or x (c.loop-i.i - 1) 0) e)))
 
 loop-less : tie.Need-loop-i-smaller invariant-loop decreases-loop
 loop-less c = search rules
 
 loop-again : tie.Need-loop-i-preserved invariant-loop decreases-loop
 loop-again c =
-    tail_more _ _ _ c.before.before.before.before.loop-i.invariant c.before.before.before.loop-i-test.true c.if-a-i.false
+    tail_more _ _ _ c.loop-i.invariant c.loop-i-test.true c.if-a-i.false
 
 returns-3 : tie.Need-returns invariant-loop decreases-loop
 returns-3 c =
-    let g = c.before.before.before.args in
-    sym (alike g.a.now g.b.now (tail_all _ _ _ c.before.loop-i.invariant c.loop-i-test.false))
+    let g = c.args in
+    sym (alike g.a.now g.b.now (tail_all _ _ _ c.loop-i.invariant c.loop-i-test.false))
 
 pub same_text_spec : {M : Type 1} → statement M
 same_text_spec =

@@ -14,16 +14,16 @@ use Rattle.share.proofs.exact_size.Reads as exact-size-reads
 
 returns : tie.Need-returns-then-plain-room
 returns c =
-    roomy _ _ _ c.before.before.before.before.before.before.requires.1.1 c.before.if-plain-le65536.true c.if-plain-room.true
+    roomy _ _ _ c.requires.1.1 c.if-plain-le65536.true c.if-plain-room.true
 
 exact-size-requires : tie.Need-exact_size-requires
 exact-size-requires c κs =
-    let p = c.before.before.before.before.before.requires in
+    let p = c.requires in
     ((p.0.0, p.0.1, p.0.2, omega arith), p.1.0)
 
 returns-2 : tie.Need-returns
 returns-2 c =
-    let a = c.before.before.before.before.before.before.args in
+    let a = c.args in
     exact _ _ _
     (subst (λ (k : ℕ). Counts k c.exact_size.result) (less_none a.text.now a.own.now (entries_of a.entries.now) (entries_of a.second.now) a.n) c.exact_size.ensures)
 

@@ -26,9 +26,9 @@ part-result-end : tie.Need-slice_bounds-result-end
 part-result-end c = search rules
 
 returns : tie.Need-returns-then-e-s
-returns c = let s = c.before.before.before.before.args.s.now in let f = c.before.before.find-e in
-    part_to_end s f.result ∙ rest_none s f.result (omega (arith, c.before.if-e-s.true)) ∙ sym
-    (rest_none s (suc (length (up_to 0x20 s))) (omega (arith, f.ensures.0, c.before.if-e-s.true))) ∙ after_drop 0x20 s
+returns c = let s = c.args.s.now in let f = c.find-e in
+    part_to_end s f.result ∙ rest_none s f.result (omega (arith, c.if-e-s.true)) ∙ sym
+    (rest_none s (suc (length (up_to 0x20 s))) (omega (arith, f.ensures.0, c.if-e-s.true))) ∙ after_drop 0x20 s
 
 add-result : tie.Need-overflow_add-result
 add-result c = search rules
@@ -43,7 +43,7 @@ part-result-end-2 : tie.Need-slice_bounds-result-end-2
 part-result-end-2 c = search rules
 
 returns-2 : tie.Need-returns
-returns-2 c = let s = c.before.before.before.before.args.s.now in let f = c.before.before.find-e in
+returns-2 c = let s = c.args.s.now in let f = c.find-e in
     let e : f.result + 1 ≡ suc (length (up_to 0x20 s)) = omega (arith, f.ensures.0) in
     part_to_end s (f.result + 1) ∙ ap (λ (n : ℕ). drop n s) e ∙ after_drop 0x20 s
 

@@ -29,8 +29,8 @@ is-hex-requires : tie.Need-is_hex-requires invariant-loop decreases-loop
 is-hex-requires c κs = search rules
 
 returns : tie.Need-returns-then-not-is_hex invariant-loop decreases-loop
-returns c = let l = c.before.before.before.before in let s = l.before.before.args.s.now in sym
-    (sym l.loop-i.invariant.1 ∙ hex_next s l.loop-i.i c.before.before.before.loop-i-test.true c.before.is_hex.result c.before.is_hex.ensures
+returns c = let s = c.args.s.now in sym
+    (sym c.loop-i.invariant.1 ∙ hex_next s c.loop-i.i c.loop-i-test.true c.is_hex.result c.is_hex.ensures
     ∙ simp c.if-not-is_hex.true)
 
 add-i : tie.Need-overflow_add-i invariant-loop decreases-loop
@@ -40,15 +40,15 @@ loop-less : tie.Need-loop-i-smaller invariant-loop decreases-loop
 loop-less c = search rules
 
 loop-again : tie.Need-loop-i-preserved invariant-loop decreases-loop
-loop-again c = let l = c.before.before.before.before in let s = l.before.before.args.s.now in (
-  omega (arith, c.before.before.before.loop-i-test.true),
+loop-again c = let s = c.args.s.now in (
+  omega (arith, c.loop-i-test.true),
   sym
-      (hex_next s l.loop-i.i c.before.before.before.loop-i-test.true c.before.is_hex.result c.before.is_hex.ensures
-      ∙ simp c.if-not-is_hex.false) ∙ l.loop-i.invariant.1,
+      (hex_next s c.loop-i.i c.loop-i-test.true c.is_hex.result c.is_hex.ensures
+      ∙ simp (not_false c.is_hex.result c.if-not-is_hex.false)) ∙ c.loop-i.invariant.1,
 )
 
 returns-2 : tie.Need-returns invariant-loop decreases-loop
-returns-2 c = let l = c.before in let s = l.before.before.args.s.now in sym (ap all_hex_of (rest_none s l.loop-i.i c.loop-i-test.false)) ∙ l.loop-i.invariant.1
+returns-2 c = let s = c.args.s.now in sym (ap all_hex_of (rest_none s c.loop-i.i c.loop-i-test.false)) ∙ c.loop-i.invariant.1
 
 pub all_hex_spec : {M : Type 1} → statement M
 all_hex_spec =

@@ -10,7 +10,7 @@ use Rattle.sheet.proofs.break_of.Reads as reads
 use Rattle.sheet.proofs.break_of.Lts as lts
 
 returns : tie.Need-returns-then-s-eq0
-returns c = sym (break_none c.before.args.s.now c.if-s-eq0.true)
+returns c = sym (break_none c.args.s.now c.if-s-eq0.true)
 
 shared-slice-read-result : tie.Need-bounds-s-0
 shared-slice-read-result c = search rules

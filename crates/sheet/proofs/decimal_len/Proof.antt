@@ -25,21 +25,21 @@ loop-holds : tie.Need-loop-m-init invariant-loop decreases-loop
 loop-holds c = record { some = omega arith; small = omega arith; count = omega arith }
 
 add-k : tie.Need-overflow_add-k invariant-loop decreases-loop
-add-k c = omega (arith, c.before.loop-m.invariant.count, decimal_short c.before.before.args.n)
+add-k c = omega (arith, c.loop-m.invariant.count, decimal_short c.args.n)
 
 loop-less : tie.Need-loop-m-smaller invariant-loop decreases-loop
 loop-less c = omega arith
 
 loop-again : tie.Need-loop-m-preserved invariant-loop decreases-loop
 loop-again c =
-    let l = c.before.loop-m in
-    let less = decimal-length l.m c.loop-m-test.true (omega (arith, l.invariant.small, c.before.before.ranges.n)) in
+    let l = c.loop-m in
+    let less = decimal-length l.m c.loop-m-test.true (omega (arith, l.invariant.small, c.ranges.n)) in
     record { some = omega arith; small = omega arith; count = omega (arith, less, l.invariant.count) }
 
 returns : tie.Need-returns invariant-loop decreases-loop
 returns c =
-    let l = c.before.loop-m in
-    let n = c.before.before.args.n in
+    let l = c.loop-m in
+    let n = c.args.n in
     let e : l.k ≡ length (decimal n) = omega (arith, l.invariant.count, ap length (decimal_one l.m c.loop-m-test.false)) in
     (e, (l.invariant.some, omega (arith, e, decimal_short n)))
 

@@ -35,15 +35,13 @@ shared-slice-read-b c = search rules
 
 returns : tie.Need-returns-then-b-lt48 invariant-loop decreases-loop
 returns c =
-    let l = c.before.before.before in
-    let s = l.before.args.s.now in
-    (not_digits s (sym l.loop-i.invariant.good ∙ digit_bad s l.loop-i.i c.before.before.loop-i-test.true (below 0x30 0x39 (get_or s l.loop-i.i 0) c.if-b-lt48.true)), omega arith)
+    let s = c.args.s.now in
+    (not_digits s (sym c.loop-i.invariant.good ∙ digit_bad s c.loop-i.i c.loop-i-test.true (below 0x30 0x39 (get_or s c.loop-i.i 0) c.if-b-lt48.true)), omega arith)
 
 returns-2 : tie.Need-returns-then-b-gt57 invariant-loop decreases-loop
 returns-2 c =
-    let l = c.before.before.before.before in
-    let s = l.before.args.s.now in
-    (not_digits s (sym l.loop-i.invariant.good ∙ digit_bad s l.loop-i.i c.before.before.before.loop-i-test.true (above 0x30 0x39 (get_or s l.loop-i.i 0) c.if-b-gt57.true)), omega arith)
+    let s = c.args.s.now in
+    (not_digits s (sym c.loop-i.invariant.good ∙ digit_bad s c.loop-i.i c.loop-i-test.true (above 0x30 0x39 (get_or s c.loop-i.i 0) c.if-b-gt57.true)), omega arith)
 
 mul-n : tie.Need-overflow_mul-n invariant-loop decreases-loop
 mul-n c = search rules
@@ -56,10 +54,9 @@ add-n c = search rules
 
 returns-3 : tie.Need-returns-then-n-gt4294967295 invariant-loop decreases-loop
 returns-3 c =
-    let l = c.before.before.before.before.before in
-    let s = l.before.args.s.now in
-    let more = c.before.before.before.before.loop-i-test.true in
-    (not_small s (ap (λ (v : ℕ). leb v 4294967295) (sym l.loop-i.invariant.value ∙ value_next s l.loop-i.i more l.loop-i.n) ∙ value_big _ (drop (l.loop-i.i + 1) s) c.if-n-gt4294967295.true), omega arith)
+    let s = c.args.s.now in
+    let more = c.loop-i-test.true in
+    (not_small s (ap (λ (v : ℕ). leb v 4294967295) (sym c.loop-i.invariant.value ∙ value_next s c.loop-i.i more c.loop-i.n) ∙ value_big _ (drop (c.loop-i.i + 1) s) c.if-n-gt4294967295.true), omega arith)
 
 add-i : tie.Need-overflow_add-i invariant-loop decreases-loop
 add-i c = search rules
@@ -69,26 +66,24 @@ loop-less c = search rules
 
 loop-again : tie.Need-loop-i-preserved invariant-loop decreases-loop
 loop-again c =
-    let l = c.before.before.before.before.before in
-    let s = l.before.args.s.now in
-    let more = c.before.before.before.before.loop-i-test.true in
-    let digit = in_span 0x30 0x39 (get_or s l.loop-i.i 0) c.before.before.if-b-lt48.false c.before.if-b-gt57.false in
+    let s = c.args.s.now in
+    let more = c.loop-i-test.true in
+    let digit = in_span 0x30 0x39 (get_or s c.loop-i.i 0) c.if-b-lt48.false c.if-b-gt57.false in
     record {
       within = omega (arith, more);
       small = c.if-n-gt4294967295.false;
-      value = sym (value_next s l.loop-i.i more l.loop-i.n)
-          ∙ l.loop-i.invariant.value;
-      good = sym (digit_good s l.loop-i.i more digit) ∙ l.loop-i.invariant.good;
+      value = sym (value_next s c.loop-i.i more c.loop-i.n)
+          ∙ c.loop-i.invariant.value;
+      good = sym (digit_good s c.loop-i.i more digit) ∙ c.loop-i.invariant.good;
     }
 
 returns-4 : tie.Need-returns invariant-loop decreases-loop
 returns-4 c =
-    let l = c.before in
-    let s = l.before.args.s.now in
-    let none = rest_none s l.loop-i.i c.loop-i-test.false in (
-      all_small s l.loop-i.n (sym (sym (ap all_digits none) ∙ l.loop-i.invariant.good)) (sym (ap (value_from l.loop-i.n) none) ∙ l.loop-i.invariant.value) l.loop-i.invariant.small,
+    let s = c.args.s.now in
+    let none = rest_none s c.loop-i.i c.loop-i-test.false in (
+      all_small s c.loop-i.n (sym (sym (ap all_digits none) ∙ c.loop-i.invariant.good)) (sym (ap (value_from c.loop-i.n) none) ∙ c.loop-i.invariant.value) c.loop-i.invariant.small,
       omega
-          (arith, l.loop-i.invariant.small),
+          (arith, c.loop-i.invariant.small),
     )
 
 pub digits_spec : {M : Type 1} → statement M

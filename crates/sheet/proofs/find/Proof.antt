@@ -24,8 +24,8 @@ shared-slice-read-if1 : tie.Need-bounds-s-i invariant-loop decreases-loop
 shared-slice-read-if1 c = search rules
 
 returns : tie.Need-returns-then-s-i invariant-loop decreases-loop
-returns c = let l = c.before.before.before in let x = l.before.args in
-    (omega (arith, find_here x.c x.s.now l.loop-i.i c.before.before.loop-i-test.true c.if-s-i.true, l.loop-i.invariant.2), (l.loop-i.invariant.0, l.loop-i.invariant.1))
+returns c = let x = c.args in
+    (omega (arith, find_here x.c x.s.now c.loop-i.i c.loop-i-test.true c.if-s-i.true, c.loop-i.invariant.2), (c.loop-i.invariant.0, c.loop-i.invariant.1))
 
 add-i : tie.Need-overflow_add-i invariant-loop decreases-loop
 add-i c = search rules
@@ -34,15 +34,15 @@ loop-less : tie.Need-loop-i-smaller invariant-loop decreases-loop
 loop-less c = search rules
 
 loop-again : tie.Need-loop-i-preserved invariant-loop decreases-loop
-loop-again c = let l = c.before.before.before in let x = l.before.args in (
-  omega (arith, l.loop-i.invariant.0),
-  omega (arith, c.before.before.loop-i-test.true),
+loop-again c = let x = c.args in (
+  omega (arith, c.loop-i.invariant.0),
+  omega (arith, c.loop-i-test.true),
   omega
-      (arith, find_on x.c x.s.now l.loop-i.i c.before.before.loop-i-test.true c.if-s-i.false, l.loop-i.invariant.2),
+      (arith, find_on x.c x.s.now c.loop-i.i c.loop-i-test.true c.if-s-i.false, c.loop-i.invariant.2),
 )
 
 returns-2 : tie.Need-returns invariant-loop decreases-loop
-returns-2 c = let l = c.before in let x = l.before.args in (omega (arith, find_none x.c x.s.now l.loop-i.i c.loop-i-test.false, l.loop-i.invariant.2), (l.loop-i.invariant.0, l.loop-i.invariant.1))
+returns-2 c = let x = c.args in (omega (arith, find_none x.c x.s.now c.loop-i.i c.loop-i-test.false, c.loop-i.invariant.2), (c.loop-i.invariant.0, c.loop-i.invariant.1))
 
 pub find_spec : {M : Type 1} → statement M
 find_spec =

@@ -25,7 +25,7 @@ part-result-end : tie.Need-slice_bounds-result-end
 part-result-end c = search rules
 
 returns : tie.Need-returns
-returns c = let s = c.before.before.before.args.s.now in let f = c.before.find-e in let e : f.result - 0 ≡ length (up_to 0x20 s) = omega (arith, f.ensures.0) in rw e (up_to_take 0x20 s)
+returns c = let s = c.args.s.now in let f = c.find-e in let e : f.result - 0 ≡ length (up_to 0x20 s) = omega (arith, f.ensures.0) in rw e (up_to_take 0x20 s)
 
 pub first_field_spec : {M : Type 1} → statement M
 first_field_spec =

@@ -12,16 +12,16 @@ use Rattle.sheet.proofs.is_break.Reads as reads
 use Rattle.sheet.proofs.is_break.Lts as lts
 
 returns : tie.Need-returns-then-s-ne1
-returns c = sym (break_long c.before.args.s.now c.if-s-ne1.true)
+returns c = sym (break_long c.args.s.now c.if-s-ne1.true)
 
 shared-slice-read-b : tie.Need-bounds-s-0
 shared-slice-read-b c = search rules
 
 returns-2 : tie.Need-returns-then-b-lt48
-returns-2 c = let s = c.before.before.before.args.s.now in sym (break_one s c.before.before.if-s-ne1.false ∙ below 0x30 0x31 (get_or s 0 0) c.if-b-lt48.true)
+returns-2 c = let s = c.args.s.now in sym (break_one s c.if-s-ne1.false ∙ below 0x30 0x31 (get_or s 0 0) c.if-b-lt48.true)
 
 returns-3 : tie.Need-returns
-returns-3 c = let s = c.before.before.before.args.s.now in sym (break_one s c.before.before.if-s-ne1.false ∙ simp (le-leb 0x30 (get_or s 0 0) c.if-b-lt48.false))
+returns-3 c = let s = c.args.s.now in sym (break_one s c.if-s-ne1.false ∙ simp (le-leb 0x30 (get_or s 0 0) c.if-b-lt48.false))
 
 pub is_break_spec : {M : Type 1} → statement M
 is_break_spec = tie.close (tie.spec returns shared-slice-read-b returns-2 returns-3)

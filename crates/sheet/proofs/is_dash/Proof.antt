@@ -9,13 +9,13 @@ use Rattle.sheet.proofs.is_dash.Reads as reads
 use Rattle.sheet.proofs.is_dash.Lts as lts
 
 returns : tie.Need-returns-then-s-ne1
-returns c = sym (dash_long c.before.args.s.now c.if-s-ne1.true)
+returns c = sym (dash_long c.args.s.now c.if-s-ne1.true)
 
 shared-slice-read-result : tie.Need-bounds-s-0
 shared-slice-read-result c = search rules
 
 returns-2 : tie.Need-returns
-returns-2 c = let s = c.before.before.args.s.now in sym (dash_one s c.before.if-s-ne1.false)
+returns-2 c = let s = c.args.s.now in sym (dash_one s c.if-s-ne1.false)
 
 pub is_dash_spec : {M : Type 1} → statement M
 is_dash_spec = tie.close (tie.spec returns shared-slice-read-result returns-2)

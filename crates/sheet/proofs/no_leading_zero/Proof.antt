@@ -9,16 +9,16 @@ use Rattle.sheet.proofs.no_leading_zero.Reads as reads
 use Rattle.sheet.proofs.no_leading_zero.Lts as lts
 
 returns : tie.Need-returns-then-s-eq0
-returns c = sym (zero_none c.before.args.s.now c.if-s-eq0.true)
+returns c = sym (zero_none c.args.s.now c.if-s-eq0.true)
 
 returns-2 : tie.Need-returns-then-s-eq1
-returns-2 c = sym (zero_one c.before.before.args.s.now c.if-s-eq1.true)
+returns-2 c = sym (zero_one c.args.s.now c.if-s-eq1.true)
 
 shared-slice-read-result : tie.Need-bounds-s-0
 shared-slice-read-result c = search rules
 
 returns-3 : tie.Need-returns
-returns-3 c = sym (zero_more c.before.before.before.args.s.now c.before.before.if-s-eq0.false c.before.if-s-eq1.false)
+returns-3 c = sym (zero_more c.args.s.now c.if-s-eq0.false c.if-s-eq1.false)
 
 pub no_leading_zero_spec : {M : Type 1} → statement M
 no_leading_zero_spec = tie.close (tie.spec returns returns-2 shared-slice-read-result returns-3)

@@ -70,8 +70,7 @@ loop-holds c = record { done = []; holds = sym (over_none _ _); whole = append-n
 
 sub-i : tie.Need-overflow_sub-i invariant-loop decreases-loop
 sub-i c =
-    let a = c.before.before.before.before in
-    some _ _ _ _ _ _ c.before.loop-m.invariant a.requires c.loop-m-test.true (omega (arith, a.ranges.n))
+    some _ _ _ _ _ _ c.loop-m.invariant c.requires c.loop-m-test.true (omega (arith, c.ranges.n))
 
 cast-out : tie.Need-overflow_cast-out invariant-loop decreases-loop
 cast-out c = search rules
@@ -81,17 +80,15 @@ add-out c = search rules
 
 slice-write-out : tie.Need-bounds-out-i invariant-loop decreases-loop
 slice-write-out c =
-    let a = c.before.before.before.before in
-    let s = c.before.loop-m.invariant in
-    omega (arith, some _ _ _ _ _ _ s a.requires c.loop-m-test.true (omega (arith, a.ranges.n)), inside _ _ _ _ _ _ s a.requires, s.long)
+    let s = c.loop-m.invariant in
+    omega (arith, some _ _ _ _ _ _ s c.requires c.loop-m-test.true (omega (arith, c.ranges.n)), inside _ _ _ _ _ _ s c.requires, s.long)
 
 loop-less : tie.Need-loop-m-smaller invariant-loop decreases-loop
 loop-less c = search rules
 
 loop-again : tie.Need-loop-m-preserved invariant-loop decreases-loop
 loop-again c =
-    let a = c.before.before.before.before in
-    step _ _ _ _ _ _ c.before.loop-m.invariant a.requires c.loop-m-test.true (omega (arith, a.ranges.n))
+    step _ _ _ _ _ _ c.loop-m.invariant c.requires c.loop-m-test.true (omega (arith, c.ranges.n))
 
 cast-out-2 : tie.Need-overflow_cast-out-2 invariant-loop decreases-loop
 cast-out-2 c = search rules
@@ -107,8 +104,7 @@ same_length c = search rules
 
 returns : tie.Need-returns invariant-loop decreases-loop
 returns c =
-    let a = c.before.before.before.before in
-    (search rules, last _ _ _ _ _ _ c.before.loop-m.invariant a.requires c.loop-m-test.false)
+    (search rules, last _ _ _ _ _ _ c.loop-m.invariant c.requires c.loop-m-test.false)
 
 pub put_decimal_spec : {M : Type 1} → statement M
 put_decimal_spec =

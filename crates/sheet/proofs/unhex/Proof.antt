@@ -69,21 +69,20 @@ loop-less c = search rules
 
 loop-again : tie.Need-loop-k-preserved invariant-loop decreases-loop
 loop-again c =
-    let l = c.before.before.before.before.before in
-    let x = l.before.before.before.args in
+    let x = c.args in
     let s = x.s.now in
-    let i = l.loop-k.invariant in
-    let k = l.loop-k.k in
-    let more = c.before.before.before.before.loop-k-test.true in
-    let v : c.before.before.nibble.result * 16 + c.nibble-in-loop-k.result ≡ get_or (from_pairs s) k 0 =
-    rw (c.before.before.nibble.ensures.0, c.nibble-in-loop-k.ensures.0) (sym (pair_at s k (omega (arith, more, i.count)))) in
+    let i = c.loop-k.invariant in
+    let k = c.loop-k.k in
+    let more = c.loop-k-test.true in
+    let v : c.nibble.result * 16 + c.nibble-in-loop-k.result ≡ get_or (from_pairs s) k 0 =
+    rw (c.nibble.ensures.0, c.nibble-in-loop-k.ensures.0) (sym (pair_at s k (omega (arith, more, i.count)))) in
     let stored = store_next (from_pairs s) x.out.now k (omega (arith, length_pairs s, more, i.count)) (omega (arith, more, i.room)) in
     record {
       count = i.count;
       within = omega (arith, more);
       room = i.room;
       long = search rules;
-      holds = ap (λ (o : List ℕ). set o k (c.before.before.nibble.result * 16 + c.nibble-in-loop-k.result)) i.holds ∙ ap (set (take k (from_pairs s) ++ drop k x.out.now) k) v ∙ stored;
+      holds = ap (λ (o : List ℕ). set o k (c.nibble.result * 16 + c.nibble-in-loop-k.result)) i.holds ∙ ap (set (take k (from_pairs s) ++ drop k x.out.now) k) v ∙ stored;
     }
 
 same_length : tie.Need-shape_of-out invariant-loop decreases-loop
@@ -92,12 +91,11 @@ same_length c = search rules
 returns : tie.Need-returns invariant-loop decreases-loop
 unfolding data_of over
 returns c =
-    let l = c.before in
-    let x = l.before.before.before.args in
+    let x = c.args in
     let s = x.s.now in
-    let i = l.loop-k.invariant in
+    let i = c.loop-k.invariant in
     let p = from_pairs s in
-    let e : l.loop-k.k ≡ length p = omega (arith, i.within, i.count, length_pairs s, c.loop-k-test.false) in
+    let e : c.loop-k.k ≡ length p = omega (arith, i.within, i.count, length_pairs s, c.loop-k-test.false) in
     ((omega (arith, length_pairs s), refl), i.holds ∙ ap (λ (j : ℕ). take j p ++ drop j x.out.now) e ∙ ap (λ (q : List ℕ). q ++ drop (length p) x.out.now) (take-length p))
 
 pub unhex_spec : {M : Type 1} → statement M

@@ -23,13 +23,12 @@ start c = c.before.before.before
 
 next-tab-requires : tie.Need-next_tab-p-requires invariant-loop decreases-loop
 next-tab-requires c κs =
-    let p = c.before.requires in
+    let p = c.requires in
     (p.0, (omega arith, p.1.2, omega arith))
 
 loop-holds : tie.Need-loop-p-init invariant-loop decreases-loop
 loop-holds c =
-    let s = c.before.before in
-    measured_first s.args.stop s.requires.1.0 s.requires.1.1 s.args.content.now c.next_tab-p.result s.requires.1.2 c.next_tab-p.ensures
+    measured_first c.args.stop c.requires.1.0 c.requires.1.1 c.args.content.now c.next_tab-p.result c.requires.1.2 c.next_tab-p.ensures
 
 spaces-at-requires : tie.Need-spaces_at-n-requires invariant-loop decreases-loop
 spaces-at-requires c κs = (start c.before.before).requires.1.0
@@ -41,45 +40,40 @@ cast-size : tie.Need-overflow_cast-size invariant-loop decreases-loop
 cast-size c = search rules
 
 add-size : tie.Need-overflow_add-size invariant-loop decreases-loop
-add-size c = omega (arith, c.before.before.before.loop-p.invariant.small, c.spaces_at-n.ensures.2, (start c.before.before.before).requires.1.1)
+add-size c = omega (arith, c.loop-p.invariant.small, c.spaces_at-n.ensures.2, (start c.before.before.before).requires.1.1)
 
 returns : tie.Need-returns-then-size-gt1048576 invariant-loop decreases-loop
 returns c =
-    let l = c.before.before.before.before in
-    let s = start l in
-    measured_over s.args.stop s.requires.1.0 s.requires.1.1 s.args.content.now l.loop-p.size l.loop-p.p l.loop-p.invariant (omega (arith, c.before.before.loop-p-test.true))
-    c.before.spaces_at-n.result c.before.spaces_at-n.ensures.0 (omega (arith, c.if-size-gt1048576.true))
+    let s = start c.before.before.before.before in
+    measured_over s.args.stop s.requires.1.0 s.requires.1.1 s.args.content.now c.loop-p.size c.loop-p.p c.loop-p.invariant (omega (arith, c.loop-p-test.true))
+    c.spaces_at-n.result c.spaces_at-n.ensures.0 (omega (arith, c.if-size-gt1048576.true))
 
 add-next-tab : tie.Need-overflow_add-p invariant-loop decreases-loop
-add-next-tab c = omega (arith, c.before.before.before.before.before.loop-p.invariant.here.within, (start c.before.before.before.before.before).requires.1.2)
+add-next-tab c = omega (arith, c.loop-p.invariant.here.within, (start c.before.before.before.before.before).requires.1.2)
 
 add-next-tab-2 : tie.Need-overflow_add-p-in-loop-p invariant-loop decreases-loop
 add-next-tab-2 c =
-    let l = c.before.before.before.before.before.before in
-    let s = start l in
-    omega (arith, l.loop-p.invariant.here.within, l.loop-p.invariant.here.bounded, s.requires.1.1, s.requires.1.2, c.before.before.before.spaces_at-n.ensures.2)
+    let s = start c.before.before.before.before.before.before in
+    omega (arith, c.loop-p.invariant.here.within, c.loop-p.invariant.here.bounded, s.requires.1.1, s.requires.1.2, c.spaces_at-n.ensures.2)
 
 next-tab-requires-2 : tie.Need-next_tab-p-requires-in-loop-p invariant-loop decreases-loop
 next-tab-requires-2 c κs =
-    let l = c.before.before.before.before.before.before in
-    let s = start l in
-    (s.requires.0, (omega (arith, c.before.before.before.before.loop-p-test.true), s.requires.1.2, omega (arith, l.loop-p.invariant.here.bounded, s.requires.1.1, c.before.before.before.spaces_at-n.ensures.2)))
+    let s = start c.before.before.before.before.before.before in
+    (s.requires.0, (omega (arith, c.loop-p-test.true), s.requires.1.2, omega (arith, c.loop-p.invariant.here.bounded, s.requires.1.1, c.spaces_at-n.ensures.2)))
 
 loop-less : tie.Need-loop-p-smaller invariant-loop decreases-loop
-loop-less c = omega (arith, c.next_tab-p-in-loop-p.ensures.onward.forward, c.before.before.before.before.before.loop-p-test.true)
+loop-less c = omega (arith, c.next_tab-p-in-loop-p.ensures.onward.forward, c.loop-p-test.true)
 
 loop-again : tie.Need-loop-p-preserved invariant-loop decreases-loop
 loop-again c =
-    let l = c.before.before.before.before.before.before.before in
-    let s = start l in
-    measured_next s.args.stop s.requires.1.0 s.requires.1.1 s.args.content.now l.loop-p.size l.loop-p.p l.loop-p.invariant (omega (arith, c.before.before.before.before.before.loop-p-test.true))
-    c.before.before.before.before.spaces_at-n.result c.before.before.before.before.spaces_at-n.ensures.0 c.next_tab-p-in-loop-p.result c.next_tab-p-in-loop-p.ensures (omega (arith, c.before.before.before.if-size-gt1048576.false))
+    let s = start c.before.before.before.before.before.before.before in
+    measured_next s.args.stop s.requires.1.0 s.requires.1.1 s.args.content.now c.loop-p.size c.loop-p.p c.loop-p.invariant (omega (arith, c.loop-p-test.true))
+    c.spaces_at-n.result c.spaces_at-n.ensures.0 c.next_tab-p-in-loop-p.result c.next_tab-p-in-loop-p.ensures (omega (arith, c.if-size-gt1048576.false))
 
 returns-2 : tie.Need-returns invariant-loop decreases-loop
 returns-2 c =
-    let l = c.before.before in
-    let s = start l in
-    measured_end s.args.stop s.requires.1.0 s.requires.1.1 s.args.content.now l.loop-p.size l.loop-p.p l.loop-p.invariant (omega (arith, c.loop-p-test.false))
+    let s = start c.before.before in
+    measured_end s.args.stop s.requires.1.0 s.requires.1.1 s.args.content.now c.loop-p.size c.loop-p.p c.loop-p.invariant (omega (arith, c.loop-p-test.false))
 
 pub expanded_len_spec : {M : Type 1} → statement M
 expanded_len_spec =

@@ -18,34 +18,30 @@ abbrev decreases-loop : tie.decreases-loop-at
 decreases-loop t s from column at₀ c₀ at c = length s - at
 
 pass-printable-requires : tie.Need-pass_printable-q-requires invariant-loop decreases-loop
-pass-printable-requires c κs = c.before.requires.1
+pass-printable-requires c κs = c.requires.1
 
 loop-holds : tie.Need-loop-at-init invariant-loop decreases-loop
 loop-holds c = c.pass_printable-q.ensures
 
 shared-slice-read-if1 : tie.Need-bounds-s-at invariant-loop decreases-loop
-shared-slice-read-if1 c = omega (arith, c.before.loop-at-test)
+shared-slice-read-if1 c = omega (arith, c.loop-at-test)
 
 returns : tie.Need-returns-then-s-at-eq9 invariant-loop decreases-loop
-returns c = record { onward = c.before.before.before.loop-at.invariant; stands = λ h. c.if-s-at-eq9.true }
+returns c = record { onward = c.loop-at.invariant; stands = λ h. c.if-s-at-eq9.true }
 
 pass-requires : tie.Need-pass-p-requires invariant-loop decreases-loop
 pass-requires c κs =
-    let l = c.before.before.before in
-    let s = l.before.before.before in
-    (s.requires.0, (omega (arith, c.before.before.loop-at-test), s.requires.1.1, l.loop-at.invariant.bounded, c.if-s-at-eq9.false))
+    (c.requires.0, (omega (arith, c.loop-at-test), c.requires.1.1, c.loop-at.invariant.bounded, c.if-s-at-eq9.false))
 
 loop-less : tie.Need-loop-at-smaller invariant-loop decreases-loop
-loop-less c = omega (arith, c.pass-p.ensures.further, c.before.before.before.loop-at-test)
+loop-less c = omega (arith, c.pass-p.ensures.further, c.loop-at-test)
 
 loop-again : tie.Need-loop-at-preserved invariant-loop decreases-loop
 loop-again c =
-    let l = c.before.before.before.before in
-    let s = l.before.before.before in
-    onward_then s.args.s.now s.args.from s.args.column (place l.loop-at.at l.loop-at.c) c.pass-p.result l.loop-at.invariant c.pass-p.ensures.onward
+    onward_then c.args.s.now c.args.from c.args.column (place c.loop-at.at c.loop-at.c) c.pass-p.result c.loop-at.invariant c.pass-p.ensures.onward
 
 returns-2 : tie.Need-returns invariant-loop decreases-loop
-returns-2 c = record { onward = c.before.loop-at.invariant; stands = λ h. absurd (omega (arith, h, c.loop-at-test.false)) }
+returns-2 c = record { onward = c.loop-at.invariant; stands = λ h. absurd (omega (arith, h, c.loop-at-test.false)) }
 
 pub next_tab_spec : {M : Type 1} → statement M
 next_tab_spec =

@@ -52,13 +52,12 @@ enum_told c = search rules
 returns : tie.Need-returns-in-Room
 unfolding settled_fault
 returns c =
-    let k = c.before.before.before in
-    let s = start k in
+    let s = start c.before.before in
     let a = s.args in
-    let h = sym c.before.before.settle-verdict.ensures ∙ ap settled_fault c.enum_told-1.given.1 in
+    let h = sym c.settle-verdict.ensures ∙ ap settled_fault c.in-Room.is in
     let most = size_most a.stop s.requires.1.0 s.requires.1.1 a.content.now in
     sym (smaller_fits (length (edit_data (tab_ops a.stop 0 (chars a.content.now)) a.content.now)) _ a.e a.size 0 0 (room_of_state a.bytes a.numbers a.texts 0) h
-    (rw (← k.tab_count.ensures.0) at most) (omega arith))
+    (rw (← c.tab_count.ensures.0) at most) (omega arith))
 
 enum-known-verdict : tie.Need-enum_known-verdict
 enum-known-verdict c = search rules
@@ -71,8 +70,8 @@ settle-requires-2 c κs = search rules
 
 returns-2 : tie.Need-returns
 returns-2 c =
-    let a = c.before.before.before.before.before.before.before.before.args in
-    c.settle.ensures ∙ ap (λ (m : ℕ). sizes_fault m a.e a.size 0 (room_of_state a.bytes a.numbers a.texts 0)) c.before.expanded_len-d.ensures
+    let a = c.args in
+    c.settle.ensures ∙ ap (λ (m : ℕ). sizes_fault m a.e a.size 0 (room_of_state a.bytes a.numbers a.texts 0)) c.expanded_len-d.ensures
     ∙ capped_fault (length (edit_data (tab_ops a.stop 0 (chars a.content.now)) a.content.now)) a.e a.size 0 (room_of_state a.bytes a.numbers a.texts 0)
 
 pub settle_expanded_spec : {M : Type 1} → statement M

@@ -29,10 +29,8 @@ one-tab-requires c κs = search rules
 
 add-n : tie.Need-overflow_add-n invariant-loop decreases-loop
 add-n c =
-    let l = c.before.before.before in
-    let s = l.before.before in
-    let k = count_next s.args.s.now l.loop-i.i (omega (arith, c.before.before.loop-i-test)) in
-    omega (arith, l.loop-i.invariant.0, l.loop-i.invariant.1, c.one_tab-n.ensures, k.1, s.well_formed)
+    let k = count_next c.args.s.now c.loop-i.i (omega (arith, c.loop-i-test)) in
+    omega (arith, c.loop-i.invariant.0, c.loop-i.invariant.1, c.one_tab-n.ensures, k.1, c.well_formed)
 
 add-i : tie.Need-overflow_add-i invariant-loop decreases-loop
 add-i c = search rules
@@ -42,15 +40,13 @@ loop-less c = search rules
 
 loop-again : tie.Need-loop-i-preserved invariant-loop decreases-loop
 loop-again c =
-    let l = c.before.before.before in
-    let k = count_next l.before.before.args.s.now l.loop-i.i (omega (arith, c.before.before.loop-i-test)) in
-    (omega (arith, c.before.before.loop-i-test), omega (arith, l.loop-i.invariant.1, k.1, c.one_tab-n.ensures), omega (arith, l.loop-i.invariant.2, k.0, c.one_tab-n.ensures))
+    let k = count_next c.args.s.now c.loop-i.i (omega (arith, c.loop-i-test)) in
+    (omega (arith, c.loop-i-test), omega (arith, c.loop-i.invariant.1, k.1, c.one_tab-n.ensures), omega (arith, c.loop-i.invariant.2, k.0, c.one_tab-n.ensures))
 
 returns : tie.Need-returns invariant-loop decreases-loop
 returns c =
-    let l = c.before in
-    let z = count_end c.before.before.before.args.s.now l.loop-i.i (omega (arith, c.loop-i-test.false)) in
-    (omega (arith, l.loop-i.invariant.2, z), omega (arith, l.loop-i.invariant.0, l.loop-i.invariant.1))
+    let z = count_end c.args.s.now c.loop-i.i (omega (arith, c.loop-i-test.false)) in
+    (omega (arith, c.loop-i.invariant.2, z), omega (arith, c.loop-i.invariant.0, c.loop-i.invariant.1))
 
 pub tab_count_spec : {M : Type 1} → statement M
 tab_count_spec =

@@ -41,26 +41,26 @@ abbrev lent : tie.Start → Lent
 lent s = lent_of s.args.bytes.now s.args.numbers.now s.args.texts.now
 
 -- once the content is checked
-abbrev start : tie.In-Fine-2 → tie.Start
+abbrev start : tie.In-Fine → tie.Start
 start c = c.before.before.before.before.before.before.before.before.before
 
-abbrev size : tie.In-Fine-2 → ℕ
-size c = c.checked-in-Fine-1.given.0.0
+abbrev size : tie.In-Fine → ℕ
+size c = c.in-Fine.n
 
-fine : (c : tie.In-Fine-2) → Fine (ds (start c)) (ns (start c)) (ts (start c)) (size c)
+fine : (c : tie.In-Fine) → Fine (ds (start c)) (ns (start c)) (ts (start c)) (size c)
 fine c =
     let s = start c in
-    let k = c.before.before.check-checked in
-    content_fine (call s) (ds s) (ns s) (ts s) (lent s) k.result k.ensures.0 k.ensures.1.0 k.ensures.1.1 (size c) c.checked-in-Fine-1.given.1
+    let k = c.check-checked in
+    content_fine (call s) (ds s) (ns s) (ts s) (lent s) k.result k.ensures.0 k.ensures.1.0 k.ensures.1.1 (size c) c.in-Fine.is
 
 -- once the stop is known to be fine
-abbrev checked : tie.Else-stop-gt64 → tie.In-Fine-2
-checked c = c.before.before.before
+abbrev checked : tie.Else-stop-gt64 → tie.In-Fine
+checked c = c.before.before
 
 good : (c : tie.Else-stop-gt64) → (1 ≤ (start (checked c)).args.stop) × ((start (checked c)).args.stop ≤ 64) × (single_fault (call (start (checked c))) (ds (start (checked c))) ≡ 0)
 good c =
     let n = (start (checked c)).args.stop in
-    let low : 1 ≤ n = omega (arith, c.before.if-stop-eq0.false) in
+    let low : 1 ≤ n = omega (arith, c.if-stop-eq0.false) in
     let high : n ≤ 64 = omega (arith, c.if-stop-gt64.false) in
     (low, high, stop_fine n low high)
 
@@ -80,24 +80,21 @@ enum-known-checked c = search rules
 
 returns : tie.Need-returns-in-Refused
 returns c =
-    let s = c.before.before.before.before.before.before.before.before.before.before in
-    let k = c.before.before.before.check-checked in
-    content-refused (call s) (ds s) (ns s) (ts s) (lent s) k.result k.ensures.0 c.before.checked-1.given.0.0 c.before.checked-1.given.1
+    let k = c.check-checked in
+    content-refused (call c.before.before.before.before.before.before.before.before) (ds c.before.before.before.before.before.before.before.before) (ns c.before.before.before.before.before.before.before.before) (ts c.before.before.before.before.before.before.before.before) (lent c.before.before.before.before.before.before.before.before) k.result k.ensures.0 c.in-Refused.f c.in-Refused.is
 
 enum-known-checked-2 : tie.Need-enum_known-checked-in-Fine-1
 enum-known-checked-2 c = search rules
 
 returns-2 : tie.Need-returns-then-stop-eq0
 returns-2 c =
-    let k = c.before.before in
-    let s = start k in
-    own_refused (call s) (ds s) (ns s) (ts s) (lent s) (fine k).passed TabStop (stop_zero s.args.stop c.if-stop-eq0.true)
+    let s = start c.before in
+    own_refused (call s) (ds s) (ns s) (ts s) (lent s) (fine c.before).passed TabStop (stop_zero s.args.stop c.if-stop-eq0.true)
 
 returns-3 : tie.Need-returns-then-stop-gt64
 returns-3 c =
-    let k = c.before.before.before in
-    let s = start k in
-    own_refused (call s) (ds s) (ns s) (ts s) (lent s) (fine k).passed TabStop (stop_over s.args.stop (omega (arith, c.if-stop-gt64.true)))
+    let s = start c.before.before in
+    own_refused (call s) (ds s) (ns s) (ts s) (lent s) (fine c.before.before).passed TabStop (stop_over s.args.stop (omega (arith, c.if-stop-gt64.true)))
 
 own-size-requires : tie.Need-own_size-shared-requires
 own-size-requires c κs =
@@ -117,11 +114,10 @@ enum-known-verdict c = search rules
 
 returns-4 : tie.Need-returns-in-Refused-verdict
 returns-4 c =
-    let p = c.before.before.before in
-    let k = checked (tested p) in
+    let k = checked (tested c.before) in
     let s = start k in
-    sizes_refused (call s) (ds s) (ns s) (ts s) (lent s) (fine k).passed (good (tested p)).2 _ _ 0 refl (measured p).own_size-shared.ensures refl p.settle_expanded-verdict.result p.settle_expanded-verdict.ensures
-    c.before.verdict-1.given.0.0 c.before.verdict-1.given.1
+    sizes_refused (call s) (ds s) (ns s) (ts s) (lent s) (fine k).passed (good (tested c.before)).2 _ _ 0 refl (measured c.before).own_size-shared.ensures refl c.settle_expanded-verdict.result c.settle_expanded-verdict.ensures
+    c.in-Refused-verdict.f c.in-Refused-verdict.is
 
 enum_told : tie.Need-enum_told-1
 enum_told c = search rules
@@ -138,12 +134,11 @@ part-put-expanded-end c = search rules
 put-expanded-requires : tie.Need-put_expanded-c-requires
 unfolding lead_table
 put-expanded-requires c κs =
-    let p = c.before.before.before.before.before.before.before.before in
-    let k = checked (tested p) in
+    let k = checked (tested c.before.before.before.before.before.before.before) in
     let s = start k in
-    let g = good (tested p) in
-    let room = has_room (call s) (ds s) (ns s) (ts s) (lent s) (fine k).passed (good (tested p)).2 _ _ 0 refl (measured p).own_size-shared.ensures refl p.settle_expanded-verdict.result p.settle_expanded-verdict.ensures
-    c.before.before.before.before.before.before.enum_told-1.given.1 in
+    let g = good (tested c.before.before.before.before.before.before.before) in
+    let room = has_room (call s) (ds s) (ns s) (ts s) (lent s) (fine k).passed (good (tested c.before.before.before.before.before.before.before)).2 _ _ 0 refl (measured c.before.before.before.before.before.before.before).own_size-shared.ensures refl c.settle-expanded.result c.settle-expanded.ensures
+    c.enum_told.given.1 in
     ((refl, refl, (fine k).whole), ((g.0, g.1), room))
 
 same_length : tie.Need-shape_of-bytes
@@ -158,12 +153,11 @@ same-length-3 c = search rules
 returns-5 : tie.Need-returns
 unfolding number over
 returns-5 c =
-    let w = c.before.before.before.before.before.before.put_expanded-c in
-    let p = c.before.before.before.before.before.before.before.before.before.before.before.before.before.before.before in
-    let k = checked (tested p) in
+    let w = c.put_expanded-c in
+    let k = checked (tested c.before.before.before.before.before.before.before.before.before.before.before.before.before.before) in
     let s = start k in
-    written (call s) (ds s) (ns s) (ts s) (lent s) (fine k).passed (good (tested p)).2 _ _ 0 refl (measured p).own_size-shared.ensures refl p.settle_expanded-verdict.result p.settle_expanded-verdict.ensures
-    c.before.before.before.before.before.before.before.before.before.before.before.before.before.enum_told-1.given.1
+    written (call s) (ds s) (ns s) (ts s) (lent s) (fine k).passed (good (tested c.before.before.before.before.before.before.before.before.before.before.before.before.before.before)).2 _ _ 0 refl (measured c.before.before.before.before.before.before.before.before.before.before.before.before.before.before).own_size-shared.ensures refl c.settle-expanded.result c.settle-expanded.ensures
+    c.enum_told.given.1
     0 _ _ _ _ w.result refl w.ensures refl
 
 pub write_tabs_expanded_spec : {M : Type 1} → statement M

@@ -33,31 +33,28 @@ part-same-text-start c = search rules
 part-same-text-end : tie.Need-slice_bounds-same_text-end invariant-loop decreases-loop
 part-same-text-end c = search rules
 
-slice-aggregate-same-text : tie.Need-slice-aggregate-same-text invariant-loop decreases-loop
-slice-aggregate-same-text c = search rules
-
 same-text-requires : tie.Need-same_text-requires invariant-loop decreases-loop
 same-text-requires c κs = search rules
 
 returns : tie.Need-returns-then-same_text invariant-loop decreases-loop
 unfolding boards_name
-returns c = name_found _ _ _ c.before.before.before.before.before.before.loop-from.invariant (omega (arith, c.before.before.before.before.before.loop-from-test.true)) c.before.before.before.before.find-e.result c.before.before.before.before.find-e.ensures.0 c.before.same_text.result c.before.same_text.ensures c.if-same_text.true
+returns c = name_found _ _ _ c.loop-from.invariant (omega (arith, c.loop-from-test.true)) c.find-e.result c.find-e.ensures.0 c.same_text.result c.same_text.ensures c.if-same_text.true
 
 add-from : tie.Need-overflow_add-from invariant-loop decreases-loop
 add-from c = search rules
 
 add-k : tie.Need-overflow_add-k invariant-loop decreases-loop
-add-k c = omega (arith, c.before.before.before.before.before.before.loop-from.invariant.few, c.before.before.before.before.before.before.loop-from.invariant.inside, c.before.before.before.before.before.before.before.before.requires)
+add-k c = omega (arith, c.loop-from.invariant.few, c.loop-from.invariant.inside, c.requires)
 
 loop-less : tie.Need-loop-from-smaller invariant-loop decreases-loop
 loop-less c = search rules
 
 loop-again : tie.Need-loop-from-preserved invariant-loop decreases-loop
 unfolding boards_name
-loop-again c = searched_next _ _ _ c.before.before.before.before.before.before.loop-from.invariant (omega (arith, c.before.before.before.before.before.loop-from-test.true)) c.before.before.before.before.find-e.result c.before.before.before.before.find-e.ensures.0 c.before.same_text.result c.before.same_text.ensures c.if-same_text.false c.before.before.before.before.find-e.ensures.1.1 c.before.before.before.before.find-e.ensures.1.0
+loop-again c = searched_next _ _ _ c.loop-from.invariant (omega (arith, c.loop-from-test.true)) c.find-e.result c.find-e.ensures.0 c.same_text.result c.same_text.ensures c.if-same_text.false c.find-e.ensures.1.1 c.find-e.ensures.1.0
 
 returns-2 : tie.Need-returns invariant-loop decreases-loop
-returns-2 c = searched_last _ _ _ c.before.loop-from.invariant (omega (arith, c.loop-from-test.false))
+returns-2 c = searched_last _ _ _ c.loop-from.invariant (omega (arith, c.loop-from-test.false))
 
 pub boards_at_spec : {M : Type 1} → statement M
 boards_at_spec =
@@ -70,7 +67,6 @@ boards_at_spec =
     sub-same-text
     part-same-text-start
     part-same-text-end
-    slice-aggregate-same-text
     same-text-requires
     returns
     add-from

@@ -21,10 +21,10 @@ loop-holds : tie.Need-loop-i-init invariant-loop decreases-loop
 loop-holds c = passed_first _ _
 
 find-requires : tie.Need-find-e-requires invariant-loop decreases-loop
-find-requires c κs = c.before.loop-i.invariant.inside
+find-requires c κs = c.loop-i.invariant.inside
 
 returns : tie.Need-returns-then-e-line invariant-loop decreases-loop
-returns c = no_cell _ _ _ _ c.before.before.before.loop-i.invariant c.before.find-e.result c.before.find-e.ensures.0 c.before.before.loop-i-test.true c.if-e-line.true
+returns c = no_cell _ _ _ _ c.loop-i.invariant c.find-e.result c.find-e.ensures.0 c.loop-i-test.true c.if-e-line.true
 
 add-from : tie.Need-overflow_add-from invariant-loop decreases-loop
 add-from c = search rules
@@ -36,10 +36,10 @@ loop-less : tie.Need-loop-i-smaller invariant-loop decreases-loop
 loop-less c = search rules
 
 loop-again : tie.Need-loop-i-preserved invariant-loop decreases-loop
-loop-again c = passed_next _ _ _ _ c.before.before.before.loop-i.invariant c.before.find-e.result c.before.find-e.ensures.0 c.before.before.loop-i-test.true (omega (arith, c.before.find-e.ensures.1.1, c.if-e-line.false))
+loop-again c = passed_next _ _ _ _ c.loop-i.invariant c.find-e.result c.find-e.ensures.0 c.loop-i-test.true (omega (arith, c.find-e.ensures.1.1, c.if-e-line.false))
 
 find-requires-2 : tie.Need-find-e-requires-2 invariant-loop decreases-loop
-find-requires-2 c κs = c.before.loop-i.invariant.inside
+find-requires-2 c κs = c.loop-i.invariant.inside
 
 sub-decimal-in : tie.Need-slice_bounds-decimal_in-count invariant-loop decreases-loop
 sub-decimal-in c = search rules
@@ -54,7 +54,7 @@ decimal-in-requires : tie.Need-decimal_in-requires invariant-loop decreases-loop
 decimal-in-requires c κs = search rules
 
 returns-2 : tie.Need-returns invariant-loop decreases-loop
-returns-2 c = c.decimal_in.ensures.0 ∙ the_cell _ _ _ _ c.before.before.before.before.loop-i.invariant c.before.before.find-e-2.result c.before.before.find-e-2.ensures.0 (omega (arith, c.before.before.before.loop-i-test.false))
+returns-2 c = c.decimal_in.ensures.0 ∙ the_cell _ _ _ _ c.loop-i.invariant c.find-e-2.result c.find-e-2.ensures.0 (omega (arith, c.loop-i-test.false))
 
 pub boards_in_spec : {M : Type 1} → statement M
 boards_in_spec =

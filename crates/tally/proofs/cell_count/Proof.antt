@@ -31,8 +31,7 @@ cast-n c = search rules
 
 add-n : tie.Need-overflow_add-n invariant-loop decreases-loop
 add-n c =
-    let l = c.before.before in
-    omega (arith, bit_small (eqb (get_or l.before.args.line.now l.loop-i.i 0) 0x2C), l.before.well_formed)
+    omega (arith, bit_small (eqb (get_or c.args.line.now c.loop-i.i 0) 0x2C), c.well_formed)
 
 add-i : tie.Need-overflow_add-i invariant-loop decreases-loop
 add-i c = search rules
@@ -42,15 +41,13 @@ loop-less c = search rules
 
 loop-again : tie.Need-loop-i-preserved invariant-loop decreases-loop
 loop-again c =
-    let l = c.before.before in
-    let s = l.before.args.line.now in
-    let t = eqb (get_or s l.loop-i.i 0) 0x2C in
-    (search rules, omega (arith, bit_small t), omega (arith, bit_is t, l.loop-i.invariant.2, count_next l.loop-i.i s (omega arith)))
+    let s = c.args.line.now in
+    let t = eqb (get_or s c.loop-i.i 0) 0x2C in
+    (search rules, omega (arith, bit_small t), omega (arith, bit_is t, c.loop-i.invariant.2, count_next c.loop-i.i s (omega arith)))
 
 returns : tie.Need-returns invariant-loop decreases-loop
 returns c =
-    let l = c.before in
-    omega (arith, l.loop-i.invariant.2, count_end l.loop-i.i l.before.args.line.now (omega arith))
+    omega (arith, c.loop-i.invariant.2, count_end c.loop-i.i c.args.line.now (omega arith))
 
 pub cell_count_spec : {M : Type 1} → statement M
 cell_count_spec =

@@ -21,10 +21,7 @@ is-clean-requires : tie.Need-is_clean-requires
 is-clean-requires c κs = search rules
 
 returns : tie.Need-returns-then-not-is_clean
-returns c = (rw (sym c.before.is_clean.ensures ∙ c.if-not-is_clean.true), omega arith)
-
-slice-aggregate-plan-cell : tie.Need-slice-aggregate-plan-cell
-slice-aggregate-plan-cell c = search rules
+returns c = (rw (sym c.is_clean.ensures ∙ c.if-not-is_clean.true), omega arith)
 
 plan-cell-requires : tie.Need-plan_cell-p-requires
 plan-cell-requires c κs = search rules
@@ -34,10 +31,10 @@ add-result c = search rules
 
 -- the cell, and that it is not turned away
 abbrev cell : tie.After-plan_cell-p → Bytes
-cell c = c.before.before.before.before.before.args.cell.now
+cell c = c.args.cell.now
 
 clean : (c : tie.After-plan_cell-p) → is_clean_text (cell c) ≡ true
-clean c = sym c.before.before.before.is_clean.ensures ∙ c.before.before.if-not-is_clean.false
+clean c = sym c.is_clean.ensures ∙ not_false c.is_clean.result c.if-not-is_clean.false
 
 formed : (c : tie.After-plan_cell-p) → well_formed_of (cell c) ≡ true
 formed c = clean_formed (cell c) (clean_text (cell c) (clean c))
@@ -45,8 +42,7 @@ formed c = clean_formed (cell c) (clean_text (cell c) (clean c))
 sub-result : tie.Need-overflow_sub-result
 unfolding tilde
 sub-result c =
-    let p = c.before.before in
-    plan_narrow p.before.before.before.before.before.args.width (cell p) (formed p) p.plan_cell-p.result p.plan_cell-p.ensures.0
+    plan_narrow c.args.width (cell c.before.before) (formed c.before.before) c.plan_cell-p.result c.plan_cell-p.ensures.0
 
 add-result-2 : tie.Need-overflow_add-result-2
 add-result-2 c = search rules
@@ -54,10 +50,8 @@ add-result-2 c = search rules
 returns-2 : tie.Need-returns
 unfolding tilde
 returns-2 c =
-    let p = c.before.before in
-    let start = p.before.before.before.before.before in
-    let e = plan_laid start.args.width (cell p) (formed p) p.plan_cell-p.result p.plan_cell-p.ensures.0 in
-    (rw (clean p) (sym e), omega (arith, p.plan_cell-p.ensures.1.0, p.plan_cell-p.ensures.1.1, start.requires.1))
+    let e = plan_laid c.args.width (cell c.before.before) (formed c.before.before) c.plan_cell-p.result c.plan_cell-p.ensures.0 in
+    (rw (clean c.before.before) (sym e), omega (arith, c.plan_cell-p.ensures.1.0, c.plan_cell-p.ensures.1.1, c.requires.1))
 
 pub cell_len_spec : {M : Type 1} → statement M
 cell_len_spec =
@@ -65,7 +59,6 @@ cell_len_spec =
     (tie.spec
     is-clean-requires
     returns
-    slice-aggregate-plan-cell
     plan-cell-requires
     add-result
     sub-result

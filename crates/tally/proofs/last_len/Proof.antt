@@ -25,9 +25,9 @@ add-result-3 c = search rules
 
 returns : tie.Need-returns
 returns c =
-    let a = c.before.before.args in
+    let a = c.args in
     let e = last_length a.n a.sum in
-    (omega (arith, e, c.before.decimal_len.ensures.0, c.decimal_len-2.ensures.0), omega (arith, c.before.decimal_len.ensures.1, c.decimal_len-2.ensures.1))
+    (omega (arith, e, c.decimal_len.ensures.0, c.decimal_len-2.ensures.0), omega (arith, c.decimal_len.ensures.1, c.decimal_len-2.ensures.1))
 
 pub last_len_spec : {M : Type 1} → statement M
 last_len_spec =

@@ -23,18 +23,18 @@ shared-slice-read-if2 c = search rules
 
 returns-2 : tie.Need-returns-then-input-eq10
 returns-2 c =
-    let s = c.before.before.before.before.before.args.input.now in
-    let e = all_ended s (omega (arith, c.before.before.before.if-input-eq0.false)) c.if-input-eq10.true in
-    (c.before.before.count_newlines-n.ensures.0 ∙ e, omega (arith, c.before.before.count_newlines-n.ensures.0, e, lines_some s))
+    let s = c.args.input.now in
+    let e = all_ended s (omega (arith, c.if-input-eq0.false)) c.if-input-eq10.true in
+    (c.count_newlines-n.ensures.0 ∙ e, omega (arith, c.count_newlines-n.ensures.0, e, lines_some s))
 
 add-result : tie.Need-overflow_add-result
 add-result c = search rules
 
 returns-3 : tie.Need-returns
 returns-3 c =
-    let s = c.before.before.before.before.before.args.input.now in
-    let e = last_open s (omega (arith, c.before.before.before.if-input-eq0.false)) c.if-input-eq10.false in
-    (omega (arith, c.before.before.count_newlines-n.ensures.0, e), omega arith)
+    let s = c.args.input.now in
+    let e = last_open s (omega (arith, c.if-input-eq0.false)) c.if-input-eq10.false in
+    (omega (arith, c.count_newlines-n.ensures.0, e), omega arith)
 
 pub line_count_spec : {M : Type 1} → statement M
 line_count_spec =

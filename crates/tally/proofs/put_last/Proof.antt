@@ -18,46 +18,41 @@ use Rattle.sheet.proofs.put_decimal.Reads as put-decimal-reads
 
 put-decimal-requires : tie.Need-put_decimal-a-requires
 put-decimal-requires c κs =
-    let s = c.before.before in
-    omega (arith, s.requires, last_length s.args.n s.args.sum)
+    omega (arith, c.requires, last_length c.args.n c.args.sum)
 
 put-byte-times-requires : tie.Need-put_byte_times-b-requires
 put-byte-times-requires c κs =
-    let s = c.before.before.before.before.before.before in
-    let p = c.before.before.before.put_decimal-a in
-    omega (arith, s.requires, last_length s.args.n s.args.sum, p.ensures.0, p.auto.0)
+    let p = c.put_decimal-a in
+    omega (arith, c.requires, last_length c.args.n c.args.sum, p.ensures.0, p.auto.0)
 
 put-decimal-requires-2 : tie.Need-put_decimal-c-requires
 put-decimal-requires-2 c κs =
-    let s = c.before.before.before.before.before.before.before.before.before.before in
-    let p = c.before.before.before.before.before.before.before.put_decimal-a in
-    let q = c.before.before.before.put_byte_times-b in
-    omega (arith, s.requires, last_length s.args.n s.args.sum, p.ensures.0, p.auto.0, q.ensures.0, q.auto.0)
+    let p = c.put_decimal-a in
+    let q = c.put_byte_times-b in
+    omega (arith, c.requires, last_length c.args.n c.args.sum, p.ensures.0, p.auto.0, q.ensures.0, q.auto.0)
 
 put-byte-times-requires-2 : tie.Need-put_byte_times-requires
 put-byte-times-requires-2 c κs =
-    let s = c.before.before.before.before.before.before.before.before.before.before.before.before.before.before in
-    let p = c.before.before.before.before.before.before.before.before.before.before.before.put_decimal-a in
-    let q = c.before.before.before.before.before.before.before.put_byte_times-b in
-    let r = c.before.before.before.put_decimal-c in
-    omega (arith, s.requires, last_length s.args.n s.args.sum, p.ensures.0, p.auto.0, q.ensures.0, q.auto.0, r.ensures.0, r.auto.0)
+    let p = c.put_decimal-a in
+    let q = c.put_byte_times-b in
+    let r = c.put_decimal-c in
+    omega (arith, c.requires, last_length c.args.n c.args.sum, p.ensures.0, p.auto.0, q.ensures.0, q.auto.0, r.ensures.0, r.auto.0)
 
 same_length : tie.Need-shape_of-out
 same_length c = search rules
 
 returns : tie.Need-returns
 returns c =
-    let s = c.before.before.before.before.before.before.before.before.before.before.before.before.before.before.before.before.before in
-    let a = s.args in
-    let p = c.before.before.before.before.before.before.before.before.before.before.before.before.before.before.put_decimal-a in
-    let q = c.before.before.before.before.before.before.before.before.before.before.put_byte_times-b in
-    let r = c.before.before.before.before.before.before.put_decimal-c in
-    let t = c.before.before.put_byte_times in
+    let a = c.args in
+    let p = c.put_decimal-a in
+    let q = c.put_byte_times-b in
+    let r = c.put_decimal-c in
+    let t = c.put_byte_times in
     let x = decimal a.n in
     let y = x ++ (0x20 ∷ []) in
     let z = y ++ decimal a.sum in
-    let o = a.out-1.now in
-    let h : a.at ≤ length o = omega (arith, s.requires) in
+    let o = a.out.now in
+    let h : a.at ≤ length o = omega (arith, c.requires) in
     let f = then_put a.at x (0x20 ∷ []) o _ _ p.result h p.ensures.1 p.ensures.0 q.ensures.1 in
     let m : q.result ≡ a.at + length y = omega (arith, p.ensures.0, q.ensures.0, length-append x (0x20 ∷ [])) in
     let g = then_put a.at y (decimal a.sum) o _ _ q.result h f m r.ensures.1 in

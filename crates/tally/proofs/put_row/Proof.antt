@@ -21,13 +21,13 @@ abbrev decreases-loop : tie.decreases-loop-k
 decreases-loop out₀ at line columns end₀ from₀ k₀ out end from k = length columns - k
 
 loop-holds : tie.Need-loop-k-init invariant-loop decreases-loop
-loop-holds c = row_start _ _ _ _ c.before.before.before.requires.0
+loop-holds c = row_start _ _ _ _ c.requires.0
 
 add-loop : tie.Need-overflow_add-k invariant-loop decreases-loop
 add-loop c = search rules
 
 find-requires : tie.Need-find-e-requires invariant-loop decreases-loop
-find-requires c κs = there _ _ _ _ c.before.loop-k.invariant.walk c.loop-k-test.true
+find-requires c κs = there _ _ _ _ c.loop-k.invariant.walk c.loop-k-test.true
 
 sub-put-cell : tie.Need-slice_bounds-put_cell-count invariant-loop decreases-loop
 sub-put-cell c = search rules
@@ -55,21 +55,21 @@ shared-slice-read-put-cell-2 c = search rules
 
 put-cell-requires : tie.Need-put_cell-g-requires invariant-loop decreases-loop
 put-cell-requires c κs =
-    let l = c.before.before.before.before.before.before.loop-k in
-    let t = c.before.before.before.before.before.loop-k-test.true in
-    let f = c.before.before.before.before.find-e in
-    ((wide _ _ _ _ l.invariant.walk t).0, well _ _ _ _ _ _ _ _ l.invariant t f.result f.ensures.0, omega (arith, cell_room _ _ _ _ _ _ _ _ l.invariant t f.result f.ensures.0 c.before.before.before.before.before.before.before.before.before.before.requires.1))
+    let l = c.loop-k in
+    let t = c.loop-k-test.true in
+    let f = c.find-e in
+    ((wide _ _ _ _ l.invariant.walk t).0, well _ _ _ _ _ _ _ _ l.invariant t f.result f.ensures.0, omega (arith, cell_room _ _ _ _ _ _ _ _ l.invariant t f.result f.ensures.0 c.requires.1))
 
 gap-after-requires : tie.Need-gap_after-requires invariant-loop decreases-loop
 gap-after-requires c κs = search rules
 
 put-byte-times-requires : tie.Need-put_byte_times-end-requires invariant-loop decreases-loop
 put-byte-times-requires c κs =
-    let l = c.before.before.before.before.before.before.before.before.before.before.before.loop-k in
-    let t = c.before.before.before.before.before.before.before.before.before.before.loop-k-test.true in
-    let f = c.before.before.before.before.before.before.before.before.before.find-e in
-    let p = c.before.before.before.before.put_cell-g in
-    omega (arith, cell_room _ _ _ _ _ _ _ _ l.invariant t f.result f.ensures.0 c.before.before.before.before.before.before.before.before.before.before.before.before.before.before.before.requires.1, p.ensures.0, p.auto)
+    let l = c.loop-k in
+    let t = c.loop-k-test.true in
+    let f = c.find-e in
+    let p = c.put_cell-g in
+    omega (arith, cell_room _ _ _ _ _ _ _ _ l.invariant t f.result f.ensures.0 c.requires.1, p.ensures.0, p.auto)
 
 add-from : tie.Need-overflow_add-from invariant-loop decreases-loop
 add-from c = search rules
@@ -82,20 +82,20 @@ loop-less c = search rules
 
 loop-again : tie.Need-loop-k-preserved invariant-loop decreases-loop
 loop-again c =
-    let l = c.before.before.before.before.before.before.before.before.before.before.before.before.before.before.loop-k in
-    let t = c.before.before.before.before.before.before.before.before.before.before.before.before.before.loop-k-test.true in
-    let f = c.before.before.before.before.before.before.before.before.before.before.before.before.find-e in
-    let p = c.before.before.before.before.before.before.before.put_cell-g in
-    let g = c.before.before.before.gap_after in
-    let b = c.before.before.put_byte_times-end in
-    row_again _ _ _ _ _ _ _ _ l.invariant t f.result f.ensures.0 p.result b.result g.result _ _ (omega (arith, c.before.before.before.before.before.before.before.before.before.before.before.before.before.before.before.before.before.before.requires.1)) f.ensures.1.1 p.ensures.0 p.ensures.1 (omega (arith, p.auto)) g.ensures
+    let l = c.loop-k in
+    let t = c.loop-k-test.true in
+    let f = c.find-e in
+    let p = c.put_cell-g in
+    let g = c.gap_after in
+    let b = c.put_byte_times-end in
+    row_again _ _ _ _ _ _ _ _ l.invariant t f.result f.ensures.0 p.result b.result g.result _ _ (omega (arith, c.requires.1)) f.ensures.1.1 p.ensures.0 p.ensures.1 (omega (arith, p.auto)) g.ensures
     b.ensures.0 b.ensures.1 (omega (arith, b.auto))
 
 same_length : tie.Need-shape_of-out invariant-loop decreases-loop
 same_length c = search rules
 
 returns : tie.Need-returns invariant-loop decreases-loop
-returns c = row_finish _ _ _ _ _ _ _ _ c.before.loop-k.invariant (omega (arith, c.loop-k-test.false))
+returns c = row_finish _ _ _ _ _ _ _ _ c.loop-k.invariant (omega (arith, c.loop-k-test.false))
 
 pub put_row_spec : {M : Type 1} → statement M
 put_row_spec =

@@ -22,21 +22,21 @@ decreases-loop out₀ input columns end₀ from₀ out end from = (length input 
 
 put-row-requires : tie.Need-put_row-requires invariant-loop decreases-loop
 put-row-requires c κs =
-    let x = c.before.before.before.before.before.args in
-    (fit_one _ _ c.before.if-input-eq0.true c.before.before.before.before.before.requires.0, omega (arith, ap length (one_line x.columns.now x.input.now c.before.if-input-eq0.true), c.before.before.before.before.before.requires.1))
+    let x = c.args in
+    (fit_one _ _ c.if-input-eq0.true c.requires.0, omega (arith, ap length (one_line x.columns.now x.input.now c.if-input-eq0.true), c.requires.1))
 
 same_length : tie.Need-shape_of-out-then-input-eq0 invariant-loop decreases-loop
 same_length c = search rules
 
 returns : tie.Need-returns-then-input-eq0 invariant-loop decreases-loop
 returns c =
-    let x = c.before.before.before.before.before.before.before.before.args in
-    let p = c.before.before.put_row in
-    let e = one_line x.columns.now x.input.now c.before.before.before.before.if-input-eq0.true in
-    (omega (arith, p.ensures.0, ap length e), p.ensures.1 ∙ ap (λ (l : Bytes). over_at 0 l x.out-1.now) (sym e))
+    let x = c.args in
+    let p = c.put_row in
+    let e = one_line x.columns.now x.input.now c.if-input-eq0.true in
+    (omega (arith, p.ensures.0, ap length e), p.ensures.1 ∙ ap (λ (l : Bytes). over_at 0 l x.out.now) (sym e))
 
 loop-holds : tie.Need-loop-from-init invariant-loop decreases-loop
-loop-holds c = rows_start _ _ _ (λ z. omega (arith, z, c.if-input-eq0.false)) c.before.before.before.before.requires.0
+loop-holds c = rows_start _ _ _ (λ z. omega (arith, z, c.if-input-eq0.false)) c.requires.0
 
 find-requires : tie.Need-find-e-requires invariant-loop decreases-loop
 find-requires c κs = search rules
@@ -52,10 +52,10 @@ part-put-row-end c = search rules
 
 put-row-requires-2 : tie.Need-put_row-end-requires invariant-loop decreases-loop
 put-row-requires-2 c κs =
-    let l = c.before.before.before.before.loop-from in
-    let t = c.before.before.before.loop-from-test.true in
-    let f = c.before.before.find-e in
-    (fit_here _ _ _ _ _ _ l.invariant t f.result f.ensures.0, row_room _ _ _ _ _ _ l.invariant t f.result f.ensures.0 c.before.before.before.before.before.before.before.before.before.requires.1)
+    let l = c.loop-from in
+    let t = c.loop-from-test.true in
+    let f = c.find-e in
+    (fit_here _ _ _ _ _ _ l.invariant t f.result f.ensures.0, row_room _ _ _ _ _ _ l.invariant t f.result f.ensures.0 c.requires.1)
 
 add-from : tie.Need-overflow_add-from invariant-loop decreases-loop
 add-from c = search rules
@@ -65,17 +65,17 @@ loop-less c = search rules
 
 loop-again : tie.Need-loop-from-preserved invariant-loop decreases-loop
 loop-again c =
-    let l = c.before.before.before.before.before.before.before.loop-from in
-    let t = c.before.before.before.before.before.before.loop-from-test.true in
-    let f = c.before.before.before.before.before.find-e in
-    let p = c.before.before.put_row-end in
+    let l = c.loop-from in
+    let t = c.loop-from-test.true in
+    let f = c.find-e in
+    let p = c.put_row-end in
     rows_again _ _ _ _ _ _ l.invariant t f.result f.ensures.0 p.result _ p.ensures.0 p.ensures.1 (omega (arith, p.auto))
 
 same-length-2 : tie.Need-shape_of-out invariant-loop decreases-loop
 same-length-2 c = search rules
 
 returns-2 : tie.Need-returns invariant-loop decreases-loop
-returns-2 c = rows_finish _ _ _ _ _ _ c.before.loop-from.invariant (omega (arith, c.loop-from-test.false))
+returns-2 c = rows_finish _ _ _ _ _ _ c.loop-from.invariant (omega (arith, c.loop-from-test.false))
 
 pub put_rows_spec : {M : Type 1} → statement M
 put_rows_spec =

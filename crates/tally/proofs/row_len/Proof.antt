@@ -19,13 +19,13 @@ abbrev decreases-loop : tie.decreases-loop-k
 decreases-loop line columns bytes₀ from₀ k₀ bytes from k = length columns - k
 
 loop-holds : tie.Need-loop-k-init invariant-loop decreases-loop
-loop-holds c = measured_first _ _ c.before.before.requires.0.0 c.before.before.requires.1
+loop-holds c = measured_first _ _ c.requires.0.0 c.requires.1
 
 add-loop : tie.Need-overflow_add-k invariant-loop decreases-loop
 add-loop c = search rules
 
 find-requires : tie.Need-find-e-requires invariant-loop decreases-loop
-find-requires c κs = there _ _ _ _ c.before.loop-k.invariant.walk c.loop-k-test.true
+find-requires c κs = there _ _ _ _ c.loop-k.invariant.walk c.loop-k-test.true
 
 sub-cell-len : tie.Need-slice_bounds-cell_len-count invariant-loop decreases-loop
 sub-cell-len c = search rules
@@ -43,16 +43,16 @@ shared-slice-read-cell-len : tie.Need-bounds-columns-k invariant-loop decreases-
 shared-slice-read-cell-len c = search rules
 
 cell-len-requires : tie.Need-cell_len-n-requires invariant-loop decreases-loop
-cell-len-requires c κs = wide _ _ _ _ c.before.before.before.before.loop-k.invariant.walk c.before.before.before.loop-k-test.true
+cell-len-requires c κs = wide _ _ _ _ c.loop-k.invariant.walk c.loop-k-test.true
 
 returns : tie.Need-returns-then-n-eq0 invariant-loop decreases-loop
-returns c = (turned_away _ _ _ _ _ c.before.before.before.before.before.before.loop-k.invariant c.before.before.before.before.before.loop-k-test.true c.before.before.before.before.find-e.result c.before.before.before.before.find-e.ensures.0 c.before.cell_len-n.result c.before.cell_len-n.ensures.0 c.if-n-eq0.true, omega arith)
+returns c = (turned_away _ _ _ _ _ c.loop-k.invariant c.loop-k-test.true c.find-e.result c.find-e.ensures.0 c.cell_len-n.result c.cell_len-n.ensures.0 c.if-n-eq0.true, omega arith)
 
 add-bytes : tie.Need-overflow_add-bytes invariant-loop decreases-loop
 add-bytes c = search rules
 
 add-bytes-2 : tie.Need-overflow_add-bytes-in-loop-k invariant-loop decreases-loop
-add-bytes-2 c = omega (arith, c.before.before.before.before.before.before.loop-k.invariant.small, c.before.before.before.before.before.before.loop-k.invariant.walk.inside, c.before.before.before.before.before.before.loop-k.invariant.walk.within, c.before.cell_len-n.ensures.1, few_numbers _ c.before.before.before.before.before.before.before.before.before.requires.0.0, c.before.before.before.before.before.before.before.before.before.requires.0.1)
+add-bytes-2 c = omega (arith, c.loop-k.invariant.small, c.loop-k.invariant.walk.inside, c.loop-k.invariant.walk.within, c.cell_len-n.ensures.1, few_numbers _ c.requires.0.0, c.requires.0.1)
 
 add-from : tie.Need-overflow_add-from invariant-loop decreases-loop
 add-from c = search rules
@@ -64,12 +64,12 @@ loop-less : tie.Need-loop-k-smaller invariant-loop decreases-loop
 loop-less c = search rules
 
 loop-again : tie.Need-loop-k-preserved invariant-loop decreases-loop
-loop-again c = measured_next _ _ _ _ _ c.before.before.before.before.before.before.loop-k.invariant c.before.before.before.before.before.loop-k-test.true c.before.before.before.before.find-e.result c.before.before.before.before.find-e.ensures.0 c.before.cell_len-n.result c.before.cell_len-n.ensures.0 (λ z. omega (arith, z, c.if-n-eq0.false)) c.before.before.before.before.find-e.ensures.1.1 c.before.cell_len-n.ensures.1 c.before.before.before.before.find-e.ensures.1.0
+loop-again c = measured_next _ _ _ _ _ c.loop-k.invariant c.loop-k-test.true c.find-e.result c.find-e.ensures.0 c.cell_len-n.result c.cell_len-n.ensures.0 (λ z. omega (arith, z, c.if-n-eq0.false)) c.find-e.ensures.1.1 c.cell_len-n.ensures.1 c.find-e.ensures.1.0
 
 returns-2 : tie.Need-returns invariant-loop decreases-loop
 returns-2 c =
-    let m = c.before.loop-k.invariant in
-    (measured_last _ _ _ _ _ c.before.loop-k.invariant (omega (arith, c.loop-k-test.false)), omega (arith, m.small, m.walk.inside, m.walk.within, few_numbers _ c.before.before.before.before.requires.0.0))
+    let m = c.loop-k.invariant in
+    (measured_last _ _ _ _ _ c.loop-k.invariant (omega (arith, c.loop-k-test.false)), omega (arith, m.small, m.walk.inside, m.walk.within, few_numbers _ c.requires.0.0))
 
 pub row_len_spec : {M : Type 1} → statement M
 row_len_spec =

@@ -28,20 +28,18 @@ part-scan-line-end c = search rules
 
 scan-line-requires : tie.Need-scan_line-names-requires
 scan-line-requires c κs =
-    let s = c.before.before.before.before in
-    let f = c.before.find-e in
-    (s.requires.0, omega (arith, length_part 0 f.result s.args.input.now f.ensures.1.1, f.ensures.1.1, s.requires.1))
+    let f = c.find-e in
+    (c.requires.0, omega (arith, length_part 0 f.result c.args.input.now f.ensures.1.1, f.ensures.1.1, c.requires.1))
 
 enum_told : tie.Need-enum_told-1
 enum_told c = search rules
 
 returns : tie.Need-returns-in-Refused
 returns c =
-    let g = c.enum_told-1.given in
-    let k = c.before.before.scan_line-names in
-    let f = c.before.before.before.before.find-e in
-    let x = c.before.before.before.before.before.before.before.args in
-    (names_refused x.columns.now x.input.now f.result f.ensures.0 k.result k.ensures.0 g.0.0 g.1, refused_told _ _ _ _ k.result g.0.0 g.1)
+    let k = c.scan_line-names in
+    let f = c.find-e in
+    let x = c.args in
+    (names_refused x.columns.now x.input.now f.result f.ensures.0 k.result k.ensures.0 c.in-Refused.field-0 c.in-Refused.is, refused_told _ _ _ _ k.result c.in-Refused.field-0 c.in-Refused.is)
 
 enum-known-names : tie.Need-enum_known-names
 enum-known-names c = search rules
@@ -60,14 +58,12 @@ part-boards-at-end c = search rules
 
 boards-at-requires : tie.Need-boards_at-requires
 boards-at-requires c κs =
-    let s = c.before.before.before.before.before.before.before.before.before in
-    let f = c.before.before.before.before.before.before.find-e in
-    omega (arith, length_part 0 f.result s.args.input.now f.ensures.1.1, f.ensures.1.1, s.requires.1)
+    let f = c.find-e in
+    omega (arith, length_part 0 f.result c.args.input.now f.ensures.1.1, f.ensures.1.1, c.requires.1)
 
 scan-values-requires : tie.Need-scan_values-values-requires
 scan-values-requires c κs =
-    let s = c.before.before.before.before.before.before.before.before.before.before in
-    (s.requires.0, s.requires.1, omega (arith, c.before.before.before.before.before.before.before.find-e.ensures.1.1))
+    (c.requires.0, c.requires.1, omega (arith, c.find-e.ensures.1.1))
 
 enum-told-2 : tie.Need-enum_told-in-Refused-values
 enum-told-2 c = search rules
@@ -77,50 +73,43 @@ enum-known-values c = search rules
 
 add-t20 : tie.Need-overflow_add-result
 add-t20 c =
-    let s = c.before.before.before.before.before.before.before.before.before.before.before.before.before.before.before in
-    let f = c.before.before.before.before.before.before.before.before.before.before.before.before.find-e in
-    let k = c.before.before.before.before.before.before.before.before.before.before.scan_line-names in
-    let g = c.before.before.before.before.before.before.before.before.names-1.given in
-    let v = c.before.before.before.before.scan_values-values in
-    let h = c.before.before.values-1.given in
-    let a = fine_told _ _ _ _ k.result g.0.0 g.1 k.ensures.1.0 k.ensures.1.1 in
-    let b = fine_told _ _ _ _ v.result h.0.0 h.1 v.ensures.1.0 v.ensures.1.1 in
-    omega (arith, a.2.0, b.2.0, length_part 0 f.result s.args.input.now f.ensures.1.1, f.ensures.1.1, s.requires.1)
+    let f = c.find-e in
+    let k = c.scan_line-names in
+    let v = c.scan_values-values in
+    let a = fine_told _ _ _ _ k.result c.in-Fine.t c.in-Fine.is k.ensures.1.0 k.ensures.1.1 in
+    let b = fine_told _ _ _ _ v.result c.in-Fine-values.t c.in-Fine-values.is v.ensures.1.0 v.ensures.1.1 in
+    omega (arith, a.2.0, b.2.0, length_part 0 f.result c.args.input.now f.ensures.1.1, f.ensures.1.1, c.requires.1)
 
 returns-2 : tie.Need-returns-in-Refused-values
 returns-2 c =
-    let x = c.before.before.before.before.before.before.before.before.before.before.before.before.before.args in
-    let f = c.before.before.before.before.before.before.before.before.before.before.find-e in
-    let k = c.before.before.before.before.before.before.before.before.scan_line-names in
-    let g = c.before.before.before.before.before.before.names-1.given in
-    let b = c.before.before.before.boards_at in
-    let v = c.before.before.scan_values-values in
-    let h = c.enum_told-in-Refused-values-1.given in (
-      by_values x.columns.now x.input.now f.result f.ensures.0 k.result k.ensures.0 g.0.0 g.1 b.result b.ensures v.result v.ensures.0,
-      refused_told _ _ _ _ v.result h.0.0 h.1,
+    let x = c.args in
+    let f = c.find-e in
+    let k = c.scan_line-names in
+    let b = c.boards_at in
+    let v = c.scan_values-values in
+    (
+      by_values x.columns.now x.input.now f.result f.ensures.0 k.result k.ensures.0 c.in-Fine.t c.in-Fine.is b.result b.ensures v.result v.ensures.0,
+      refused_told _ _ _ _ v.result c.in-Refused-values.field-0 c.in-Refused-values.is,
     )
 
 returns-3 : tie.Need-returns-in-Fine-values
 unfolding scan_fault ScanTold ScanSmall
 returns-3 c =
-    let s = c.before.before.before.before.before.before.before.before.before.before.before.before.before.before.before in
-    let x = s.args in
-    let f = c.before.before.before.before.before.before.before.before.before.before.before.before.find-e in
-    let k = c.before.before.before.before.before.before.before.before.before.before.scan_line-names in
-    let g = c.before.before.before.before.before.before.before.before.names-1.given in
-    let b = c.before.before.before.before.before.boards_at in
-    let v = c.before.before.before.before.scan_values-values in
-    let h = c.before.before.values-1.given in
-    let p = fine_told _ _ _ _ k.result g.0.0 g.1 k.ensures.1.0 k.ensures.1.1 in
-    let r = fine_told _ _ _ _ v.result h.0.0 h.1 v.ensures.1.0 v.ensures.1.1 in
-    let o = by_values x.columns.now x.input.now f.result f.ensures.0 k.result k.ensures.0 g.0.0 g.1 b.result b.ensures v.result v.ensures.0 in (
+    let x = c.args in
+    let f = c.find-e in
+    let k = c.scan_line-names in
+    let b = c.boards_at in
+    let v = c.scan_values-values in
+    let p = fine_told _ _ _ _ k.result c.in-Fine.t c.in-Fine.is k.ensures.1.0 k.ensures.1.1 in
+    let r = fine_told _ _ _ _ v.result c.in-Fine-values.t c.in-Fine-values.is v.ensures.1.0 v.ensures.1.1 in
+    let o = by_values x.columns.now x.input.now f.result f.ensures.0 k.result k.ensures.0 c.in-Fine.t c.in-Fine.is b.result b.ensures v.result v.ensures.0 in (
       sym r.0 ∙ o,
       (
         (
-          by_both x.columns.now x.input.now f.result f.ensures.0 k.result k.ensures.0 g.0.0 g.1 b.result b.ensures v.result v.ensures.0 _ _ p.1.0 r.1.0,
-          by_sum x.columns.now x.input.now f.result f.ensures.0 k.result k.ensures.0 g.0.0 g.1 b.result b.ensures v.result v.ensures.0 _ r.1.1,
+          by_both x.columns.now x.input.now f.result f.ensures.0 k.result k.ensures.0 c.in-Fine.t c.in-Fine.is b.result b.ensures v.result v.ensures.0 _ _ p.1.0 r.1.0,
+          by_sum x.columns.now x.input.now f.result f.ensures.0 k.result k.ensures.0 c.in-Fine.t c.in-Fine.is b.result b.ensures v.result v.ensures.0 _ r.1.1,
         ),
-        (omega (arith, p.2.0, r.2.0, length_part 0 f.result x.input.now f.ensures.1.1, f.ensures.1.1, s.requires.1), r.2.1),
+        (omega (arith, p.2.0, r.2.0, length_part 0 f.result x.input.now f.ensures.1.1, f.ensures.1.1, c.requires.1), r.2.1),
       ),
     )
 

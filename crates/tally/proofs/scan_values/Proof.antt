@@ -20,7 +20,7 @@ abbrev decreases-loop : tie.decreases-loop-at
 decreases-loop input from columns k bytes₀ boards₀ at₀ bytes boards at = (length input + 1) - at
 
 loop-holds : tie.Need-loop-at-init invariant-loop decreases-loop
-loop-holds c = scanning_first _ _ _ _ c.before.before.requires.2
+loop-holds c = scanning_first _ _ _ _ c.requires.2
 
 find-requires : tie.Need-find-e-requires invariant-loop decreases-loop
 find-requires c κs = search rules
@@ -42,30 +42,27 @@ enum_told c = search rules
 
 returns : tie.Need-returns-in-Refused invariant-loop decreases-loop
 returns c =
-    let g = c.enum_told-1.given in
-    let k = c.before.before.scan_line-got in
-    let f = c.before.before.before.before.find-e in
-    (line_refused _ _ _ _ _ _ _ c.before.before.before.before.before.before.loop-at.invariant c.before.before.before.before.before.loop-at-test.true f.result f.ensures.0 k.result k.ensures.0 g.0.0 g.1, refused_told _ _ _ _ k.result g.0.0 g.1)
+    let k = c.scan_line-got in
+    let f = c.find-e in
+    (line_refused _ _ _ _ _ _ _ c.loop-at.invariant c.loop-at-test.true f.result f.ensures.0 k.result k.ensures.0 c.in-Refused.field-0 c.in-Refused.is, refused_told _ _ _ _ k.result c.in-Refused.field-0 c.in-Refused.is)
 
 enum-known-got : tie.Need-enum_known-got invariant-loop decreases-loop
 enum-known-got c = search rules
 
 add-bytes : tie.Need-overflow_add-bytes invariant-loop decreases-loop
 add-bytes c =
-    let g = c.before.before.got-1.given in
-    let k = c.before.before.before.before.scan_line-got in
-    let f = c.before.before.before.before.before.before.find-e in
-    let s = c.before.before.before.before.before.before.before.before.loop-at.invariant in
-    let u = fine_told _ _ _ _ k.result g.0.0 g.1 k.ensures.1.0 k.ensures.1.1 in
-    omega (arith, u.2.0, s.small.0, s.inside, length_part c.before.before.before.before.before.before.before.before.loop-at.at f.result c.before.before.before.before.before.before.before.before.before.before.before.args.input.now f.ensures.1.1, f.ensures.1.1, c.before.before.before.before.before.before.before.before.before.before.before.requires.1)
+    let k = c.scan_line-got in
+    let f = c.find-e in
+    let s = c.loop-at.invariant in
+    let u = fine_told _ _ _ _ k.result c.in-Fine.t c.in-Fine.is k.ensures.1.0 k.ensures.1.1 in
+    omega (arith, u.2.0, s.small.0, s.inside, length_part c.loop-at.at f.result c.args.input.now f.ensures.1.1, f.ensures.1.1, c.requires.1)
 
 add-boards : tie.Need-overflow_add-boards invariant-loop decreases-loop
 add-boards c =
-    let g = c.before.before.before.got-1.given in
-    let k = c.before.before.before.before.before.scan_line-got in
-    let s = c.before.before.before.before.before.before.before.before.before.loop-at.invariant in
-    let u = fine_told _ _ _ _ k.result g.0.0 g.1 k.ensures.1.0 k.ensures.1.1 in
-    omega (arith, u.2.1, s.small.1, s.inside, c.before.before.before.before.before.before.before.before.before.before.before.before.requires.1)
+    let k = c.scan_line-got in
+    let s = c.loop-at.invariant in
+    let u = fine_told _ _ _ _ k.result c.in-Fine.t c.in-Fine.is k.ensures.1.0 k.ensures.1.1 in
+    omega (arith, u.2.1, s.small.1, s.inside, c.requires.1)
 
 add_at : tie.Need-overflow_add-at invariant-loop decreases-loop
 add_at c = search rules
@@ -75,17 +72,16 @@ loop-less c = search rules
 
 loop-again : tie.Need-loop-at-preserved invariant-loop decreases-loop
 loop-again c =
-    let g = c.before.before.before.got-1.given in
-    let k = c.before.before.before.before.before.scan_line-got in
-    let f = c.before.before.before.before.before.before.before.find-e in
-    scanning_next _ _ _ _ _ _ _ c.before.before.before.before.before.before.before.before.before.loop-at.invariant c.before.before.before.before.before.before.before.before.loop-at-test.true f.result f.ensures.0 k.result k.ensures.0 g.0.0 g.1 k.ensures.1.0 k.ensures.1.1 f.ensures.1.0 f.ensures.1.1
+    let k = c.scan_line-got in
+    let f = c.find-e in
+    scanning_next _ _ _ _ _ _ _ c.loop-at.invariant c.loop-at-test.true f.result f.ensures.0 k.result k.ensures.0 c.in-Fine.t c.in-Fine.is k.ensures.1.0 k.ensures.1.1 f.ensures.1.0 f.ensures.1.1
 
 returns-2 : tie.Need-returns invariant-loop decreases-loop
 unfolding scan_fault ScanTold ScanSmall
 returns-2 c =
-    let s = c.before.loop-at.invariant in
+    let s = c.loop-at.invariant in
     let l = scanning_last _ _ _ _ _ _ _ s (omega (arith, c.loop-at-test.false)) in
-    (l.0, (l.1, (omega (arith, s.small.0, s.inside, c.before.before.before.before.requires.1), omega (arith, s.small.1, s.inside, c.before.before.before.before.requires.1))))
+    (l.0, (l.1, (omega (arith, s.small.0, s.inside, c.requires.1), omega (arith, s.small.1, s.inside, c.requires.1))))
 
 pub scan_values_spec : {M : Type 1} → statement M
 scan_values_spec =

@@ -19,39 +19,38 @@ use Rattle.writer.proofs.settle.Reads as settle-reads
 
 returns : tie.Need-returns-then-input-gt-DATA_LIMIT
 returns c =
-    let x = c.before.before.before.before.args in
-    input_refused x.columns.now x.input.now x.out-1.now (omega (arith, c.if-input-gt-DATA_LIMIT.true))
+    let x = c.args in
+    input_refused x.columns.now x.input.now x.out.now (omega (arith, c.if-input-gt-DATA_LIMIT.true))
 
 wrong-columns-requires : tie.Need-wrong_columns-requires
 wrong-columns-requires c κs = search rules
 
 returns-2 : tie.Need-returns-then-wrong_columns
 returns-2 c =
-    let x = c.before.before.before.before.before.before.args in
-    columns-refused x.columns.now x.input.now x.out-1.now (omega (arith, c.before.before.if-input-gt-DATA_LIMIT.false)) (sym c.before.wrong_columns.ensures ∙ c.if-wrong_columns.true)
+    let x = c.args in
+    columns-refused x.columns.now x.input.now x.out.now (omega (arith, c.if-input-gt-DATA_LIMIT.false)) (sym c.wrong_columns.ensures ∙ c.if-wrong_columns.true)
 
 line-count-requires : tie.Need-line_count-lines-requires
 line-count-requires c κs = search rules
 
 returns-3 : tie.Need-returns-then-lines-gt-LINE_LIMIT
 returns-3 c =
-    let x = c.before.before.before.before.before.before.before.before.args in
-    lines_refused x.columns.now x.input.now x.out-1.now (omega (arith, c.before.before.before.before.if-input-gt-DATA_LIMIT.false)) (sym c.before.before.before.wrong_columns.ensures ∙ c.before.before.if-wrong_columns.false) c.before.line_count-lines.result c.before.line_count-lines.ensures.0 (omega (arith, c.if-lines-gt-LINE_LIMIT.true))
+    let x = c.args in
+    lines_refused x.columns.now x.input.now x.out.now (omega (arith, c.if-input-gt-DATA_LIMIT.false)) (sym c.wrong_columns.ensures ∙ c.if-wrong_columns.false) c.line_count-lines.result c.line_count-lines.ensures.0 (omega (arith, c.if-lines-gt-LINE_LIMIT.true))
 
 scan-requires : tie.Need-scan-scanned-requires
-scan-requires c κs = (sym c.before.before.before.wrong_columns.ensures ∙ c.before.before.if-wrong_columns.false, omega (arith, c.before.before.before.before.if-input-gt-DATA_LIMIT.false))
+scan-requires c κs = (sym c.wrong_columns.ensures ∙ c.if-wrong_columns.false, omega (arith, c.if-input-gt-DATA_LIMIT.false))
 
 enum-known-scanned : tie.Need-enum_known-scanned
 enum-known-scanned c = search rules
 
 returns-4 : tie.Need-returns-in-Refused
 returns-4 c =
-    let x = c.before.before.before.before.before.before.before.before.before.before.before.before.args in
-    let lc = c.before.before.before.before.before.line_count-lines in
-    let sc = c.before.before.before.scan-scanned in
-    let right = sym c.before.before.before.before.before.before.before.wrong_columns.ensures ∙ c.before.before.before.before.before.before.if-wrong_columns.false in
-    let g = c.before.scanned-1.given in
-    scan-refused x.columns.now x.input.now x.out-1.now (omega (arith, c.before.before.before.before.before.before.before.before.if-input-gt-DATA_LIMIT.false)) right lc.result lc.ensures.0 (omega (arith, c.before.before.before.before.if-lines-gt-LINE_LIMIT.false)) sc.result sc.ensures.0 g.0.0 g.1
+    let x = c.args in
+    let lc = c.line_count-lines in
+    let sc = c.scan-scanned in
+    let right = sym c.wrong_columns.ensures ∙ c.if-wrong_columns.false in
+    scan-refused x.columns.now x.input.now x.out.now (omega (arith, c.if-input-gt-DATA_LIMIT.false)) right lc.result lc.ensures.0 (omega (arith, c.if-lines-gt-LINE_LIMIT.false)) sc.result sc.ensures.0 c.in-Refused.f c.in-Refused.is
 
 enum-known-scanned-2 : tie.Need-enum_known-scanned-in-Fine-1
 enum-known-scanned-2 c = search rules
@@ -64,26 +63,24 @@ cast-values c = search rules
 
 cast-sum : tie.Need-overflow_cast-sum
 cast-sum c =
-    let x = c.before.before.before.before.before.before.before.before.before.before.before.before.before.args in
-    let lc = c.before.before.before.before.before.before.line_count-lines in
-    let sc = c.before.before.before.before.scan-scanned in
-    let right = sym c.before.before.before.before.before.before.before.before.wrong_columns.ensures ∙ c.before.before.before.before.before.before.before.if-wrong_columns.false in
-    let g = c.before.before.scanned-in-Fine-1.given in
-    let t = fine_told _ _ _ _ sc.result g.0.0 g.1 sc.ensures.1.0 sc.ensures.1.1 in
-    omega (arith, t.1.1, sum_small x.columns.now x.input.now x.out-1.now (omega (arith, c.before.before.before.before.before.before.before.before.before.if-input-gt-DATA_LIMIT.false)) right lc.result lc.ensures.0 (omega (arith, c.before.before.before.before.before.if-lines-gt-LINE_LIMIT.false)) sc.result sc.ensures.0 g.0.0 g.1)
+    let x = c.args in
+    let lc = c.line_count-lines in
+    let sc = c.scan-scanned in
+    let right = sym c.wrong_columns.ensures ∙ c.if-wrong_columns.false in
+    let t = fine_told _ _ _ _ sc.result c.in-Fine.t c.in-Fine.is sc.ensures.1.0 sc.ensures.1.1 in
+    omega (arith, t.1.1, sum_small x.columns.now x.input.now x.out.now (omega (arith, c.if-input-gt-DATA_LIMIT.false)) right lc.result lc.ensures.0 (omega (arith, c.if-lines-gt-LINE_LIMIT.false)) sc.result sc.ensures.0 c.in-Fine.t c.in-Fine.is)
 
 last-len-requires : tie.Need-last_len-requires
 last-len-requires c κs = search rules
 
 add-settle : tie.Need-overflow_add-total
 add-settle c =
-    let x = c.before.before.before.before.before.before.before.before.before.before.before.before.before.before.before.args in
-    let lc = c.before.before.before.before.before.before.before.before.line_count-lines in
-    let sc = c.before.before.before.before.before.before.scan-scanned in
-    let right = sym c.before.before.before.before.before.before.before.before.before.before.wrong_columns.ensures ∙ c.before.before.before.before.before.before.before.before.before.if-wrong_columns.false in
-    let g = c.before.before.before.before.scanned-in-Fine-1.given in
-    let t = fine_told _ _ _ _ sc.result g.0.0 g.1 sc.ensures.1.0 sc.ensures.1.1 in
-    omega (arith, t.2.0, c.before.last_len.ensures.1)
+    let x = c.args in
+    let lc = c.line_count-lines in
+    let sc = c.scan-scanned in
+    let right = sym c.wrong_columns.ensures ∙ c.if-wrong_columns.false in
+    let t = fine_told _ _ _ _ sc.result c.in-Fine.t c.in-Fine.is sc.ensures.1.0 sc.ensures.1.1 in
+    omega (arith, t.2.0, c.last_len.ensures.1)
 
 settle-requires : tie.Need-settle-verdict-requires
 settle-requires c κs = search rules
@@ -93,65 +90,60 @@ enum-known-verdict c = search rules
 
 returns-5 : tie.Need-returns-in-Refused-verdict
 returns-5 c =
-    let x = c.before.before.before.before.before.before.before.before.before.before.before.before.before.before.before.before.before.before.before.args in
-    let lc = c.before.before.before.before.before.before.before.before.before.before.before.before.line_count-lines in
-    let sc = c.before.before.before.before.before.before.before.before.before.before.scan-scanned in
-    let right = sym c.before.before.before.before.before.before.before.before.before.before.before.before.before.before.wrong_columns.ensures ∙ c.before.before.before.before.before.before.before.before.before.before.before.before.before.if-wrong_columns.false in
-    let g = c.before.before.before.before.before.before.before.before.scanned-in-Fine-1.given in
-    let t = fine_told _ _ _ _ sc.result g.0.0 g.1 sc.ensures.1.0 sc.ensures.1.1 in
-    let l = c.before.before.before.before.before.last_len in
-    let e = last_text_lem x.input.now lc.result g.0.0.boards lc.ensures.0 t.1.1 in
-    let v = c.before.before.before.settle-verdict in
-    let k = c.before.verdict-1.given in
-    sizes_refused x.columns.now x.input.now x.out-1.now (omega (arith, c.before.before.before.before.before.before.before.before.before.before.before.before.before.before.before.if-input-gt-DATA_LIMIT.false)) right lc.result lc.ensures.0 (omega (arith, c.before.before.before.before.before.before.before.before.before.before.before.if-lines-gt-LINE_LIMIT.false)) sc.result sc.ensures.0 g.0.0 g.1 g.0.0.bytes l.result t.1.0 (l.ensures.0 ∙ ap length e) v.result v.ensures k.0.0 k.1
+    let x = c.args in
+    let lc = c.line_count-lines in
+    let sc = c.scan-scanned in
+    let right = sym c.wrong_columns.ensures ∙ c.if-wrong_columns.false in
+    let t = fine_told _ _ _ _ sc.result c.in-Fine.t c.in-Fine.is sc.ensures.1.0 sc.ensures.1.1 in
+    let l = c.last_len in
+    let e = last_text_lem x.input.now lc.result c.in-Fine.t.boards lc.ensures.0 t.1.1 in
+    let v = c.settle-verdict in
+    sizes_refused x.columns.now x.input.now x.out.now (omega (arith, c.if-input-gt-DATA_LIMIT.false)) right lc.result lc.ensures.0 (omega (arith, c.if-lines-gt-LINE_LIMIT.false)) sc.result sc.ensures.0 c.in-Fine.t c.in-Fine.is c.in-Fine.t.bytes l.result t.1.0 (l.ensures.0 ∙ ap length e) v.result v.ensures c.in-Refused-verdict.f c.in-Refused-verdict.is
 
 enum_told : tie.Need-enum_told-1
 enum_told c = search rules
 
 put-rows-requires : tie.Need-put_rows-end-requires
 put-rows-requires c κs =
-    let x = c.before.before.before.before.before.before.before.before.before.before.before.before.before.before.before.before.before.before.before.args in
-    let lc = c.before.before.before.before.before.before.before.before.before.before.before.before.line_count-lines in
-    let sc = c.before.before.before.before.before.before.before.before.before.before.scan-scanned in
-    let right = sym c.before.before.before.before.before.before.before.before.before.before.before.before.before.before.wrong_columns.ensures ∙ c.before.before.before.before.before.before.before.before.before.before.before.before.before.if-wrong_columns.false in
-    let g = c.before.before.before.before.before.before.before.before.scanned-in-Fine-1.given in
-    let t = fine_told _ _ _ _ sc.result g.0.0 g.1 sc.ensures.1.0 sc.ensures.1.1 in
-    let l = c.before.before.before.before.before.last_len in
-    let e = last_text_lem x.input.now lc.result g.0.0.boards lc.ensures.0 t.1.1 in
-    let v = c.before.before.before.settle-verdict in
-    (fits x.columns.now x.input.now x.out-1.now (omega (arith, c.before.before.before.before.before.before.before.before.before.before.before.before.before.before.before.if-input-gt-DATA_LIMIT.false)) right lc.result lc.ensures.0 (omega (arith, c.before.before.before.before.before.before.before.before.before.before.before.if-lines-gt-LINE_LIMIT.false)) sc.result sc.ensures.0 g.0.0 g.1, omega (arith, has_room x.columns.now x.input.now x.out-1.now (omega (arith, c.before.before.before.before.before.before.before.before.before.before.before.before.before.before.before.if-input-gt-DATA_LIMIT.false)) right lc.result lc.ensures.0 (omega (arith, c.before.before.before.before.before.before.before.before.before.before.before.if-lines-gt-LINE_LIMIT.false)) sc.result sc.ensures.0 g.0.0 g.1 g.0.0.bytes l.result t.1.0 (l.ensures.0 ∙ ap length e) v.result v.ensures c.before.enum_told-1.given.1, t.1.0))
+    let x = c.args in
+    let lc = c.line_count-lines in
+    let sc = c.scan-scanned in
+    let right = sym c.wrong_columns.ensures ∙ c.if-wrong_columns.false in
+    let t = fine_told _ _ _ _ sc.result c.in-Fine.t c.in-Fine.is sc.ensures.1.0 sc.ensures.1.1 in
+    let l = c.last_len in
+    let e = last_text_lem x.input.now lc.result c.in-Fine.t.boards lc.ensures.0 t.1.1 in
+    let v = c.settle-verdict in
+    (fits x.columns.now x.input.now x.out.now (omega (arith, c.if-input-gt-DATA_LIMIT.false)) right lc.result lc.ensures.0 (omega (arith, c.if-lines-gt-LINE_LIMIT.false)) sc.result sc.ensures.0 c.in-Fine.t c.in-Fine.is, omega (arith, has_room x.columns.now x.input.now x.out.now (omega (arith, c.if-input-gt-DATA_LIMIT.false)) right lc.result lc.ensures.0 (omega (arith, c.if-lines-gt-LINE_LIMIT.false)) sc.result sc.ensures.0 c.in-Fine.t c.in-Fine.is c.in-Fine.t.bytes l.result t.1.0 (l.ensures.0 ∙ ap length e) v.result v.ensures c.in-Room.is, t.1.0))
 
 put-last-requires : tie.Need-put_last-requires
 put-last-requires c κs =
-    let x = c.before.before.before.before.before.before.before.before.before.before.before.before.before.before.before.before.before.before.before.before.before.before.before.args in
-    let lc = c.before.before.before.before.before.before.before.before.before.before.before.before.before.before.before.before.line_count-lines in
-    let sc = c.before.before.before.before.before.before.before.before.before.before.before.before.before.before.scan-scanned in
-    let right = sym c.before.before.before.before.before.before.before.before.before.before.before.before.before.before.before.before.before.before.wrong_columns.ensures ∙ c.before.before.before.before.before.before.before.before.before.before.before.before.before.before.before.before.before.if-wrong_columns.false in
-    let g = c.before.before.before.before.before.before.before.before.before.before.before.before.scanned-in-Fine-1.given in
-    let t = fine_told _ _ _ _ sc.result g.0.0 g.1 sc.ensures.1.0 sc.ensures.1.1 in
-    let l = c.before.before.before.before.before.before.before.before.before.last_len in
-    let e = last_text_lem x.input.now lc.result g.0.0.boards lc.ensures.0 t.1.1 in
-    let v = c.before.before.before.before.before.before.before.settle-verdict in
-    let p = c.before.before.before.put_rows-end in
-    omega (arith, has_room x.columns.now x.input.now x.out-1.now (omega (arith, c.before.before.before.before.before.before.before.before.before.before.before.before.before.before.before.before.before.before.before.if-input-gt-DATA_LIMIT.false)) right lc.result lc.ensures.0 (omega (arith, c.before.before.before.before.before.before.before.before.before.before.before.before.before.before.before.if-lines-gt-LINE_LIMIT.false)) sc.result sc.ensures.0 g.0.0 g.1 g.0.0.bytes l.result t.1.0 (l.ensures.0 ∙ ap length e) v.result v.ensures c.before.before.before.before.before.enum_told-1.given.1, t.1.0, l.ensures.0, p.ensures.0, p.auto)
+    let x = c.args in
+    let lc = c.line_count-lines in
+    let sc = c.scan-scanned in
+    let right = sym c.wrong_columns.ensures ∙ c.if-wrong_columns.false in
+    let t = fine_told _ _ _ _ sc.result c.in-Fine.t c.in-Fine.is sc.ensures.1.0 sc.ensures.1.1 in
+    let l = c.last_len in
+    let e = last_text_lem x.input.now lc.result c.in-Fine.t.boards lc.ensures.0 t.1.1 in
+    let v = c.settle-verdict in
+    let p = c.put_rows-end in
+    omega (arith, has_room x.columns.now x.input.now x.out.now (omega (arith, c.if-input-gt-DATA_LIMIT.false)) right lc.result lc.ensures.0 (omega (arith, c.if-lines-gt-LINE_LIMIT.false)) sc.result sc.ensures.0 c.in-Fine.t c.in-Fine.is c.in-Fine.t.bytes l.result t.1.0 (l.ensures.0 ∙ ap length e) v.result v.ensures c.in-Room.is, t.1.0, l.ensures.0, p.ensures.0, p.auto)
 
 same_length : tie.Need-shape_of-out
 same_length c = search rules
 
 returns-6 : tie.Need-returns
 returns-6 c =
-    let x = c.before.before.before.before.before.before.before.before.before.before.before.before.before.before.before.before.before.before.before.before.before.before.before.before.before.before.args in
-    let lc = c.before.before.before.before.before.before.before.before.before.before.before.before.before.before.before.before.before.before.before.line_count-lines in
-    let sc = c.before.before.before.before.before.before.before.before.before.before.before.before.before.before.before.before.before.scan-scanned in
-    let right = sym c.before.before.before.before.before.before.before.before.before.before.before.before.before.before.before.before.before.before.before.before.before.wrong_columns.ensures ∙ c.before.before.before.before.before.before.before.before.before.before.before.before.before.before.before.before.before.before.before.before.if-wrong_columns.false in
-    let g = c.before.before.before.before.before.before.before.before.before.before.before.before.before.before.before.scanned-in-Fine-1.given in
-    let t = fine_told _ _ _ _ sc.result g.0.0 g.1 sc.ensures.1.0 sc.ensures.1.1 in
-    let l = c.before.before.before.before.before.before.before.before.before.before.before.before.last_len in
-    let e = last_text_lem x.input.now lc.result g.0.0.boards lc.ensures.0 t.1.1 in
-    let v = c.before.before.before.before.before.before.before.before.before.before.settle-verdict in
-    let p = c.before.before.before.before.before.before.put_rows-end in
-    let q = c.before.before.put_last in
-    written x.columns.now x.input.now x.out-1.now (omega (arith, c.before.before.before.before.before.before.before.before.before.before.before.before.before.before.before.before.before.before.before.before.before.before.if-input-gt-DATA_LIMIT.false)) right lc.result lc.ensures.0 (omega (arith, c.before.before.before.before.before.before.before.before.before.before.before.before.before.before.before.before.before.before.if-lines-gt-LINE_LIMIT.false)) sc.result sc.ensures.0 g.0.0 g.1 g.0.0.bytes l.result t.1.0 (l.ensures.0 ∙ ap length e) v.result v.ensures c.before.before.before.before.before.before.before.before.enum_told-1.given.1 p.result q.result _ _ _ e p.ensures.0 p.ensures.1 q.ensures.0 q.ensures.1
+    let x = c.args in
+    let lc = c.line_count-lines in
+    let sc = c.scan-scanned in
+    let right = sym c.wrong_columns.ensures ∙ c.if-wrong_columns.false in
+    let t = fine_told _ _ _ _ sc.result c.in-Fine.t c.in-Fine.is sc.ensures.1.0 sc.ensures.1.1 in
+    let l = c.last_len in
+    let e = last_text_lem x.input.now lc.result c.in-Fine.t.boards lc.ensures.0 t.1.1 in
+    let v = c.settle-verdict in
+    let p = c.put_rows-end in
+    let q = c.put_last in
+    written x.columns.now x.input.now x.out.now (omega (arith, c.if-input-gt-DATA_LIMIT.false)) right lc.result lc.ensures.0 (omega (arith, c.if-lines-gt-LINE_LIMIT.false)) sc.result sc.ensures.0 c.in-Fine.t c.in-Fine.is c.in-Fine.t.bytes l.result t.1.0 (l.ensures.0 ∙ ap length e) v.result v.ensures c.in-Room.is p.result q.result _ _ _ e p.ensures.0 p.ensures.1 q.ensures.0 q.ensures.1
 
 pub write_tally_spec : {M : Type 1} → statement M
 write_tally_spec =

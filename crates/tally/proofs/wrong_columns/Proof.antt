@@ -20,17 +20,17 @@ abbrev decreases-loop : tie.decreases-loop-k
 decreases-loop columns k₀ k = length columns - k
 
 -- past the tests of the number of columns
-by-columns : (c : tie.At-loop-k invariant-loop decreases-loop) → any_bad (columns_of c.before.before.before.before.before.args.columns.now) ≡ wrong_columns_of c.before.before.before.before.before.args.columns.now
-by-columns c = wrong_any _ c.before.before.before.if-columns-ne0.false c.before.before.if-columns-eq0.false c.before.if-columns-gt-NUMBERS_LIMIT.false
+by-columns : (c : tie.At-loop-k invariant-loop decreases-loop) → any_bad (columns_of c.args.columns.now) ≡ wrong_columns_of c.args.columns.now
+by-columns c = wrong_any _ c.if-columns-ne0.false c.if-columns-eq0.false c.if-columns-gt-NUMBERS_LIMIT.false
 
 returns : tie.Need-returns-then-columns-ne0 invariant-loop decreases-loop
 returns c = wrong_odd _ c.if-columns-ne0.true
 
 returns-2 : tie.Need-returns-then-columns-eq0 invariant-loop decreases-loop
-returns-2 c = wrong_none _ c.before.if-columns-ne0.false c.if-columns-eq0.true
+returns-2 c = wrong_none _ c.if-columns-ne0.false c.if-columns-eq0.true
 
 returns-3 : tie.Need-returns-then-columns-gt-NUMBERS_LIMIT invariant-loop decreases-loop
-returns-3 c = wrong_many _ c.before.before.if-columns-ne0.false c.if-columns-gt-NUMBERS_LIMIT.true
+returns-3 c = wrong_many _ c.if-columns-ne0.false c.if-columns-gt-NUMBERS_LIMIT.true
 
 loop-holds : tie.Need-loop-k-init invariant-loop decreases-loop
 loop-holds c = (omega arith, refl)
@@ -58,8 +58,7 @@ bad-column-requires c κs = search rules
 
 returns-4 : tie.Need-returns-then-bad_column invariant-loop decreases-loop
 returns-4 c =
-    let l = c.before.before.before.before.before in
-    sym (bad_here _ l.loop-k.k c.before.before.before.before.loop-k-test.true (sym c.before.bad_column.ensures ∙ c.if-bad_column.true)) ∙ l.loop-k.invariant.1 ∙ by-columns l
+    sym (bad_here _ c.loop-k.k c.loop-k-test.true (sym c.bad_column.ensures ∙ c.if-bad_column.true)) ∙ c.loop-k.invariant.1 ∙ by-columns c.before.before.before.before.before
 
 add-k : tie.Need-overflow_add-k-in-loop-k-2 invariant-loop decreases-loop
 add-k c = search rules
@@ -69,14 +68,12 @@ loop-less c = search rules
 
 loop-again : tie.Need-loop-k-preserved invariant-loop decreases-loop
 loop-again c =
-    let l = c.before.before.before.before.before in
-    let more = c.before.before.before.before.loop-k-test.true in
-    (omega (arith, more), sym (bad_next _ l.loop-k.k more (sym c.before.bad_column.ensures ∙ c.if-bad_column.false)) ∙ l.loop-k.invariant.1)
+    let more = c.loop-k-test.true in
+    (omega (arith, more), sym (bad_next _ c.loop-k.k more (sym c.bad_column.ensures ∙ c.if-bad_column.false)) ∙ c.loop-k.invariant.1)
 
 returns-5 : tie.Need-returns invariant-loop decreases-loop
 returns-5 c =
-    let l = c.before in
-    sym (bad_none _ l.loop-k.k c.loop-k-test.false) ∙ l.loop-k.invariant.1 ∙ by-columns l
+    sym (bad_none _ c.loop-k.k c.loop-k-test.false) ∙ c.loop-k.invariant.1 ∙ by-columns c.before
 
 pub wrong_columns_spec : {M : Type 1} → statement M
 wrong_columns_spec =

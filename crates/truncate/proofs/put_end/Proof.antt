@@ -35,7 +35,7 @@ abbrev content : tie.Start → Recording
 content s = recording s.args.content.now s.args.entries.now s.args.text.now
 
 abbrev ellipsis : tie.Start → Recording
-ellipsis s = recording s.args.ellipsis.now s.args.ellipsis-entries.now s.args.ellipsis-text.now
+ellipsis s = recording s.args.ellipsis.now s.args.ellipsis_entries.now s.args.ellipsis_text.now
 
 abbrev lent : tie.Start → Out
 lent s = blank s.args.bytes.now s.args.numbers.now s.args.texts.now
@@ -65,10 +65,9 @@ first s o cut w =
 put-recording-requires : tie.Need-put_recording-requires
 unfolding out
 put-recording-requires c κs =
-    let start = c.before.before.before.before.before.before.before.before.before.before.before.before.before.before in
-    let a = start.args in
-    let p = start.requires in
-    let e = end_whole a.p (content start) (ellipsis start) c.before.before.before.if-not-p.true in
+    let a = c.args in
+    let p = c.requires in
+    let e = end_whole a.p (content c.before.before.before.before.before.before.before.before.before.before.before.before.before.before) (ellipsis c.before.before.before.before.before.before.before.before.before.before.before.before.before.before) c.if-not-p.true in
     (p.0, rw e at p.1.1.1)
 
 same_length : tie.Need-shape_of-bytes-then-not-p
@@ -83,36 +82,29 @@ same-length-3 c = search rules
 returns : tie.Need-returns-then-not-p
 unfolding out
 returns c =
-    let at-put-recording = c.before.before.before.before.before.before in
-    let at-if1 = at-put-recording.before.before.before.before in
-    let start = at-if1.before.before.before.before.before.before.before.before.before.before.before in
-    let a = start.args in
-    let e = end_whole a.p (content start) (ellipsis start) at-if1.if-not-p.true in
-    let w = at-put-recording.put_recording.ensures.0 ∙ ap (λ (x : List Item). add x (lent start)) (sym e) in
-    (w, held start _ w)
+    let a = c.args in
+    let e = end_whole a.p (content c.before.before.before.before.before.before.before.before.before.before.before.before.before.before.before.before.before.before.before.before.before) (ellipsis c.before.before.before.before.before.before.before.before.before.before.before.before.before.before.before.before.before.before.before.before.before) c.if-not-p.true in
+    let w = c.put_recording.ensures.0 ∙ ap (λ (x : List Item). add x (lent c.before.before.before.before.before.before.before.before.before.before.before.before.before.before.before.before.before.before.before.before.before)) (sym e) in
+    (w, held c.before.before.before.before.before.before.before.before.before.before.before.before.before.before.before.before.before.before.before.before.before _ w)
 
 put-up-to-requires : tie.Need-put_up_to-c-requires
 unfolding out
 put-up-to-requires c κs =
-    let start = c.before.before.before.before.before.before.before.before.before.before.before.before.before.before in
-    let a = start.args in
-    let p = start.requires in
-    let cut = c.before.before.before.if-not-p.false in
-    let e = end_cut a.p (content start) (ellipsis start) cut in
+    let a = c.args in
+    let p = c.requires in
+    let cut = not_false a.p.cut c.if-not-p.false in
+    let e = end_cut a.p (content c.before.before.before.before.before.before.before.before.before.before.before.before.before.before) (ellipsis c.before.before.before.before.before.before.before.before.before.before.before.before.before.before) cut in
     (p.0, (p.1.1.0.0, fits_first _ _ _ _ e p.1.1.1))
 
 put-end-ellipsis-requires : tie.Need-put_end_ellipsis-requires
 unfolding out
 put-end-ellipsis-requires c κs =
-    let at-put-up-to = c.before.before.before.before.before.before.before.before.before in
-    let at-if1 = at-put-up-to.before.before.before.before in
-    let start = at-if1.before.before.before.before.before.before.before.before.before.before.before in
-    let a = start.args in
-    let p = start.requires in
-    let cut = at-if1.if-not-p.false in
-    let e = end_cut a.p (content start) (ellipsis start) cut in
-    let w = at-put-up-to.put_up_to-c.ensures.0 in
-    let f = first start _ cut w in
+    let a = c.args in
+    let p = c.requires in
+    let cut = not_false a.p.cut c.if-not-p.false in
+    let e = end_cut a.p (content c.before.before.before.before.before.before.before.before.before.before.before.before.before.before.before.before.before.before.before.before.before.before.before.before) (ellipsis c.before.before.before.before.before.before.before.before.before.before.before.before.before.before.before.before.before.before.before.before.before.before.before.before) cut in
+    let w = c.put_up_to-c.ensures.0 in
+    let f = first c.before.before.before.before.before.before.before.before.before.before.before.before.before.before.before.before.before.before.before.before.before.before.before.before _ cut w in
     (p.1.0, ((cut, p.1.1.0.0, p.1.1.0.1), ((f.0, held_self _ _ _ _ f.1), fits_then _ _ _ _ _ e p.1.1.1 w)))
 
 same-length-4 : tie.Need-shape_of-bytes
@@ -127,15 +119,11 @@ same-length-6 c = search rules
 returns-2 : tie.Need-returns
 unfolding out
 returns-2 c =
-    let at-put-end-ellipsis = c.before.before.before.before.before.before in
-    let at-put-up-to = at-put-end-ellipsis.before.before.before.before.before.before.before.before.before.before in
-    let at-if1 = at-put-up-to.before.before.before.before in
-    let start = at-if1.before.before.before.before.before.before.before.before.before.before.before in
-    let a = start.args in
-    let p = start.requires in
-    let e = end_cut a.p (content start) (ellipsis start) at-if1.if-not-p.false in
-    let w = then _ _ _ _ _ _ e p.1.1.1 at-put-up-to.put_up_to-c.ensures.0 at-put-end-ellipsis.put_end_ellipsis.ensures.0 in
-    (w, held start _ w)
+    let a = c.args in
+    let p = c.requires in
+    let e = end_cut a.p (content c.before.before.before.before.before.before.before.before.before.before.before.before.before.before.before.before.before.before.before.before.before.before.before.before.before.before.before.before.before.before.before) (ellipsis c.before.before.before.before.before.before.before.before.before.before.before.before.before.before.before.before.before.before.before.before.before.before.before.before.before.before.before.before.before.before.before) (not_false a.p.cut c.if-not-p.false) in
+    let w = then _ _ _ _ _ _ e p.1.1.1 c.put_up_to-c.ensures.0 c.put_end_ellipsis.ensures.0 in
+    (w, held c.before.before.before.before.before.before.before.before.before.before.before.before.before.before.before.before.before.before.before.before.before.before.before.before.before.before.before.before.before.before.before _ w)
 
 pub put_end_spec : {M : Type 1} → statement M
 put_end_spec =

@@ -20,7 +20,7 @@ use Rattle.truncate.proofs.put_up_to.Reads as put-up-to-reads
 put-up-to-requires : tie.Need-put_up_to-requires
 unfolding out
 put-up-to-requires c κs =
-    let p = c.before.before.before.before.before.before.before.before.before.before.requires in
+    let p = c.requires in
     (p.0, (p.1.0.2, p.1.1.1))
 
 same_length : tie.Need-shape_of-bytes
@@ -35,16 +35,14 @@ same-length-3 c = search rules
 returns : tie.Need-returns
 unfolding RunHeld
 returns c =
-    let at-put-up-to = c.before.before.before.before.before.before in
-    let start = at-put-up-to.before.before.before.before.before.before.before.before.before.before.before in
-    let a = start.args in
-    let p = start.requires in
-    let w = at-put-up-to.put_up_to.ensures in
+    let a = c.args in
+    let p = c.requires in
+    let w = c.put_up_to.ensures in
     let all = finished_end a.p a.content.now a.ellipsis.now in
     let place = p.1.1.0.0 ∙ sym (length-take-le a.p.content a.content.now p.1.0.1) in
     let runs = end_runs a.p a.content.now a.ellipsis.now p.1.0.0 in
     let next = next_second (take a.p.content a.content.now) (take a.p.ellipsis a.ellipsis.now) all a.c.d runs place in
-    (w.0, w.1 all a.bytes-1.now p.1.1.0.1 next)
+    (w.0, w.1 all a.bytes.now p.1.1.0.1 next)
 
 pub put_end_ellipsis_spec : {M : Type 1} → statement M
 put_end_ellipsis_spec = tie.close (tie.spec put-up-to-requires same_length same-length-2 same-length-3 returns)

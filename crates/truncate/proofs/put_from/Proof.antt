@@ -23,8 +23,8 @@ use Rattle.writer.proofs.skip_entries.Reads as skip-entries-reads
 skip-entries-requires : tie.Need-skip_entries-there-requires
 unfolding out
 skip-entries-requires c κs =
-    let a = c.before.before.before.before.before.before.before.before.before.args in
-    let p = c.before.before.before.before.before.before.before.before.before.requires in (
+    let a = c.args in
+    let p = c.requires in (
       ready_start _ _ _ _ refl refl p.0,
       (
         (omega arith, p.1.0),
@@ -36,11 +36,9 @@ skip-entries-requires c κs =
 keep-requires : tie.Need-keep-requires
 unfolding out
 keep-requires c κs =
-    let at-skip = c.before.before.before.before.before.before.before.before.before in
-    let start = at-skip.before.before.before.before.before.before.before.before.before.before in
-    let a = start.args in
-    let p = start.requires in
-    let k = at-skip.skip_entries-there.ensures in (
+    let a = c.args in
+    let p = c.requires in
+    let k = c.skip_entries-there.ensures in (
       k.1.1.0,
       (
         (omega (arith, k.1.1.1, p.1.0), omega arith),
@@ -61,16 +59,13 @@ same-length-3 c = search rules
 returns : tie.Need-returns
 unfolding out
 returns c =
-    let at-keep = c.before.before.before.before.before.before in
-    let at-skip = at-keep.before.before.before.before.before.before.before.before.before.before in
-    let start = at-skip.before.before.before.before.before.before.before.before.before.before in
-    let a = start.args in
-    let p = start.requires in
-    let k = at-skip.skip_entries-there.ensures in
+    let a = c.args in
+    let p = c.requires in
+    let k = c.skip_entries-there.ensures in
     let w = both entries_only (λ (x : List Item). x) _ _ _ _ _ (edit_from a.n a.content.now a.entries.now a.text.now) _ refl refl _ p.1.1 _ _ k.0 k.1.0
-    k.1.1.1 _ at-keep.keep.ensures.0 in
+    k.1.1.1 _ c.keep.ensures.0 in
     let is = edit (cut_start_of a.n) (items (recording a.content.now a.entries.now a.text.now)) in
-    (w, added_held is (drop a.n a.content.now) (out a.bytes-1.now a.numbers-1.now a.texts-1.now a.c) _ w (from_run a.n a.content.now a.entries.now a.text.now))
+    (w, added_held is (drop a.n a.content.now) (out a.bytes.now a.numbers.now a.texts.now a.c) _ w (from_run a.n a.content.now a.entries.now a.text.now))
 
 pub put_from_spec : {M : Type 1} → statement M
 put_from_spec =

@@ -33,7 +33,7 @@ abbrev content : tie.Start → Recording
 content s = recording s.args.content.now s.args.entries.now s.args.text.now
 
 abbrev ellipsis : tie.Start → Recording
-ellipsis s = recording s.args.ellipsis.now s.args.ellipsis-entries.now s.args.ellipsis-text.now
+ellipsis s = recording s.args.ellipsis.now s.args.ellipsis_entries.now s.args.ellipsis_text.now
 
 abbrev lent : tie.Start → Out
 lent s = blank s.args.bytes.now s.args.numbers.now s.args.texts.now
@@ -63,10 +63,9 @@ first s o cut w =
 put-from-requires : tie.Need-put_from-requires
 unfolding out
 put-from-requires c κs =
-    let start = c.before.before.before.before.before.before.before.before.before.before.before.before.before.before in
-    let a = start.args in
-    let p = start.requires in
-    let e = start_whole a.p (content start) (ellipsis start) c.before.before.before.if-not-p.true in
+    let a = c.args in
+    let p = c.requires in
+    let e = start_whole a.p (content c.before.before.before.before.before.before.before.before.before.before.before.before.before.before) (ellipsis c.before.before.before.before.before.before.before.before.before.before.before.before.before.before) c.if-not-p.true in
     (p.0, (p.1.1.0.0, rw e at p.1.1.1))
 
 same_length : tie.Need-shape_of-bytes-then-not-p
@@ -81,36 +80,29 @@ same-length-3 c = search rules
 returns : tie.Need-returns-then-not-p
 unfolding out
 returns c =
-    let at-put-from = c.before.before.before.before.before.before in
-    let at-if1 = at-put-from.before.before.before.before in
-    let start = at-if1.before.before.before.before.before.before.before.before.before.before.before in
-    let a = start.args in
-    let e = start_whole a.p (content start) (ellipsis start) at-if1.if-not-p.true in
-    let w = at-put-from.put_from.ensures.0 ∙ ap (λ (x : List Item). add x (lent start)) (sym e) in
-    (w, held start _ w)
+    let a = c.args in
+    let e = start_whole a.p (content c.before.before.before.before.before.before.before.before.before.before.before.before.before.before.before.before.before.before.before.before.before) (ellipsis c.before.before.before.before.before.before.before.before.before.before.before.before.before.before.before.before.before.before.before.before.before) c.if-not-p.true in
+    let w = c.put_from.ensures.0 ∙ ap (λ (x : List Item). add x (lent c.before.before.before.before.before.before.before.before.before.before.before.before.before.before.before.before.before.before.before.before.before)) (sym e) in
+    (w, held c.before.before.before.before.before.before.before.before.before.before.before.before.before.before.before.before.before.before.before.before.before _ w)
 
 put-from-requires-2 : tie.Need-put_from-c-requires
 unfolding out
 put-from-requires-2 c κs =
-    let start = c.before.before.before.before.before.before.before.before.before.before.before.before.before.before in
-    let a = start.args in
-    let p = start.requires in
-    let cut = c.before.before.before.if-not-p.false in
-    let e = start_cut a.p (content start) (ellipsis start) cut in
+    let a = c.args in
+    let p = c.requires in
+    let cut = not_false a.p.cut c.if-not-p.false in
+    let e = start_cut a.p (content c.before.before.before.before.before.before.before.before.before.before.before.before.before.before) (ellipsis c.before.before.before.before.before.before.before.before.before.before.before.before.before.before) cut in
     (p.1.0, (p.1.1.0.1, fits_first _ _ _ _ e p.1.1.1))
 
 put-start-content-requires : tie.Need-put_start_content-requires
 unfolding out
 put-start-content-requires c κs =
-    let at-put-from2 = c.before.before.before.before.before.before.before.before.before in
-    let at-if1 = at-put-from2.before.before.before.before in
-    let start = at-if1.before.before.before.before.before.before.before.before.before.before.before in
-    let a = start.args in
-    let p = start.requires in
-    let cut = at-if1.if-not-p.false in
-    let e = start_cut a.p (content start) (ellipsis start) cut in
-    let w = at-put-from2.put_from-c.ensures.0 in
-    let f = first start _ cut w in
+    let a = c.args in
+    let p = c.requires in
+    let cut = not_false a.p.cut c.if-not-p.false in
+    let e = start_cut a.p (content c.before.before.before.before.before.before.before.before.before.before.before.before.before.before.before.before.before.before.before.before.before.before.before.before) (ellipsis c.before.before.before.before.before.before.before.before.before.before.before.before.before.before.before.before.before.before.before.before.before.before.before.before) cut in
+    let w = c.put_from-c.ensures.0 in
+    let f = first c.before.before.before.before.before.before.before.before.before.before.before.before.before.before.before.before.before.before.before.before.before.before.before.before _ cut w in
     (p.0, ((cut, p.1.1.0.0), ((f.0, held_self _ _ _ _ f.1), fits_then _ _ _ _ _ e p.1.1.1 w)))
 
 same-length-4 : tie.Need-shape_of-bytes
@@ -125,15 +117,11 @@ same-length-6 c = search rules
 returns-2 : tie.Need-returns
 unfolding out
 returns-2 c =
-    let at-put-start-content = c.before.before.before.before.before.before in
-    let at-put-from2 = at-put-start-content.before.before.before.before.before.before.before.before.before.before in
-    let at-if1 = at-put-from2.before.before.before.before in
-    let start = at-if1.before.before.before.before.before.before.before.before.before.before.before in
-    let a = start.args in
-    let p = start.requires in
-    let e = start_cut a.p (content start) (ellipsis start) at-if1.if-not-p.false in
-    let w = then _ _ _ _ _ _ e p.1.1.1 at-put-from2.put_from-c.ensures.0 at-put-start-content.put_start_content.ensures.0 in
-    (w, held start _ w)
+    let a = c.args in
+    let p = c.requires in
+    let e = start_cut a.p (content c.before.before.before.before.before.before.before.before.before.before.before.before.before.before.before.before.before.before.before.before.before.before.before.before.before.before.before.before.before.before.before) (ellipsis c.before.before.before.before.before.before.before.before.before.before.before.before.before.before.before.before.before.before.before.before.before.before.before.before.before.before.before.before.before.before.before) (not_false a.p.cut c.if-not-p.false) in
+    let w = then _ _ _ _ _ _ e p.1.1.1 c.put_from-c.ensures.0 c.put_start_content.ensures.0 in
+    (w, held c.before.before.before.before.before.before.before.before.before.before.before.before.before.before.before.before.before.before.before.before.before.before.before.before.before.before.before.before.before.before.before _ w)
 
 pub put_start_spec : {M : Type 1} → statement M
 put_start_spec =

@@ -19,7 +19,7 @@ use Rattle.truncate.proofs.put_from.Reads as put-from-reads
 put-from-requires : tie.Need-put_from-requires
 unfolding out
 put-from-requires c κs =
-    let p = c.before.before.before.before.before.before.before.before.before.before.requires in
+    let p = c.requires in
     (p.0, (p.1.0.1, p.1.1.1))
 
 same_length : tie.Need-shape_of-bytes
@@ -34,16 +34,14 @@ same-length-3 c = search rules
 returns : tie.Need-returns
 unfolding RunHeld
 returns c =
-    let at-put-from = c.before.before.before.before.before.before in
-    let start = at-put-from.before.before.before.before.before.before.before.before.before.before.before in
-    let a = start.args in
-    let p = start.requires in
-    let w = at-put-from.put_from.ensures in
+    let a = c.args in
+    let p = c.requires in
+    let w = c.put_from.ensures in
     let all = finished_start a.p a.content.now a.ellipsis.now in
     let place = p.1.1.0.0 ∙ sym (length-drop a.p.ellipsis a.ellipsis.now) in
     let runs = start_runs a.p a.content.now a.ellipsis.now p.1.0.0 in
     let next = next_second (drop a.p.ellipsis a.ellipsis.now) (drop a.p.content a.content.now) all a.c.d runs place in
-    (w.0, w.1 all a.bytes-1.now p.1.1.0.1 next)
+    (w.0, w.1 all a.bytes.now p.1.1.0.1 next)
 
 pub put_start_content_spec : {M : Type 1} → statement M
 put_start_content_spec = tie.close (tie.spec put-from-requires same_length same-length-2 same-length-3 returns)

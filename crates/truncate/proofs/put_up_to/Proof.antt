@@ -23,8 +23,8 @@ use Rattle.writer.proofs.skip_entries.Reads as skip-entries-reads
 keep-requires : tie.Need-keep-there-requires
 unfolding out
 keep-requires c κs =
-    let a = c.before.before.before.before.before.before.before.before.before.args in
-    let p = c.before.before.before.before.before.before.before.before.before.requires in (
+    let a = c.args in
+    let p = c.requires in (
       ready_start _ _ _ _ refl refl p.0,
       (
         (omega arith, p.1.0),
@@ -36,11 +36,9 @@ keep-requires c κs =
 skip-entries-requires : tie.Need-skip_entries-requires
 unfolding out
 skip-entries-requires c κs =
-    let at-keep = c.before.before.before.before.before.before.before.before.before in
-    let start = at-keep.before.before.before.before.before.before.before.before.before.before in
-    let a = start.args in
-    let p = start.requires in
-    let k = at-keep.keep-there.ensures in (
+    let a = c.args in
+    let p = c.requires in
+    let k = c.keep-there.ensures in (
       k.1.1.0,
       (
         (omega (arith, k.1.1.1, p.1.0), omega arith),
@@ -61,16 +59,13 @@ same-length-3 c = search rules
 returns : tie.Need-returns
 unfolding out
 returns c =
-    let at-skip = c.before.before.before.before.before.before in
-    let at-keep = at-skip.before.before.before.before.before.before.before.before.before.before in
-    let start = at-keep.before.before.before.before.before.before.before.before.before.before in
-    let a = start.args in
-    let p = start.requires in
-    let k = at-keep.keep-there.ensures in
+    let a = c.args in
+    let p = c.requires in
+    let k = c.keep-there.ensures in
     let w = both (λ (x : List Item). x) entries_only _ _ _ _ _ (edit_up_to a.n a.content.now a.entries.now a.text.now) _ refl refl _ p.1.1 _ _ k.0 k.1.0
-    k.1.1.1 _ at-skip.skip_entries.ensures.0 in
+    k.1.1.1 _ c.skip_entries.ensures.0 in
     let is = edit (cut_end_of a.n a.content.now) (items (recording a.content.now a.entries.now a.text.now)) in
-    (w, added_held is (take a.n a.content.now) (out a.bytes-1.now a.numbers-1.now a.texts-1.now a.c) _ w (up_to_run a.n a.content.now a.entries.now a.text.now))
+    (w, added_held is (take a.n a.content.now) (out a.bytes.now a.numbers.now a.texts.now a.c) _ w (up_to_run a.n a.content.now a.entries.now a.text.now))
 
 pub put_up_to_spec : {M : Type 1} → statement M
 put_up_to_spec =

@@ -40,30 +40,30 @@ given s =
       fs = a.ellipsis.now;
       gs = a.ellipsis-entries.now;
       us = a.ellipsis-text.now;
-      od = a.bytes-1.now;
-      oe = a.numbers-1.now;
-      ot = a.texts-1.now;
+      od = a.bytes.now;
+      oe = a.numbers.now;
+      ot = a.texts.now;
     }
 
 -- once both recordings are checked
-abbrev start : tie.In-Fine-2 → tie.Start
+abbrev start : tie.In-Fine → tie.Start
 start c = c.before.before.before.before.before.before.before.before.before.before.before.before
 
-abbrev sizes : tie.In-Fine-2 → TextSizes
-sizes c = c.checked-in-Fine-1.given.0.0
+abbrev sizes : tie.In-Fine → TextSizes
+sizes c = c.in-Fine.n
 
-fine : (c : tie.In-Fine-2) → BothFine (given (start c)) (sizes c)
-fine c = both_fine (given (start c)) c.before.before.check_both-checked.result c.before.before.check_both-checked.ensures (sizes c) c.checked-in-Fine-1.given.1
+fine : (c : tie.In-Fine) → BothFine (given (start c)) (sizes c)
+fine c = both_fine (given (start c)) c.check_both-checked.result c.check_both-checked.ensures (sizes c) c.in-Fine.is
 
 -- once it is planned what is kept, and known how often the ellipsis's entries are written
-abbrev checked : tie.After-plus_if-2 → tie.In-Fine-2
-checked c = c.before.before.before.before.before
+abbrev checked : tie.After-plus_if-2 → tie.In-Fine
+checked c = c.before.before.before.before
 
 abbrev call : tie.After-plus_if-2 → Given
 call c = given (start (checked c))
 
 abbrev plan : tie.After-plus_if-2 → Plan
-plan c = c.before.before.measure_end-p.result
+plan c = c.measure_end-p.result
 
 abbrev result : tie.After-plus_if-2 → List Item
 result c = end_items (plan c) (content (call c)) (second (call c))
@@ -76,12 +76,12 @@ abbrev planned : tie.After-settle-verdict → tie.After-plus_if-2
 planned c = (sized c).before
 
 measured : (c : tie.After-settle-verdict)
-    → let n = planned c in Measured (call n) n.plus_if-2.result (result n) ((plan n).content + (plan n).ellipsis) c.before.plus_if-3.result (sized c).text_size-shared.result
+    → let n = planned c in Measured (call n) n.plus-if2.result (result n) ((plan n).content + (plan n).ellipsis) c.plus_if-3.result (sized c).text-size.result
 measured c =
     let n = planned c in
-    let m = n.before.before.measure_end-p in
-    end_measured (call n) (sizes (checked n)) (fine (checked n)) (plan n) n.plus_if-2.result c.before.plus_if-3.result (sized c).text_size-shared.result
-    n.plus_if-2.ensures c.before.plus_if-3.ensures (sized c).text_size-shared.ensures refl m.ensures.0 m.ensures.1.0 m.ensures.1.1
+    let m = n.measure_end-p in
+    end_measured (call n) (sizes (checked n)) (fine (checked n)) (plan n) n.plus_if-2.result c.plus_if-3.result (sized c).text_size-shared.result
+    n.plus_if-2.ensures c.plus_if-3.ensures (sized c).text_size-shared.ensures refl m.ensures.0 m.ensures.1.0 m.ensures.1.1
 
 -- ── what is asked on the way
 check-both-requires : tie.Need-check_both-checked-requires
@@ -92,9 +92,7 @@ enum-known-checked c = search rules
 
 returns : tie.Need-returns-in-Refused
 returns c =
-    let k = c.before.before.before in
-    let s = k.before.before.before.before.before.before.before.before.before.before in
-    both_refused (given s) k.check_both-checked.result k.check_both-checked.ensures c.before.checked-1.given.0.0 c.before.checked-1.given.1
+    both_refused (given c.before.before.before.before.before.before.before.before.before.before.before) c.check_both-checked.result c.check_both-checked.ensures c.in-Refused.f c.in-Refused.is
 
 enum-known-checked-2 : tie.Need-enum_known-checked-in-Fine-1
 enum-known-checked-2 c = search rules
@@ -105,7 +103,7 @@ measure-end-requires c κs = refl
 
 plus-if-requires : tie.Need-plus_if-requires
 plus-if-requires c κs =
-    let f = fine c.before.before.before in
+    let f = fine c.before.before in
     omega (arith, f.0.text_short, f.1.text_short)
 
 plus-if-requires-2 : tie.Need-plus_if-requires-2
@@ -117,15 +115,14 @@ text-size-requires c κs =
       (f.0.entries_short, f.0.own_short, f.0.parts),
       (
         (f.1.entries_short, f.1.own_short, f.1.parts, omega (arith, once_at_most (plan c).cut c.plus_if-2.result c.plus_if-2.ensures)),
-        texts_planned (call c) (sizes (checked c)) f (plan c) c.plus_if-2.result c.before.plus_if.result c.plus_if-2.ensures c.before.plus_if.ensures,
+        texts_planned (call c) (sizes (checked c)) f (plan c) c.plus_if-2.result c.plus_if.result c.plus_if-2.ensures c.plus_if.ensures,
       ),
     )
 
 add-settle : tie.Need-overflow_add-p
 add-settle c =
-    let n = c.before.before in
-    let f = fine (checked n) in
-    let m = n.before.before.measure_end-p in
+    let f = fine (checked c.before.before) in
+    let m = c.measure_end-p in
     omega (arith, f.0.data_short, f.1.data_short, m.ensures.1.0, m.ensures.1.1)
 
 plus-if-requires-3 : tie.Need-plus_if-requires-3
@@ -141,21 +138,19 @@ enum-known-verdict c = search rules
 
 returns-2 : tie.Need-returns-in-Refused-verdict
 returns-2 c =
-    let p = c.before.before.before in
-    let n = planned p in
-    sizes_refused (call n) (sizes (checked n)) (fine (checked n)) n.plus_if-2.result (result n) _ _ _ (measured p) p.settle-verdict.result p.settle-verdict.ensures
-    c.before.verdict-1.given.0.0 c.before.verdict-1.given.1
+    let n = planned c.before in
+    sizes_refused (call n) (sizes (checked n)) (fine (checked n)) n.plus_if-2.result (result n) _ _ _ (measured c.before) c.settle-verdict.result c.settle-verdict.ensures
+    c.in-Refused-verdict.f c.in-Refused-verdict.is
 
 enum_told : tie.Need-enum_told-1
 enum_told c = search rules
 
 put-end-requires : tie.Need-put_end-c-requires
 put-end-requires c κs =
-    let p = c.before.before.before.before.before in
-    let n = planned p in
-    let m = n.before.before.measure_end-p in
+    let n = planned c.before.before.before.before in
+    let m = n.measure_end-p in
     let f = fine (checked n) in
-    let room = has_room (call n) (sizes (checked n)) f n.plus_if-2.result (result n) _ _ _ (measured p) p.settle-verdict.result p.settle-verdict.ensures c.before.before.before.enum_told-1.given.1 in
+    let room = has_room (call n) (sizes (checked n)) f n.plus_if-2.result (result n) _ _ _ (measured c.before.before.before.before) c.settle-verdict.result c.settle-verdict.ensures c.in-Room.is in
     (f.0.whole, (f.1.whole, (m.ensures.1, room)))
 
 same_length : tie.Need-shape_of-bytes
@@ -169,13 +164,12 @@ same-length-3 c = search rules
 
 returns-3 : tie.Need-returns
 returns-3 c =
-    let w = c.before.before.before.before.before.before.put_end-c in
-    let p = c.before.before.before.before.before.before.before.before.before.before.before.before in
-    let n = planned p in
+    let w = c.put_end-c in
+    let n = planned c.before.before.before.before.before.before.before.before.before.before.before in
     let x = call n in
-    let m = n.before.before.measure_end-p in
-    written x (sizes (checked n)) (fine (checked n)) n.plus_if-2.result (result n) _ _ _ (measured p) p.settle-verdict.result p.settle-verdict.ensures
-    c.before.before.before.before.before.before.before.before.before.before.enum_told-1.given.1
+    let m = n.measure_end-p in
+    written x (sizes (checked n)) (fine (checked n)) n.plus_if-2.result (result n) _ _ _ (measured c.before.before.before.before.before.before.before.before.before.before.before) c.settle-verdict.result c.settle-verdict.ensures
+    c.in-Room.is
     (plan n).width _ _ _ w.result (end_number x.width (content x) (second x) (plan n) m.ensures.0) w.ensures.0
 
 pub write_truncated_end_spec : {M : Type 1} → statement M

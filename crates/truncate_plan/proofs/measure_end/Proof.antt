@@ -15,8 +15,8 @@ text-width-requires c κs = search rules
 
 returns : tie.Need-returns-then-w-max
 returns c =
-    let a = c.before.before.before.before.args in
-    (end_plan_whole a.max-width a.content.now a.ellipsis.now c.before.text_width-w.result c.before.text_width-w.ensures.0 c.if-w-max.true, (omega arith, omega arith))
+    let a = c.args in
+    (end_plan_whole a.max-width a.content.now a.ellipsis.now c.text_width-w.result c.text_width-w.ensures.0 c.if-w-max.true, (omega arith, omega arith))
 
 text-width-requires-2 : tie.Need-text_width-requires
 text-width-requires-2 c κs = search rules
@@ -35,18 +35,13 @@ add-t12 c = search rules
 
 returns-2 : tie.Need-returns
 returns-2 c =
-    let at_less = c.before.before.before.before in
-    let at-text-width2 = at_less.before in
-    let at-if1 = at-text-width2.before in
-    let at-text-width = at-if1.before in
-    let start = at-text-width.before.before.before in
-    let a = start.args in
-    let w = at-text-width.text_width-w in
-    let v = at-text-width2.text_width in
-    let x = c.before.before.before.truncate_end_pos-a in
-    let y = c.before.before.truncate_end_pos-b in (
-      end_plan_cut a.max-width a.content.now a.ellipsis.now w.result w.ensures.0 v.result at_less.less-room.result v.ensures.0
-          at_less.less-room.ensures at-if1.if-w-max.false x.result.pos x.result.width y.result.pos
+    let a = c.args in
+    let w = c.text_width-w in
+    let v = c.text_width in
+    let x = c.truncate_end_pos-a in
+    let y = c.truncate_end_pos-b in (
+      end_plan_cut a.max-width a.content.now a.ellipsis.now w.result w.ensures.0 v.result c.less-room.result v.ensures.0
+          c.less-room.ensures c.if-w-max.false x.result.pos x.result.width y.result.pos
           y.result.width x.ensures.0.0 x.ensures.0.1 y.ensures.0.0 y.ensures.0.1,
       (x.ensures.1.0, y.ensures.1.0),
     )

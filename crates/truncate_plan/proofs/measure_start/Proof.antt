@@ -19,10 +19,10 @@ trimmed-from-requires c κs = search rules
 
 returns : tie.Need-returns-then-whole-max
 returns c =
-    let a = c.before.before.before.before.before.args in
+    let a = c.args in
     let n = c.trimmed_from in (
-      start_plan_whole a.max-width a.content.now a.ellipsis.now c.before.before.text_width-whole.result c.before.before.text_width-whole.ensures.0 n.result
-          c.before.if-whole-max.true n.ensures.0,
+      start_plan_whole a.max-width a.content.now a.ellipsis.now c.text_width-whole.result c.text_width-whole.ensures.0 n.result
+          c.if-whole-max.true n.ensures.0,
       (n.ensures.1, omega arith),
     )
 
@@ -49,22 +49,15 @@ add-t13 c = search rules
 
 returns-2 : tie.Need-returns
 returns-2 c =
-    let at-truncate-start-pos2 = c.before.before.before.before in
-    let at-truncate-start-pos = at-truncate-start-pos2.before in
-    let at_less = at-truncate-start-pos.before in
-    let at-text-width2 = at_less.before in
-    let at-if1 = at-text-width2.before in
-    let at-text-width = at-if1.before in
-    let start = at-text-width.before.before.before in
-    let a = start.args in
-    let w = at-text-width.text_width-whole in
-    let v = at-text-width2.text_width-e in
-    let x = at-truncate-start-pos.truncate_start_pos-a in
-    let y = at-truncate-start-pos2.truncate_start_pos-b in
-    let n = c.before.before.before.trimmed_from-2 in
-    let m = c.before.before.trimmed_from-3 in (
-      start_plan_cut a.max-width a.content.now a.ellipsis.now w.result w.ensures.0 v.result at_less.less.result
-          v.ensures.0 at_less.less.ensures at-if1.if-whole-max.false
+    let a = c.args in
+    let w = c.text_width-whole in
+    let v = c.text_width-e in
+    let x = c.truncate_start_pos-a in
+    let y = c.truncate_start_pos-b in
+    let n = c.trimmed_from-2 in
+    let m = c.trimmed_from-3 in (
+      start_plan_cut a.max-width a.content.now a.ellipsis.now w.result w.ensures.0 v.result c.less.result
+          v.ensures.0 c.less.ensures c.if-whole-max.false
           x.result.pos x.result.width y.result.pos y.result.width n.result m.result x.ensures.0.0 x.ensures.0.1 y.ensures.0.0 y.ensures.0.1
           n.ensures.0 m.ensures.0,
       (n.ensures.1, m.ensures.1),

@@ -21,13 +21,13 @@ trim-start-zero-width-chars-requires c κs = search rules
 
 sub-result : tie.Need-overflow_sub-result
 sub-result c =
-    (trimmed c.before.before.before.args.s.now c.trim_start_zero_width_chars-rest.result.now c.before.before.before.args.start c.before.before.before.requires
+    (trimmed c.args.s.now c.trim_start_zero_width_chars-rest.result.now c.args.start c.requires
     c.trim_start_zero_width_chars-rest.ensures).0
 
 returns : tie.Need-returns
 returns c =
-    let t = trimmed c.before.before.before.args.s.now c.trim_start_zero_width_chars-rest.result.now c.before.before.before.args.start
-    c.before.before.before.requires c.trim_start_zero_width_chars-rest.ensures in
+    let t = trimmed c.args.s.now c.trim_start_zero_width_chars-rest.result.now c.args.start
+    c.requires c.trim_start_zero_width_chars-rest.ensures in
     (t.1, t.2)
 
 pub trimmed_from_spec : {M : Type 1} → statement M

@@ -30,12 +30,12 @@ sub-if1 c = search rules
 
 returns : tie.Need-returns-then-content-at invariant-loop decreases-loop
 returns c =
-    let a = c.before.args in
+    let a = c.args in
     sym (begins_short a.prefix.now (drop a.at a.content.now) (omega (arith, c.if-content-at.true, length-drop a.at a.content.now)))
 
 loop-holds : tie.Need-loop-j-init invariant-loop decreases-loop
 loop-holds c =
-    let a = c.before.args in
+    let a = c.args in
     let z : a.at + 0 ≡ a.at = omega arith in
     (omega arith, omega (arith, c.if-content-at.false), ap (λ (n : ℕ). begins_with a.prefix.now (drop n a.content.now)) (sym z))
 
@@ -50,10 +50,9 @@ shared-slice-read-if2-2 c = search rules
 
 returns-2 : tie.Need-returns-then-content-at-2 invariant-loop decreases-loop
 returns-2 c =
-    let l = c.before.before.before.before in
-    let a = (start l).args in
-    let j = l.loop-j.j in
-    sym (l.loop-j.invariant.2 ∙ begins_next j (a.at + j) a.prefix.now a.content.now (omega arith) (omega arith)
+    let a = (start c.before.before.before.before).args in
+    let j = c.loop-j.j in
+    sym (c.loop-j.invariant.2 ∙ begins_next j (a.at + j) a.prefix.now a.content.now (omega arith) (omega arith)
     ∙ ap (λ (t : Bool). t && begins_with (drop (j + 1) a.prefix.now) (drop (a.at + j + 1) a.content.now)) (ne_eqb _ _ (λ e. c.if-content-at-2.true (sym e))))
 
 add-j : tie.Need-overflow_add-j invariant-loop decreases-loop
@@ -64,21 +63,19 @@ loop-less c = search rules
 
 loop-again : tie.Need-loop-j-preserved invariant-loop decreases-loop
 loop-again c =
-    let l = c.before.before.before.before in
-    let a = (start l).args in
-    let j = l.loop-j.j in
+    let a = (start c.before.before.before.before).args in
+    let j = c.loop-j.j in
     let z : a.at + j + 1 ≡ a.at + (j + 1) = omega arith in (
       search rules,
-      l.loop-j.invariant.1,
-      l.loop-j.invariant.2 ∙ begins_next j (a.at + j) a.prefix.now a.content.now (omega arith) (omega arith)
+      c.loop-j.invariant.1,
+      c.loop-j.invariant.2 ∙ begins_next j (a.at + j) a.prefix.now a.content.now (omega arith) (omega arith)
           ∙ (λ i. eq-eqb _ _ (sym c.if-content-at-2.false) i && begins_with (drop (j + 1) a.prefix.now) (drop (z i) a.content.now)),
     )
 
 returns-3 : tie.Need-returns invariant-loop decreases-loop
 returns-3 c =
-    let l = c.before in
-    let a = (start l).args in
-    sym (l.loop-j.invariant.2 ∙ begins_end l.loop-j.j a.prefix.now (drop (a.at + l.loop-j.j) a.content.now) (omega arith))
+    let a = (start c.before).args in
+    sym (c.loop-j.invariant.2 ∙ begins_end c.loop-j.j a.prefix.now (drop (a.at + c.loop-j.j) a.content.now) (omega arith))
 
 pub begins_at_spec : {M : Type 1} → statement M
 begins_at_spec =

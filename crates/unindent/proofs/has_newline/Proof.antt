@@ -35,16 +35,14 @@ loop-less c = search rules
 
 loop-again : tie.Need-loop-j-preserved invariant-loop decreases-loop
 loop-again c =
-    let l = c.before.before in
-    let s = l.before.args.s.now in
-    let b = eqb (get_or s l.loop-j.j 0) 0x0A in
-    (search rules, or_assoc l.loop-j.found b (has_newline_in (drop (l.loop-j.j + 1) s)) ∙ ap (λ (t : Bool). l.loop-j.found || t) (sym (newline_next l.loop-j.j s (omega arith))) ∙ l.loop-j.invariant.1)
+    let s = c.args.s.now in
+    let b = eqb (get_or s c.loop-j.j 0) 0x0A in
+    (search rules, or_assoc c.loop-j.found b (has_newline_in (drop (c.loop-j.j + 1) s)) ∙ ap (λ (t : Bool). c.loop-j.found || t) (sym (newline_next c.loop-j.j s (omega arith))) ∙ c.loop-j.invariant.1)
 
 returns : tie.Need-returns invariant-loop decreases-loop
 returns c =
-    let l = c.before in
-    let s = l.before.args.s.now in
-    sym (or_false l.loop-j.found) ∙ ap (λ (t : Bool). l.loop-j.found || t) (sym (newline_end l.loop-j.j s (omega arith))) ∙ l.loop-j.invariant.1
+    let s = c.args.s.now in
+    sym (or_false c.loop-j.found) ∙ ap (λ (t : Bool). c.loop-j.found || t) (sym (newline_end c.loop-j.j s (omega arith))) ∙ c.loop-j.invariant.1
 
 pub has_newline_spec : {M : Type 1} → statement M
 has_newline_spec =

@@ -40,13 +40,13 @@ prefix c = (start c).args.prefix.now
 abbrev line : tie.After-begins_at invariant-loop decreases-loop → tie.At-loop-at invariant-loop decreases-loop
 line c = c.before.before
 
-begins : (c : tie.Else-not-begins_at invariant-loop decreases-loop) → begins_with (prefix (line c.before)) (drop (line c.before).loop-at.at (content (line c.before))) ≡ true
-begins c = let b = c.before.begins_at in sym b.ensures ∙ c.if-not-begins_at.false
+begins : (c : tie.Else-not-begins_at invariant-loop decreases-loop) → begins_with (prefix (line c.before)) (drop (line c.before).loop.at (content (line c.before))) ≡ true
+begins c = let b = c.begins_at in sym b.ensures ∙ not_false b.result c.if-not-begins_at.false
 
-inner : (c : tie.Else-not-begins_at invariant-loop decreases-loop) → (line c.before).loop-at.at + length (prefix (line c.before)) ≤ length (content (line c.before))
+inner : (c : tie.Else-not-begins_at invariant-loop decreases-loop) → (line c.before).loop.at + length (prefix (line c.before)) ≤ length (content (line c.before))
 inner c =
     let l = line c.before in
-    inside (prefix l) (content l) (start l).requires.1 _ _ l.loop-at.invariant c.before.before.loop-at-test.true (begins c)
+    inside (prefix l) (content l) (start l).requires.1 _ _ l.loop-at.invariant c.loop-at-test.true (begins c)
 
 -- ── what is asked on the way
 next-line-requires : tie.Need-next_line-at-requires invariant-loop decreases-loop
@@ -56,19 +56,19 @@ loop-holds : tie.Need-loop-at-init invariant-loop decreases-loop
 loop-holds c = scan_first _ _ _ c.next_line-at.ensures.0 c.next_line-at.ensures.1.1
 
 begins-at-requires : tie.Need-begins_at-requires invariant-loop decreases-loop
-begins-at-requires c κs = c.before.loop-at.invariant.within
+begins-at-requires c κs = c.loop-at.invariant.within
 
 returns : tie.Need-returns-then-not-begins_at invariant-loop decreases-loop
 unfolding fault_of Counted
 returns c =
     let l = line c.before in
-    let b = c.before.begins_at in
-    (sym (scan-refused (prefix l) (content l) (start l).requires.1 _ _ l.loop-at.invariant c.before.before.loop-at-test.true (sym b.ensures ∙ c.if-not-begins_at.true)), tt)
+    let b = c.begins_at in
+    (sym (scan-refused (prefix l) (content l) (start l).requires.1 _ _ l.loop-at.invariant c.loop-at-test.true (sym b.ensures ∙ c.if-not-begins_at.true)), tt)
 
 sub-size : tie.Need-overflow_sub-size invariant-loop decreases-loop
 sub-size c =
     let l = line c.before in
-    enough (prefix l) (content l) (start l).requires.1 _ _ l.loop-at.invariant c.before.before.loop-at-test.true (begins c)
+    enough (prefix l) (content l) (start l).requires.1 _ _ l.loop-at.invariant c.loop-at-test.true (begins c)
 
 add-next-line : tie.Need-overflow_add-at invariant-loop decreases-loop
 add-next-line c = omega (arith, inner c, (start (line c.before)).requires.0)
@@ -79,22 +79,21 @@ next-line-requires-2 c κs = inner c
 loop-less : tie.Need-loop-at-smaller invariant-loop decreases-loop
 loop-less c =
     let l = line c.before.before in
-    let more = c.before.before.before.loop-at-test.true in
+    let more = c.loop-at-test.true in
     omega (arith, c.next_line-at-in-loop-at.ensures.0, more, moves (length (prefix l)) l.loop-at.at (content l) more)
 
 loop-again : tie.Need-loop-at-preserved invariant-loop decreases-loop
 loop-again c =
     let l = line c.before.before in
     let n = c.next_line-at-in-loop-at.ensures in
-    scan_next (prefix l) (content l) (start l).requires.1 _ _ l.loop-at.invariant c.before.before.before.loop-at-test.true (begins c.before) _ _ refl n.0 n.1.1
+    scan_next (prefix l) (content l) (start l).requires.1 _ _ l.loop-at.invariant c.loop-at-test.true (begins c.before) _ _ refl n.0 n.1.1
 
 returns-2 : tie.Need-returns invariant-loop decreases-loop
 unfolding fault_of Counted
 returns-2 c =
-    let l = c.before in
     let past = c.loop-at-test.false in (
-      sym (scan_fine (prefix l) (content l) (start l).requires.1 _ _ l.loop-at.invariant past),
-      scan_size (prefix l) (content l) (start l).requires.1 _ _ l.loop-at.invariant past,
+      sym (scan_fine (prefix c.before) (content c.before) (start c.before).requires.1 _ _ c.loop-at.invariant past),
+      scan_size (prefix c.before) (content c.before) (start c.before).requires.1 _ _ c.loop-at.invariant past,
     )
 
 pub left_len_spec : {M : Type 1} → statement M

@@ -69,10 +69,10 @@ room : (s : tie.Start invariant-loop decreases-loop) → Fits (all s) (empty s)
 room s = subst (λ (x : List Item). Fits x (empty s)) (same s) s.requires.1
 
 -- the prefix ends within the data
-inner : (t : tie.In-loop-p invariant-loop decreases-loop) → t.before.loop-p.p + length (start t.before).args.prefix.now ≤ length (start t.before).args.content.now
+inner : (t : tie.In-loop-p invariant-loop decreases-loop) → t.loop-p.p + length (start t.before).args.prefix.now ≤ length (start t.before).args.content.now
 inner t =
     let s = start t.before in
-    inside _ _ _ _ (fits s).one_line _ _ _ _ t.before.loop-p.invariant (room s) t.loop-p-test.true
+    inside _ _ _ _ (fits s).one_line _ _ _ _ t.loop-p.invariant (room s) t.loop-p-test.true
 
 short : (s : tie.Start invariant-loop decreases-loop) → length s.args.content.now ≤ 1048576
 short s = s.requires.0.0.short
@@ -84,15 +84,13 @@ next-line-requires c κs = omega arith
 loop-holds : tie.Need-loop-p-init invariant-loop decreases-loop
 unfolding out
 loop-holds c =
-    let s = c.before.before.before.before.before.before.before.before in
-    state_first _ _ _ _ _ _ _ refl refl s.requires.0.0 (fits s).all c.next_line-p.ensures.0 c.next_line-p.ensures.1.1
+    state_first _ _ _ _ _ _ _ refl refl c.requires.0.0 (fits c.before.before.before.before.before.before.before.before).all c.next_line-p.ensures.0 c.next_line-p.ensures.1.1
 
 keep-requires : tie.Need-keep-c-requires invariant-loop decreases-loop
 keep-requires c κs =
-    let t = c.before.before.before in
-    let s = t.before.loop-p.invariant in
-    let z = start t.before in
-    (s.ready, ((before _ _ _ _ (fits z).one_line _ _ _ _ s (room z), s.within), room_keep _ _ _ _ (fits z).one_line _ _ _ _ s (room z) t.loop-p-test.true))
+    let s = c.loop-p.invariant in
+    let z = start c.before.before.before.before in
+    (s.ready, ((before _ _ _ _ (fits z).one_line _ _ _ _ s (room z), s.within), room_keep _ _ _ _ (fits z).one_line _ _ _ _ s (room z) c.loop-p-test.true))
 
 add-p : tie.Need-overflow_add-p invariant-loop decreases-loop
 add-p c =
@@ -101,14 +99,13 @@ add-p c =
 
 skip-requires : tie.Need-skip-c-requires invariant-loop decreases-loop
 skip-requires c κs =
-    let k = c.before.before.before.before.before.before.before.before.before in
-    let t = turn k in
+    let t = turn c.before.before.before.before.before.before.before.before.before in
     let z = start t.before in
-    let e = k.keep-c.ensures in (
+    let e = c.keep-c.ensures in (
       e.1.1.0,
       (
         (omega (arith, e.1.1.1), inner t),
-        room_skip _ _ _ _ (fits z).one_line _ _ _ _ t.before.loop-p.invariant (room z) t.loop-p-test.true _ _ e.0 e.1.0 e.1.1.1,
+        room_skip _ _ _ _ (fits z).one_line _ _ _ _ t.loop-p.invariant (room z) t.loop-p-test.true _ _ e.0 e.1.0 e.1.1.1,
       ),
     )
 
@@ -119,48 +116,45 @@ loop-less : tie.Need-loop-p-smaller invariant-loop decreases-loop
 loop-less c =
     let t = turn (kept c.before.before.before.before.before.before.before) in
     let a = (start t.before).args in
-    omega (arith, c.next_line-p-in-loop-p.ensures.0, t.loop-p-test.true, moves (length a.prefix.now) t.before.loop-p.p a.content.now t.loop-p-test.true)
+    omega (arith, c.next_line-p-in-loop-p.ensures.0, t.loop-p-test.true, moves (length a.prefix.now) t.loop-p.p a.content.now t.loop-p-test.true)
 
 loop-again : tie.Need-loop-p-preserved invariant-loop decreases-loop
 loop-again c =
-    let w = c.before.before.before.before.before.before.before in
-    let k = kept w in
+    let k = kept c.before.before.before.before.before.before.before in
     let t = turn k in
     let z = start t.before in
     let e = k.keep-c.ensures in
-    let g = w.skip-c.ensures in
+    let g = c.skip-c.ensures in
     let n = c.next_line-p-in-loop-p.ensures in
-    step _ _ _ _ (fits z).one_line _ _ _ _ t.before.loop-p.invariant (room z) t.loop-p-test.true _ _ e.0 e.1.0 e.1.1.1 _ _ _ g.0 g.1.0 g.1.1.0 g.1.1.1 n.0 n.1.1
+    step _ _ _ _ (fits z).one_line _ _ _ _ t.loop-p.invariant (room z) t.loop-p-test.true _ _ e.0 e.1.0 e.1.1.1 _ _ _ g.0 g.1.0 g.1.1.0 g.1.1.1 n.0 n.1.1
 
 keep-requires-2 : tie.Need-keep-requires invariant-loop decreases-loop
 keep-requires-2 c κs =
-    let l = c.before.before.before in
-    let s = l.before.loop-p.invariant in
-    let z = start l.before in
-    (s.ready, ((here _ _ _ _ (fits z).one_line _ _ _ _ s (room z) l.loop-p-test.false, omega arith), room_last _ _ _ _ (fits z).one_line _ _ _ _ s (room z) l.loop-p-test.false))
+    let s = c.loop-p.invariant in
+    let z = start c.before.before.before.before in
+    (s.ready, ((here _ _ _ _ (fits z).one_line _ _ _ _ s (room z) c.loop-p-test.false, omega arith), room_last _ _ _ _ (fits z).one_line _ _ _ _ s (room z) c.loop-p-test.false))
 
 -- the buffers are as long as they were
-longer : (l : tie.At-loop-p invariant-loop decreases-loop) → Long (out l.loop-p.bytes-1 l.loop-p.numbers-1 l.loop-p.texts-1 l.loop-p.c) (empty (start l))
+longer : (l : tie.At-loop-p invariant-loop decreases-loop) → Long (out l.loop-p.bytes l.loop-p.numbers l.loop-p.texts l.loop-p.c) (empty (start l))
 longer l = long_now _ _ _ _ (fits (start l)).one_line _ _ _ _ l.loop-p.invariant (room (start l))
 
 same_length : tie.Need-shape_of-bytes invariant-loop decreases-loop
 unfolding out
-same_length c = let k = c.before.before.before.before.before.before in k.keep.auto.0 ∙ (longer (ended k).before).data_bytes
+same_length c = c.keep.auto.0 ∙ (longer (ended c.before.before.before.before.before.before).before).data_bytes
 
 same-length-2 : tie.Need-shape_of-numbers invariant-loop decreases-loop
 unfolding out
-same-length-2 c = let k = c.before.before.before.before.before.before in k.keep.auto.1.0 ∙ (longer (ended k).before).entry_numbers
+same-length-2 c = c.keep.auto.1.0 ∙ (longer (ended c.before.before.before.before.before.before).before).entry_numbers
 
 same-length-3 : tie.Need-shape_of-texts invariant-loop decreases-loop
 unfolding out
-same-length-3 c = let k = c.before.before.before.before.before.before in k.keep.auto.1.1.0 ∙ (longer (ended k).before).text
+same-length-3 c = c.keep.auto.1.1.0 ∙ (longer (ended c.before.before.before.before.before.before).before).text
 
 returns : tie.Need-returns invariant-loop decreases-loop
 returns c =
-    let k = c.before.before.before.before.before.before in
-    let l = ended k in
+    let l = ended c.before.before.before.before.before.before in
     let z = start l.before in
-    finish _ _ _ _ (fits z).one_line _ _ _ _ l.before.loop-p.invariant (room z) l.loop-p-test.false _ k.keep.ensures.0
+    finish _ _ _ _ (fits z).one_line _ _ _ _ l.loop-p.invariant (room z) l.loop-p-test.false _ c.keep.ensures.0
     ∙ ap (λ (x : List Item). add x (empty z)) (sym (same z))
 
 pub put_unindented_spec : {M : Type 1} → statement M

@@ -44,46 +44,46 @@ given s =
       fs = a.prefix.now;
       gs = a.prefix-entries.now;
       us = a.prefix-text.now;
-      od = a.bytes-1.now;
-      oe = a.numbers-1.now;
-      ot = a.texts-1.now;
+      od = a.bytes.now;
+      oe = a.numbers.now;
+      ot = a.texts.now;
     }
 
 -- once both recordings are checked
-abbrev start : tie.In-Fine-2 → tie.Start
+abbrev start : tie.In-Fine → tie.Start
 start c = c.before.before.before.before.before.before.before.before.before.before.before.before
 
-abbrev lengths : tie.In-Fine-2 → TextSizes
-lengths c = c.checked-in-Fine-1.given.0.0
+abbrev lengths : tie.In-Fine → TextSizes
+lengths c = c.in-Fine.n
 
-fine : (c : tie.In-Fine-2) → BothFine (given (start c)) (lengths c)
-fine c = both_fine (given (start c)) c.before.before.check_both-checked.result c.before.before.check_both-checked.ensures (lengths c) c.checked-in-Fine-1.given.1
+fine : (c : tie.In-Fine) → BothFine (given (start c)) (lengths c)
+fine c = both_fine (given (start c)) c.check_both-checked.result c.check_both-checked.ensures (lengths c) c.in-Fine.is
 
 -- once the lines are held against the prefix
-abbrev checked : tie.After-left_len → tie.In-Fine-2
-checked c = c.before.before.before.before
+abbrev checked : tie.After-left_len → tie.In-Fine
+checked c = c.before.before.before
 
 abbrev call : tie.After-left_len → Given
 call c = given (start (checked c))
 
 -- and all begin with it
-abbrev scanned : tie.In-Fine-left_len-2 → tie.After-left_len
+abbrev scanned : tie.In-Fine-left_len → tie.After-left_len
 scanned c = c.before.before
 
-abbrev size : tie.In-Fine-left_len-2 → ℕ
-size c = c.n-1.given.0.0
+abbrev size : tie.In-Fine-left_len → ℕ
+size c = c.in-Fine-left_len.n
 
-abbrev result : tie.In-Fine-left_len-2 → List Item
+abbrev result : tie.In-Fine-left_len → List Item
 result c = sizes.result (call (scanned c)) (lengths (checked (scanned c))) (fine (checked (scanned c))) (size c)
 
-no-fault : (c : tie.In-Fine-left_len-2) → prefix_fault (call (scanned c)).fs (call (scanned c)).ds ≡ 0
+no-fault : (c : tie.In-Fine-left_len) → prefix_fault (call (scanned c)).fs (call (scanned c)).ds ≡ 0
 no-fault c =
     let r = (scanned c).left_len in
-    sym r.ensures.0 ∙ fine_zero r.result (size c) c.n-1.given.1
+    sym r.ensures.0 ∙ fine_zero r.result (size c) c.in-Fine-left_len.is
 
 -- once the text is measured
-abbrev sized : tie.After-own_size-shared → tie.In-Fine-left_len-2
-sized c = c.before.before
+abbrev sized : tie.After-own_size-shared → tie.In-Fine-left_len
+sized c = c.before
 
 measured : (c : tie.After-own_size-shared)
     → let n = sized c in
@@ -92,7 +92,7 @@ measured c =
     let n = sized c in
     let r = (scanned n).left_len in
     let k = checked (scanned n) in
-    unindented_measured (call (scanned n)) (lengths k) (fine k) (size n) refl (no-fault n) (fine_count r.result (size n) _ n.n-1.given.1 r.ensures.1)
+    unindented_measured (call (scanned n)) (lengths k) (fine k) (size n) refl (no-fault n) (fine_count r.result (size n) _ n.in-Fine-left_len.is r.ensures.1)
     c.own_size-shared.result c.own_size-shared.ensures
 
 -- ── what is asked on the way
@@ -104,9 +104,7 @@ enum-known-checked c = search rules
 
 returns : tie.Need-returns-in-Refused
 returns c =
-    let k = c.before.before.before in
-    let s = k.before.before.before.before.before.before.before.before.before.before in
-    both_refused (given s) k.check_both-checked.result k.check_both-checked.ensures c.before.checked-1.given.0.0 c.before.checked-1.given.1
+    both_refused (given c.before.before.before.before.before.before.before.before.before.before.before) c.check_both-checked.result c.check_both-checked.ensures c.in-Refused.f c.in-Refused.is
 
 enum-known-checked-2 : tie.Need-enum_known-checked-in-Fine-1
 enum-known-checked-2 c = search rules
@@ -116,30 +114,27 @@ has-newline-requires c κs = search rules
 
 returns-2 : tie.Need-returns-then-has_newline
 returns-2 c =
-    let k = c.before.before.before in
-    let x = given (start k) in
-    own_refused x (lengths k) (fine k) PrefixNewline (newline_refused x.fs x.ds (sym c.before.has_newline.ensures ∙ c.if-has_newline.true))
+    let x = given (start c.before.before) in
+    own_refused x (lengths c.before.before) (fine c.before.before) PrefixNewline (newline_refused x.fs x.ds (sym c.has_newline.ensures ∙ c.if-has_newline.true))
 
 left-len-requires : tie.Need-left_len-requires
-left-len-requires c κs = ((fine c.before.before.before).0.data_short, sym c.before.has_newline.ensures ∙ c.if-has_newline.false)
+left-len-requires c κs = ((fine c.before.before).0.data_short, sym c.has_newline.ensures ∙ c.if-has_newline.false)
 
 enum-known-f : tie.Need-enum_known-f
 enum-known-f c = search rules
 
 returns-3 : tie.Need-returns-in-Refused-left_len
 returns-3 c =
-    let l = c.before.before.before in
-    let r = l.left_len in
-    let f = c.before.f-1.given in
-    own_refused (call l) (lengths (checked l)) (fine (checked l)) f.0.0 (sym r.ensures.0 ∙ refused-number r.result f.0.0 f.1)
+    let r = c.left_len in
+    own_refused (call c.before) (lengths (checked c.before)) (fine (checked c.before)) c.in-Refused-left_len.f (sym r.ensures.0 ∙ refused-number r.result c.in-Refused-left_len.f c.in-Refused-left_len.is)
 
 enum-known-n : tie.Need-enum_known-n
 enum-known-n c = search rules
 
 own-size-requires : tie.Need-own_size-shared-requires
 own-size-requires c κs =
-    let k = checked (scanned c.before) in
-    let x = call (scanned c.before) in
+    let k = checked (scanned c) in
+    let x = call (scanned c) in
     let f = (fine k).0 in
     ((f.entries_short, f.own_short, f.parts), rw f.text_size_lem (own_less x.ds x.ns x.ts f.passed))
 
@@ -151,21 +146,18 @@ enum-known-verdict c = search rules
 
 returns-4 : tie.Need-returns-in-Refused-verdict
 returns-4 c =
-    let p = c.before.before.before in
-    let n = sized p.before in
+    let n = sized c.before.before in
     let k = checked (scanned n) in
-    sizes_refused (call (scanned n)) (lengths k) (fine k) 0 (result n) _ _ _ (measured p.before) p.settle-verdict.result p.settle-verdict.ensures c.before.verdict-1.given.0.0 c.before.verdict-1.given.1
+    sizes_refused (call (scanned n)) (lengths k) (fine k) 0 (result n) _ _ _ (measured c.before.before) c.settle-verdict.result c.settle-verdict.ensures c.in-Refused-verdict.f c.in-Refused-verdict.is
 
 enum_told : tie.Need-enum_told-1
 enum_told c = search rules
 
 put-unindented-requires : tie.Need-put_unindented-c-requires
 put-unindented-requires c κs =
-    let told = c.before.before.before in
-    let p = told.before.before in
-    let n = sized p.before in
+    let n = sized c.before.before.before.before.before in
     let k = checked (scanned n) in
-    (((fine k).0.whole, no-fault n), has_room (call (scanned n)) (lengths k) (fine k) 0 (result n) _ _ _ (measured p.before) p.settle-verdict.result p.settle-verdict.ensures told.enum_told-1.given.1)
+    (((fine k).0.whole, no-fault n), has_room (call (scanned n)) (lengths k) (fine k) 0 (result n) _ _ _ (measured c.before.before.before.before.before) c.settle-verdict.result c.settle-verdict.ensures c.in-Room.is)
 
 same_length : tie.Need-shape_of-bytes
 same_length c = search rules
@@ -178,14 +170,11 @@ same-length-3 c = search rules
 
 returns-5 : tie.Need-returns
 returns-5 c =
-    let w = c.before.before.before.before.before.before in
-    let told = w.before.before.before.before in
-    let p = told.before.before in
-    let n = sized p.before in
+    let n = sized c.before.before.before.before.before.before.before.before.before.before.before.before in
     let k = checked (scanned n) in
     let x = call (scanned n) in
-    written x (lengths k) (fine k) 0 (result n) _ _ _ (measured p.before) p.settle-verdict.result p.settle-verdict.ensures told.enum_told-1.given.1
-    0 _ _ _ w.put_unindented-c.result (number_of_refusal (second x) (content x)) w.put_unindented-c.ensures
+    written x (lengths k) (fine k) 0 (result n) _ _ _ (measured c.before.before.before.before.before.before.before.before.before.before.before.before) c.settle-verdict.result c.settle-verdict.ensures c.in-Room.is
+    0 _ _ _ c.put_unindented-c.result (number_of_refusal (second x) (content x)) c.put_unindented-c.ensures
 
 pub write_unindented_spec : {M : Type 1} → statement M
 write_unindented_spec =

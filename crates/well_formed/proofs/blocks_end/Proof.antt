@@ -5,7 +5,7 @@ use Prim.Native.Nat.{ℕ, ◌+◌, ◌-◌, ◌≤◌}
 use mathlib.Core.Path.{◌≡◌, refl, subst}
 use mathlib.Core.List.{List}
 use lib.ListN.{length}
-use borrow.Author.Tests.{not_false}
+use borrow.Author.Tests.{not-false}
 use Rattle.chars.specs.Chars.{well_formed_of}
 use Rattle.well_formed.specs.Blocks.{Fitting}
 use Rattle.well_formed.proofs.BlockLaws.{fitting_join, passed_back}

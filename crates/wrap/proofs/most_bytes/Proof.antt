@@ -10,21 +10,21 @@ use Rattle.wrap.proofs.most_bytes.Lts as lts
 
 returns : tie.Need-returns-then-not-break_words
 returns c =
-    let a = c.before.args in
-    joined_short a.width a.break-words a.content.now c.before.requires (rw c.if-not-break_words.true)
+    let a = c.args in
+    joined_short a.width a.break-words a.content.now c.requires (rw c.if-not-break_words.true)
 
 returns-2 : tie.Need-returns-then-width-eq0
 returns-2 c =
-    let a = c.before.before.args in
-    joined_short a.width a.break-words a.content.now c.before.before.requires (rw (c.before.if-not-break_words.false, c.if-width-eq0.true))
+    let a = c.args in
+    joined_short a.width a.break-words a.content.now c.requires (rw (not_false a.break-words c.if-not-break_words.false, c.if-width-eq0.true))
 
 mul-result : tie.Need-overflow_mul-result
 mul-result c = search rules
 
 returns-3 : tie.Need-returns
 returns-3 c =
-    let a = c.before.before.args in
-    omega (arith, lines_few a.width a.break-words a.content.now c.before.before.requires, shown_few a.width a.break-words a.content.now c.before.before.requires)
+    let a = c.args in
+    omega (arith, lines_few a.width a.break-words a.content.now c.requires, shown_few a.width a.break-words a.content.now c.requires)
 
 pub most_bytes_spec : {M : Type 1} → statement M
 most_bytes_spec =

@@ -17,15 +17,14 @@ start c = c.before.before.before.before.before.before.before.before.before.befor
 
 skip-requires : tie.Need-skip-c-requires
 skip-requires c κs =
-    let p = c.before.before.before.before.before.before.before.before.before.requires in
+    let p = c.requires in
     (p.0, ((p.1.0.0, omega (arith, p.1.0.1, p.1.0.2)), laws.skip_fits _ _ _ _ p.1.1))
 
 keep-requires : tie.Need-keep-requires
 keep-requires c κs =
-    let q = c.before.before.before.before.before.before.before.before.before in
-    let a = (start q).args in
-    let p = (start q).requires in
-    let s = q.skip-c in
+    let a = (start c.before.before.before.before.before.before.before.before.before).args in
+    let p = (start c.before.before.before.before.before.before.before.before.before).requires in
+    let s = c.skip-c in
     let n = ap (λ (x : ℕ). a.end - x) s.ensures.1.1.1 in
     (s.ensures.1.1.0, ((omega (arith, s.ensures.1.1.1, p.1.0.1), p.1.0.2), laws.keep_fits _ _ _ _ _ _ _ p.1.1 s.ensures.0 s.ensures.1.0 n))
 
@@ -40,11 +39,10 @@ same-length-3 c = search rules
 
 returns : tie.Need-returns
 returns c =
-    let q = c.before.before.before.before.before.before.before.before.before.before.before.before.before.before.before.before in
-    let a = (start q).args in
-    let p = (start q).requires in
-    let s = q.skip-c in
-    let k = c.before.before.before.before.before.before.keep in
+    let a = (start c.before.before.before.before.before.before.before.before.before.before.before.before.before.before.before.before).args in
+    let p = (start c.before.before.before.before.before.before.before.before.before.before.before.before.before.before.before.before).requires in
+    let s = c.skip-c in
+    let k = c.keep in
     let n = ap (λ (x : ℕ). a.end - x) s.ensures.1.1.1 in (
       laws.line_wrote _ _ _ _ _ _ _ p.1.1 s.ensures.0 s.ensures.1.0 n _ k.ensures.0,
       (laws.line_left_lem _ _ _ _ _ _ _ p.1.1 s.ensures.0 s.ensures.1.0 n _ k.ensures.1.0, (k.ensures.1.1.0, k.ensures.1.1.1)),

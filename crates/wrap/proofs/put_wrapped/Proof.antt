@@ -29,11 +29,11 @@ decreases-loop t bytes₀ numbers₀ texts₀ lines₀ content entries text widt
 loop-holds : tie.Need-loop-l-init invariant-loop decreases-loop
 unfolding out
 loop-holds c =
-    (laws.state_first _ _ _ _ _ _ _ refl refl c.before.before.before.before.before.before.before.requires.1.0, lists.start _ _ _ _)
+    (laws.state_first _ _ _ _ _ _ _ refl refl c.requires.1.0, lists.start _ _ _ _)
 
 next-line-requires : tie.Need-next_line-l-requires invariant-loop decreases-loop
 next-line-requires c κs =
-    (c.before.before.before.before.before.before.before.before.requires.0, c.loop-l.invariant.0.within)
+    (c.requires.0, c.loop-l.invariant.0.within)
 
 -- ── once a line is found: where the function started
 abbrev start : tie.After-next_line-l invariant-loop decreases-loop → tie.Start invariant-loop decreases-loop
@@ -41,30 +41,27 @@ start c = c.before.before.before.before.before.before.before.before.before
 
 cast-set-line : tie.Need-overflow_cast-at invariant-loop decreases-loop
 cast-set-line c =
-    omega (arith, c.before.before.loop-l.invariant.0.within, (start c.before).requires.1.0.short)
+    omega (arith, c.loop-l.invariant.0.within, (start c.before).requires.1.0.short)
 
 cast-set-line-2 : tie.Need-overflow_cast-end invariant-loop decreases-loop
 cast-set-line-2 c =
-    omega (arith, c.before.next_line-l.ensures.1.0.1, (start c.before).requires.1.0.short)
+    omega (arith, c.next_line-l.ensures.1.0.1, (start c.before).requires.1.0.short)
 
 cast-set-line-3 : tie.Need-overflow_cast-l invariant-loop decreases-loop
 cast-set-line-3 c =
-    let p = c.before.before in
-    let e = p.next_line-l.ensures in
-    omega (arith, e.1.0.1, e.1.1.1, (start p).requires.1.0.short)
+    let e = c.next_line-l.ensures in
+    omega (arith, e.1.0.1, e.1.1.1, (start c.before.before).requires.1.0.short)
 
 set-line-requires : tie.Need-set_line-k-requires invariant-loop decreases-loop
 set-line-requires c κs =
-    let p = c.before.before in
-    let n = p.next_line-l in
-    lists.room _ _ _ _ _ _ _ p.before.loop-l.invariant.1 n.result n.ensures.0 n.ensures.1.1.0 (start p).requires.1.1.1
+    let n = c.next_line-l in
+    lists.room _ _ _ _ _ _ _ c.loop-l.invariant.1 n.result n.ensures.0 n.ensures.1.1.0 (start c.before.before).requires.1.1.1
 
 put-line-requires : tie.Need-put_line-c-requires invariant-loop decreases-loop
 put-line-requires c κs =
-    let p = c.before.before.before.before.before.before.before.before in
-    let S = p.before.loop-l.invariant.0 in
-    let n = p.next_line-l in
-    (S.ready, ((S.here, n.ensures.1.0.0, n.ensures.1.0.1), laws.room_line _ _ _ _ _ _ _ _ _ S (start p).requires.1.1.0 n.result n.ensures.0))
+    let S = c.loop-l.invariant.0 in
+    let n = c.next_line-l in
+    (S.ready, ((S.here, n.ensures.1.0.0, n.ensures.1.0.1), laws.room_line _ _ _ _ _ _ _ _ _ S (start c.before.before.before.before.before.before.before.before).requires.1.1.0 n.result n.ensures.0))
 
 -- ── once a line is written: where it was found, and where it was listed
 abbrev found : tie.After-put_line-c invariant-loop decreases-loop → tie.After-next_line-l invariant-loop decreases-loop
@@ -76,78 +73,70 @@ listed c = c.before.before.before.before.before.before
 put-newline-requires : tie.Need-put_newline-c-requires invariant-loop decreases-loop
 unfolding out
 put-newline-requires c κs =
-    let p = c.before.before.before.before.before.before.before.before.before in
-    let n = (found p).next_line-l in
-    let l = p.put_line-c.ensures in
-    let f = laws.room_newline _ _ _ _ _ _ _ _ _ (found p).before.loop-l.invariant.0 (start (found p)).requires.1.1.0 n.result n.ensures.0 _ _ l.0 l.1.0 l.1.1.0 l.1.1.1
-    c.before.if-not-l.false in
+    let n = (found c.before.before.before.before.before.before.before.before.before).next_line-l in
+    let l = c.put_line-c.ensures in
+    let f = laws.room_newline _ _ _ _ _ _ _ _ _ (found c.before.before.before.before.before.before.before.before.before).loop-l.invariant.0 (start (found c.before.before.before.before.before.before.before.before.before)).requires.1.1.0 n.result n.ensures.0 _ _ l.0 l.1.0 l.1.1.0 l.1.1.1
+    (not_false n.result.more c.if-not-l.false) in
     omega (arith, f.data_bytes)
 
 loop-less : tie.Need-loop-l-smaller invariant-loop decreases-loop
 loop-less c =
     let n = (found c.before.before.before.before.before.before.before.before.before.before.before.before).next_line-l in
-    omega (arith, n.ensures.1.0.2, (n.ensures.1.0.3 c.before.before.before.before.if-not-l.false).0)
+    omega (arith, n.ensures.1.0.2, (n.ensures.1.0.3 (not_false n.result.more c.if-not-l.false)).0)
 
 loop-again : tie.Need-loop-l-preserved invariant-loop decreases-loop
 loop-again c =
-    let p = c.before.before.before.before.before.before.before.before.before.before.before.before in
-    let S = (found p).before.loop-l.invariant in
-    let n = (found p).next_line-l in
-    let l = p.put_line-c.ensures in
-    let w = c.before.before.put_newline-c.ensures in
-    let s = (listed p).set_line-k in
-    let m = c.before.before.before.before.if-not-l.false in
+    let S = (found c.before.before.before.before.before.before.before.before.before.before.before.before).loop-l.invariant in
+    let n = (found c.before.before.before.before.before.before.before.before.before.before.before.before).next_line-l in
+    let l = c.put_line-c.ensures in
+    let w = c.put_newline-c.ensures in
+    let s = (listed c.before.before.before.before.before.before.before.before.before.before.before.before).set_line-k in
+    let m = not_false n.result.more c.if-not-l.false in
     let v = bytes_wrote _ _ _ _ (0x0A ∷ []) _ _ w.1 w.0.2 w.0.3 w.0.4 in (
-      laws.step _ _ _ _ _ _ _ _ _ S.0 (start (found p)).requires.1.1.0 n.result n.ensures.0 _ _ l.0 l.1.0 l.1.1.0 l.1.1.1 m _ _ v w.0.0 w.0.1
+      laws.step _ _ _ _ _ _ _ _ _ S.0 (start (found c.before.before.before.before.before.before.before.before.before.before.before.before)).requires.1.1.0 n.result n.ensures.0 _ _ l.0 l.1.0 l.1.1.0 l.1.1.1 m _ _ v w.0.0 w.0.1
           (n.ensures.1.0.3 m).1 n.ensures.1.0.2,
       lists.next _ _ _ _ _ _ _ S.1 n.result n.ensures.0 n.ensures.1.1.0 _ _ s.ensures.0 s.ensures.1 s.kept.0 m n.ensures.1.0.2,
     )
 
 skip-requires : tie.Need-skip-last-requires invariant-loop decreases-loop
 skip-requires c κs =
-    let p = c.before.before.before.before.before.before.before.before.before.before.before in
-    let n = (found p).next_line-l in
-    let l = p.put_line-c.ensures in
-    let f = laws.room_behind _ _ _ _ _ _ _ _ _ (found p).before.loop-l.invariant.0 (start (found p)).requires.1.1.0 n.result n.ensures.0 _ _ l.0 l.1.0 l.1.1.0 l.1.1.1
-    c.before.before.before.if-not-l.true in
+    let n = (found c.before.before.before.before.before.before.before.before.before.before.before).next_line-l in
+    let l = c.put_line-c.ensures in
+    let f = laws.room_behind _ _ _ _ _ _ _ _ _ (found c.before.before.before.before.before.before.before.before.before.before.before).loop-l.invariant.0 (start (found c.before.before.before.before.before.before.before.before.before.before.before)).requires.1.1.0 n.result n.ensures.0 _ _ l.0 l.1.0 l.1.1.0 l.1.1.1
+    c.if-not-l.true in
     (l.1.1.0, ((omega (arith, l.1.1.1, n.ensures.1.0.1), omega arith), f))
 
 same_length : tie.Need-shape_of-bytes invariant-loop decreases-loop
 unfolding out
 same_length c =
-    let p = c.before.before.before.before.before.before.before.before.before.before.before.before.before.before.before.before.before.before in
-    let g = laws.long_now _ _ _ _ _ _ _ _ _ (found p).before.loop-l.invariant.0 (start (found p)).requires.1.1.0 in
-    c.before.before.before.before.before.before.skip-last.auto.0 ∙ p.put_line-c.auto.0 ∙ g.data_bytes
+    let g = laws.long_now _ _ _ _ _ _ _ _ _ (found c.before.before.before.before.before.before.before.before.before.before.before.before.before.before.before.before.before.before).loop-l.invariant.0 (start (found c.before.before.before.before.before.before.before.before.before.before.before.before.before.before.before.before.before.before)).requires.1.1.0 in
+    c.skip-last.auto.0 ∙ c.put_line-c.auto.0 ∙ g.data_bytes
 
 same-length-2 : tie.Need-shape_of-numbers invariant-loop decreases-loop
 unfolding out
 same-length-2 c =
-    let p = c.before.before.before.before.before.before.before.before.before.before.before.before.before.before.before.before.before.before in
-    let g = laws.long_now _ _ _ _ _ _ _ _ _ (found p).before.loop-l.invariant.0 (start (found p)).requires.1.1.0 in
-    c.before.before.before.before.before.before.skip-last.auto.1.0 ∙ p.put_line-c.auto.1.0 ∙ g.entry_numbers
+    let g = laws.long_now _ _ _ _ _ _ _ _ _ (found c.before.before.before.before.before.before.before.before.before.before.before.before.before.before.before.before.before.before).loop-l.invariant.0 (start (found c.before.before.before.before.before.before.before.before.before.before.before.before.before.before.before.before.before.before)).requires.1.1.0 in
+    c.skip-last.auto.1.0 ∙ c.put_line-c.auto.1.0 ∙ g.entry_numbers
 
 same-length-3 : tie.Need-shape_of-texts invariant-loop decreases-loop
 unfolding out
 same-length-3 c =
-    let p = c.before.before.before.before.before.before.before.before.before.before.before.before.before.before.before.before.before.before in
-    let g = laws.long_now _ _ _ _ _ _ _ _ _ (found p).before.loop-l.invariant.0 (start (found p)).requires.1.1.0 in
-    c.before.before.before.before.before.before.skip-last.auto.1.1.0 ∙ p.put_line-c.auto.1.1.0 ∙ g.text
+    let g = laws.long_now _ _ _ _ _ _ _ _ _ (found c.before.before.before.before.before.before.before.before.before.before.before.before.before.before.before.before.before.before).loop-l.invariant.0 (start (found c.before.before.before.before.before.before.before.before.before.before.before.before.before.before.before.before.before.before)).requires.1.1.0 in
+    c.skip-last.auto.1.1.0 ∙ c.put_line-c.auto.1.1.0 ∙ g.text
 
 same-length-4 : tie.Need-shape_of-lines invariant-loop decreases-loop
 same-length-4 c =
-    let p = c.before.before.before.before.before.before.before.before.before.before.before.before.before.before.before.before.before.before in
-    (listed p).set_line-k.auto.0 ∙ (found p).before.loop-l.invariant.1.filled.long
+    (listed c.before.before.before.before.before.before.before.before.before.before.before.before.before.before.before.before.before.before).set_line-k.auto.0 ∙ (found c.before.before.before.before.before.before.before.before.before.before.before.before.before.before.before.before.before.before).loop-l.invariant.1.filled.long
 
 returns : tie.Need-returns invariant-loop decreases-loop
 returns c =
-    let p = c.before.before.before.before.before.before.before.before.before.before.before.before.before.before.before.before.before.before in
-    let S = (found p).before.loop-l.invariant in
-    let n = (found p).next_line-l in
-    let l = p.put_line-c.ensures in
-    let s = (listed p).set_line-k in
-    let m = c.before.before.before.before.before.before.before.before.before.before.if-not-l.true in (
-      laws.finish _ _ _ _ _ _ _ _ _ S.0 (start (found p)).requires.1.1.0 n.result n.ensures.0 _ _ l.0 l.1.0 l.1.1.0 l.1.1.1 m _
-          c.before.before.before.before.before.before.skip-last.ensures.0,
+    let S = (found c.before.before.before.before.before.before.before.before.before.before.before.before.before.before.before.before.before.before).loop-l.invariant in
+    let n = (found c.before.before.before.before.before.before.before.before.before.before.before.before.before.before.before.before.before.before).next_line-l in
+    let l = c.put_line-c.ensures in
+    let s = (listed c.before.before.before.before.before.before.before.before.before.before.before.before.before.before.before.before.before.before).set_line-k in
+    let m = c.if-not-l.true in (
+      laws.finish _ _ _ _ _ _ _ _ _ S.0 (start (found c.before.before.before.before.before.before.before.before.before.before.before.before.before.before.before.before.before.before)).requires.1.1.0 n.result n.ensures.0 _ _ l.0 l.1.0 l.1.1.0 l.1.1.1 m _
+          c.skip-last.ensures.0,
       lists.last _ _ _ _ _ _ _ S.1 n.result n.ensures.0 n.ensures.1.1.0 _ s.result s.ensures.0 s.ensures.1 s.kept.0 m,
     )
 

@@ -27,7 +27,7 @@ use Rattle.wrap.proofs.settle_wrapped.Reads as settle-wrapped-reads
 -- ── the places on the way, and what is known there
 -- what the call was given
 abbrev call : tie.Start → Single
-call s = wrapped_lines s.args.width s.args.break-words
+call s = wrapped_lines s.args.width s.args.break_words
 
 abbrev ds : tie.Start → List ℕ
 ds s = s.args.content.now
@@ -42,24 +42,24 @@ abbrev lent : tie.Start → Lent
 lent s = lent_lined s.args.bytes.now s.args.numbers.now s.args.texts.now s.args.lines.now
 
 -- once the content is checked
-abbrev start : tie.In-Fine-2 → tie.Start
+abbrev start : tie.In-Fine → tie.Start
 start c = c.before.before.before.before.before.before.before.before.before.before
 
-abbrev size : tie.In-Fine-2 → ℕ
-size c = c.checked-in-Fine-1.given.0.0
+abbrev size : tie.In-Fine → ℕ
+size c = c.in-Fine.n
 
-fine : (c : tie.In-Fine-2) → Fine (ds (start c)) (ns (start c)) (ts (start c)) (size c)
+fine : (c : tie.In-Fine) → Fine (ds (start c)) (ns (start c)) (ts (start c)) (size c)
 fine c =
     let s = start c in
-    let k = c.before.before.check-checked in
-    content_fine (call s) (ds s) (ns s) (ts s) (lent s) k.result k.ensures.0 k.ensures.1.0 k.ensures.1.1 (size c) c.checked-in-Fine-1.given.1
+    let k = c.check-checked in
+    content_fine (call s) (ds s) (ns s) (ts s) (lent s) k.result k.ensures.0 k.ensures.1.0 k.ensures.1.1 (size c) c.in-Fine.is
 
 -- once the sizes are settled
 abbrev measured : tie.After-settle_wrapped-verdict → tie.After-own_size-shared
 measured c = c.before.before
 
-abbrev checked : tie.After-settle_wrapped-verdict → tie.In-Fine-2
-checked c = (measured c).before.before
+abbrev checked : tie.After-settle_wrapped-verdict → tie.In-Fine
+checked c = (measured c).before
 
 -- ── what is asked on the way
 check-requires : tie.Need-check-checked-requires
@@ -70,33 +70,30 @@ enum-known-checked c = search rules
 
 returns : tie.Need-returns-in-Refused
 returns c =
-    let k = c.before.before.before in
-    let s = k.before.before.before.before.before.before.before.before in
-    content-refused (call s) (ds s) (ns s) (ts s) (lent s) k.check-checked.result k.check-checked.ensures.0 c.before.checked-1.given.0.0 c.before.checked-1.given.1
+    content-refused (call c.before.before.before.before.before.before.before.before.before) (ds c.before.before.before.before.before.before.before.before.before) (ns c.before.before.before.before.before.before.before.before.before) (ts c.before.before.before.before.before.before.before.before.before) (lent c.before.before.before.before.before.before.before.before.before) c.check-checked.result c.check-checked.ensures.0 c.in-Refused.f c.in-Refused.is
 
 enum-known-checked-2 : tie.Need-enum_known-checked-in-Fine-1
 enum-known-checked-2 c = search rules
 
 own-size-requires : tie.Need-own_size-shared-requires
 own-size-requires c κs =
-    let s = start c.before in
-    let f = fine c.before in
+    let s = start c in
+    let f = fine c in
     ((f.entries_short, f.own_short, f.parts), omega (arith, own_less (ds s) (ns s) (ts s) f.passed, f.text_size_lem))
 
 settle-wrapped-requires : tie.Need-settle_wrapped-verdict-requires
 unfolding lead_table
-settle-wrapped-requires c κs = (search rules, (fine c.before.before.before).data_short)
+settle-wrapped-requires c κs = (search rules, (fine c.before.before).data_short)
 
 enum-known-verdict : tie.Need-enum_known-verdict
 enum-known-verdict c = search rules
 
 returns-2 : tie.Need-returns-in-Refused-verdict
 returns-2 c =
-    let p = c.before.before.before in
-    let s = start (checked p) in
-    sizes_refused (call s) (ds s) (ns s) (ts s) (lent s) (fine (checked p)).passed refl _ _ _ (data_size _ _ _) (measured p).own_size-shared.ensures refl
-    p.settle_wrapped-verdict.result p.settle_wrapped-verdict.ensures
-    c.before.verdict-1.given.0.0 c.before.verdict-1.given.1
+    let s = start (checked c.before) in
+    sizes_refused (call s) (ds s) (ns s) (ts s) (lent s) (fine (checked c.before)).passed refl _ _ _ (data_size _ _ _) (measured c.before).own_size-shared.ensures refl
+    c.settle_wrapped-verdict.result c.settle_wrapped-verdict.ensures
+    c.in-Refused-verdict.f c.in-Refused-verdict.is
 
 enum_told : tie.Need-enum_told-1
 enum_told c = search rules
@@ -104,12 +101,11 @@ enum_told c = search rules
 put-wrapped-requires : tie.Need-put_wrapped-w-requires
 unfolding lead_table result_items settled_fault
 put-wrapped-requires c κs =
-    let p = c.before.before.before.before.before.before.before in
-    let s = start (checked p) in
-    let q = c.before.before.before.before.before.enum_told-1.given.1 in
-    let room = has_room (call s) (ds s) (ns s) (ts s) (lent s) (fine (checked p)).passed refl _ _ _ (data_size _ _ _) (measured p).own_size-shared.ensures refl
-    p.settle_wrapped-verdict.result p.settle_wrapped-verdict.ensures q in
-    (search rules, ((fine (checked p)).whole, (room, (within _ _ _ _ _ (sym p.settle_wrapped-verdict.ensures ∙ ap settled_fault q)).line_room_lem)))
+    let s = start (checked c.before.before.before.before.before.before) in
+    let q = c.in-Room.is in
+    let room = has_room (call s) (ds s) (ns s) (ts s) (lent s) (fine (checked c.before.before.before.before.before.before)).passed refl _ _ _ (data_size _ _ _) (measured c.before.before.before.before.before.before).own_size-shared.ensures refl
+    c.settle_wrapped-verdict.result c.settle_wrapped-verdict.ensures q in
+    (search rules, ((fine (checked c.before.before.before.before.before.before)).whole, (room, (within _ _ _ _ _ (sym c.settle_wrapped-verdict.ensures ∙ ap settled_fault q)).line_room_lem)))
 
 same_length : tie.Need-shape_of-bytes
 same_length c = search rules
@@ -126,12 +122,10 @@ same-length-4 c = search rules
 returns-3 : tie.Need-returns
 unfolding result_items number
 returns-3 c =
-    let w = c.before.before.before.before.before.before.before.before.before.put_wrapped-w in
-    let t = c.before.before.before.before.before.before.before.before.before.before.before.before.before.before.before in
-    let p = t.before.before in
-    let s = start (checked p) in
-    written (call s) (ds s) (ns s) (ts s) (lent s) (fine (checked p)).passed refl _ _ _ (data_size _ _ _) (measured p).own_size-shared.ensures refl p.settle_wrapped-verdict.result
-    p.settle_wrapped-verdict.ensures t.enum_told-1.given.1
+    let w = c.put_wrapped-w in
+    let s = start (checked c.before.before.before.before.before.before.before.before.before.before.before.before.before.before.before.before) in
+    written (call s) (ds s) (ns s) (ts s) (lent s) (fine (checked c.before.before.before.before.before.before.before.before.before.before.before.before.before.before.before.before)).passed refl _ _ _ (data_size _ _ _) (measured c.before.before.before.before.before.before.before.before.before.before.before.before.before.before.before.before).own_size-shared.ensures refl c.settle_wrapped-verdict.result
+    c.settle_wrapped-verdict.ensures c.in-Room.is
     w.result.count _ _ _ _ w.result.cursor (sym w.ensures.1.1) w.ensures.0 w.ensures.1.0
 
 pub write_wrapped_spec : {M : Type 1} → statement M

@@ -24,7 +24,7 @@ loop-holds c =
 
 next-line-requires : tie.Need-next_line-l-requires invariant-loop decreases-loop
 next-line-requires c κs =
-    (c.before.before.requires.0, c.loop-l.invariant.within)
+    (c.requires.0, c.loop-l.invariant.within)
 
 add-count : tie.Need-overflow_add-count invariant-loop decreases-loop
 add-count c =
@@ -32,29 +32,29 @@ add-count c =
 
 sub-bytes : tie.Need-overflow_sub-bytes invariant-loop decreases-loop
 sub-bytes c =
-    omega (arith, c.before.next_line-l.ensures.1.0.0)
+    omega (arith, c.next_line-l.ensures.1.0.0)
 
 add-bytes : tie.Need-overflow_add-bytes invariant-loop decreases-loop
 add-bytes c =
-    omega (arith, c.before.next_line-l.ensures.1.0.0, c.before.next_line-l.ensures.1.0.1, c.before.before.loop-l.invariant.shown)
+    omega (arith, c.next_line-l.ensures.1.0.0, c.next_line-l.ensures.1.0.1, c.loop-l.invariant.shown)
 
 loop-less : tie.Need-loop-l-smaller invariant-loop decreases-loop
 loop-less c =
-    let l = c.before.before.before.next_line-l in
-    omega (arith, l.ensures.1.0.2, (l.ensures.1.0.3 c.if-not-l.false).0)
+    let l = c.next_line-l in
+    omega (arith, l.ensures.1.0.2, (l.ensures.1.0.3 (not_false l.result.more c.if-not-l.false)).0)
 
 loop-again : tie.Need-loop-l-preserved invariant-loop decreases-loop
 loop-again c =
-    let l = c.before.before.before.next_line-l in
-    let m = c.if-not-l.false in
+    let l = c.next_line-l in
+    let m = not_false l.result.more c.if-not-l.false in
     let p = l.ensures.1.0.3 m in
-    laws.count_on _ _ _ _ _ _ c.before.before.before.before.loop-l.invariant l.result l.ensures.0 m l.ensures.1.0.2 p.0 l.ensures.1.0.0 p.1
+    laws.count_on _ _ _ _ _ _ c.loop-l.invariant l.result l.ensures.0 m l.ensures.1.0.2 p.0 l.ensures.1.0.0 p.1
 
 returns : tie.Need-returns invariant-loop decreases-loop
 unfolding lines_of
 returns c =
-    let l = c.before.before.before.next_line-l in
-    let S = c.before.before.before.before.loop-l.invariant in
+    let l = c.next_line-l in
+    let S = c.loop-l.invariant in
     let k = laws.count_last _ _ _ _ _ _ S l.result l.ensures.0 c.if-not-l.true in
     (λ i. record { count = k.0 i; bytes = k.1 i }, (omega arith, omega (arith, S.few, S.within), omega (arith, S.shown, l.ensures.1.0.0, l.ensures.1.0.1)))
 

@@ -19,8 +19,8 @@ use Rattle.wrap_lines.proofs.write_lines.Reads as write-lines-reads
 returns : tie.Need-returns-then-data-gt-DATA_LIMIT
 unfolding answer_of returned lent_after
 returns c =
-    let a = c.before.before.before.args in
-    (rw (laws.outcome_long a.width a.break-words a.«data».now (length a.lines-1.now) c.if-data-gt-DATA_LIMIT.true) (refl, refl), λ h. absurd (omega (arith, h, c.if-data-gt-DATA_LIMIT.true)))
+    let a = c.args in
+    (rw (laws.outcome_long a.width a.break-words a.«data».now (length a.lines.now) c.if-data-gt-DATA_LIMIT.true) (refl, refl), λ h. absurd (omega (arith, h, c.if-data-gt-DATA_LIMIT.true)))
 
 lines-fit-requires : tie.Need-lines_fit-requires
 unfolding lead_table
@@ -29,18 +29,18 @@ lines-fit-requires c κs = search rules
 returns-2 : tie.Need-returns-then-not-lines_fit
 unfolding answer_of returned lent_after
 returns-2 c =
-    let a = c.before.before.before.before.before.before.args in
-    let f = c.before.lines_fit in
+    let a = c.args in
+    let f = c.lines_fit in
     let h = leb-false _ _ (sym f.ensures ∙ c.if-not-lines_fit.true) in (
-      rw (laws.outcome_short a.width a.break-words a.«data».now (length a.lines-1.now) c.before.before.before.if-data-gt-DATA_LIMIT.false h) (refl, refl),
+      rw (laws.outcome_short a.width a.break-words a.«data».now (length a.lines.now) c.if-data-gt-DATA_LIMIT.false h) (refl, refl),
       λ d. lines_few a.width a.break-words a.«data».now d,
     )
 
 write-lines-requires : tie.Need-write_lines-count-requires
 unfolding lead_table
 write-lines-requires c κs =
-    let f = c.before.before.before.lines_fit in
-    (search rules, (search rules, leb-true _ _ (sym f.ensures ∙ c.before.before.if-not-lines_fit.false)))
+    let f = c.lines_fit in
+    (search rules, (search rules, leb-true _ _ (sym f.ensures ∙ not_false f.result c.if-not-lines_fit.false)))
 
 same_length : tie.Need-shape_of-lines
 same_length c = search rules
@@ -48,11 +48,11 @@ same_length c = search rules
 returns-3 : tie.Need-returns
 unfolding answer_of returned lent_after over
 returns-3 c =
-    let a = c.before.before.before.before.before.before.before.before.before.before.before.args in
-    let f = c.before.before.before.before.before.before.lines_fit in
-    let w = c.before.before.write_lines-count.ensures in
-    let h = leb-true _ _ (sym f.ensures ∙ c.before.before.before.before.before.if-not-lines_fit.false) in (
-      rw (laws.outcome_done a.width a.break-words a.«data».now (length a.lines-1.now) c.before.before.before.before.before.before.before.before.if-data-gt-DATA_LIMIT.false h)
+    let a = c.args in
+    let f = c.lines_fit in
+    let w = c.write_lines-count.ensures in
+    let h = leb-true _ _ (sym f.ensures ∙ not_false f.result c.if-not-lines_fit.false) in (
+      rw (laws.outcome_done a.width a.break-words a.«data».now (length a.lines.now) c.if-data-gt-DATA_LIMIT.false h)
           (λ i. record { refusal = 0; data_bytes = 0; entry_numbers = 0; text = 0; number = w.1 i }, λ i. lent_lines (w.0 i)),
       λ d. lines_few a.width a.break-words a.«data».now d,
     )

@@ -31,15 +31,15 @@ loop-holds c =
 
 next-line-requires : tie.Need-next_line-l-requires invariant-loop decreases-loop
 next-line-requires c κs =
-    (c.before.before.before.requires.0, c.loop-l.invariant.within)
+    (c.requires.0, c.loop-l.invariant.within)
 
 cast-set-line : tie.Need-overflow_cast-at invariant-loop decreases-loop
 cast-set-line c =
-    omega (arith, c.before.before.loop-l.invariant.within)
+    omega (arith, c.loop-l.invariant.within)
 
 cast-set-line-2 : tie.Need-overflow_cast-end invariant-loop decreases-loop
 cast-set-line-2 c =
-    omega (arith, c.before.next_line-l.ensures.1.0.1)
+    omega (arith, c.next_line-l.ensures.1.0.1)
 
 cast-set-line-3 : tie.Need-overflow_cast-l invariant-loop decreases-loop
 cast-set-line-3 c =
@@ -50,12 +50,12 @@ set-line-requires : tie.Need-set_line-k-requires invariant-loop decreases-loop
 set-line-requires c κs =
     let f = found c in
     let l = f.next_line-l in
-    laws.room _ _ _ _ _ _ _ f.before.loop-l.invariant l.result l.ensures.0 l.ensures.1.1.0 f.before.before.before.before.requires.1.1
+    laws.room _ _ _ _ _ _ _ f.loop-l.invariant l.result l.ensures.0 l.ensures.1.1.0 f.requires.1.1
 
 loop-less : tie.Need-loop-l-smaller invariant-loop decreases-loop
 loop-less c =
-    let l = (found (set c.before).before).next_line-l in
-    omega (arith, l.ensures.1.0.2, (l.ensures.1.0.3 c.if-not-l.false).0)
+    let l = (found (set c.before).before).next-line in
+    omega (arith, l.ensures.1.0.2, (l.ensures.1.0.3 (not_false l.result.more c.if-not-l.false)).0)
 
 loop-again : tie.Need-loop-l-preserved invariant-loop decreases-loop
 loop-again c =
@@ -63,19 +63,19 @@ loop-again c =
     let f = found a.before in
     let l = f.next_line-l in
     let s = a.set_line-k in
-    laws.next _ _ _ _ _ _ _ f.before.loop-l.invariant l.result l.ensures.0 l.ensures.1.1.0 _ _ s.ensures.0 s.ensures.1 s.kept.0 c.if-not-l.false
+    laws.next _ _ _ _ _ _ _ f.loop-l.invariant l.result l.ensures.0 l.ensures.1.1.0 _ _ s.ensures.0 s.ensures.1 s.kept.0 (not_false l.result.more c.if-not-l.false)
     l.ensures.1.0.2
 
 same_length : tie.Need-shape_of-lines invariant-loop decreases-loop
 same_length c =
     let a = set c.before in
-    a.set_line-k.kept.0 ∙ (found a.before).before.loop-l.invariant.filled.long
+    a.set_line-k.kept.0 ∙ (found a.before).loop-l.invariant.filled.long
 
 returns : tie.Need-returns invariant-loop decreases-loop
 returns c =
     let a = set c.before in
     let f = found a.before in
-    let S = f.before.loop-l.invariant in
+    let S = f.loop-l.invariant in
     let l = f.next_line-l in
     let s = a.set_line-k in
     laws.last _ _ _ _ _ _ _ S l.result l.ensures.0 l.ensures.1.1.0 _ s.result s.ensures.0 s.ensures.1 s.kept.0 c.if-not-l.true

@@ -28,7 +28,7 @@ abbrev start : tie.Then-n-place_at → tie.Start
 start c = c.before.before.before.before.before.before.before.before
 
 later : (c : tie.Then-n-place_at) → let a = (start c).args in a.n < place_for (entries_of (drop a.from.k a.entries.now))
-later c = omega (arith, c.if-n-place_at.true, c.before.place_at.ensures)
+later c = omega (arith, c.if-n-place_at.true, c.place_at.ensures)
 
 bytes-alone : (c : tie.Then-n-place_at)
     → let a = (start c).args in
@@ -39,14 +39,14 @@ bytes-alone c =
     front-plain a.content.now a.entries.now a.text.now a.n a.from s.requires.0 s.requires.1.0.0 s.requires.1.0.1 (later c)
 
 place-at-requires : tie.Need-place_at-requires
-place-at-requires c κs = c.before.before.before.before.before.before.requires.0.within
+place-at-requires c κs = c.requires.0.within
 
 put-bytes-requires : tie.Need-put_bytes-c-requires
 unfolding out
 put-bytes-requires c κs =
     let s = start c.before in
     let a = s.args in
-    let f : Fits (byte_items (part a.from.at a.n a.content.now)) (out a.bytes-1.now a.numbers-1.now a.texts-1.now a.from) = rw (bytes-alone c.before) at s.requires.1.1 in
+    let f : Fits (byte_items (part a.from.at a.n a.content.now)) (out a.bytes.now a.numbers.now a.texts.now a.from) = rw (bytes-alone c.before) at s.requires.1.1 in
     let d = ap length (data_bytes_lem (part a.from.at a.n a.content.now)) in
     (s.requires.1.0.0, s.requires.1.0.1, omega (arith, f.data_bytes, d, length_part a.from.at a.n a.content.now s.requires.1.0.1))
 
@@ -58,17 +58,15 @@ same_length c = search rules
 
 returns : tie.Need-returns-then-n-place_at
 returns c =
-    let p = c.before.before in
-    let t = p.before.before in
-    let s = start t in
+    let s = start c.before.before.before.before in
     let a = s.args in
-    let b = p.put_bytes-c.ensures in
+    let b = c.put_bytes-c.ensures in
     let z = length_part a.from.at a.n a.content.now s.requires.1.0.1 in
-    let r = p.put_bytes-c.result in
-    let q : Cursor = record { at = a.n; k = r.k; d = r.d; e = r.e; t = r.t } in
-    let k = back-plain a.content.now a.entries.now a.text.now a.n a.from s.requires.0 s.requires.1.0.0 s.requires.1.0.1 (later t) q refl b.0.1 in
-    let w = bytes_wrote a.bytes-1.now _ a.numbers-1.now a.texts-1.now (part a.from.at a.n a.content.now) a.from q b.1.0 (omega (arith, b.0.2, z)) b.0.3 b.0.4 in
-    (w ∙ ap (λ (is : List Item). add is (out a.bytes-1.now a.numbers-1.now a.texts-1.now a.from)) (sym (bytes-alone t)), (k.0, (k.1, refl, b.1.1)))
+    let r = c.put_bytes-c.result in
+    let q : Cursor = record { at = a.n; k = r.k; d = r.d; e = r.e; c.before.before.before.before = r.t } in
+    let k = back-plain a.content.now a.entries.now a.text.now a.n a.from s.requires.0 s.requires.1.0.0 s.requires.1.0.1 (later c.before.before.before.before) q refl b.0.1 in
+    let w = bytes_wrote a.bytes.now _ a.numbers.now a.texts.now (part a.from.at a.n a.content.now) a.from q b.1.0 (omega (arith, b.0.2, z)) b.0.3 b.0.4 in
+    (w ∙ ap (λ (is : List Item). add is (out a.bytes.now a.numbers.now a.texts.now a.from)) (sym (bytes-alone c.before.before.before.before)), (k.0, (k.1, refl, b.1.1)))
 
 same-length-2 : tie.Need-shape_of-bytes
 same-length-2 c = search rules

@@ -137,108 +137,87 @@ loop-holds c =
       wrote = add-nil _;
       rest = refl;
       behind = refl;
-      ready = c.before.before.before.before.before.before.before.requires.0;
+      ready = c.requires.0;
       here =
-          c.before.before.before.before.before.before.before.requires.1.0.0;
+          c.requires.1.0.0;
       next = c.place_at-p.ensures;
     }
 
 entry-at-requires : tie.Need-entry_at-e-requires invariant-loop decreases-loop
 entry-at-requires c κs =
-    entire _ _ _ _ _ _ _ _ _ _ _ _ _ c.before.loop-p.invariant c.before.before.before.before.before.before.before.before.before.requires.1.0.1
-    c.before.before.before.before.before.before.before.before.before.requires.1.1 c.loop-p-test.true
+    entire _ _ _ _ _ _ _ _ _ _ _ _ _ c.loop-p.invariant c.requires.1.0.1
+    c.requires.1.1 c.loop-p-test.true
 
 put-bytes-requires : tie.Need-put_bytes-c-requires invariant-loop decreases-loop
 put-bytes-requires c κs =
-    let pre = c.before.before.before.before.before.before.before.before.before.before.before.requires in
-    let more = c.before.before.loop-p-test.true in
-    let f = fine _ _ _ _ _ _ _ _ _ _ _ _ _ c.before.before.before.loop-p.invariant pre.1.0.1 pre.1.1 more _ c.before.entry_at-e.ensures in
-    let r = roomy _ _ _ _ _ _ _ _ _ _ _ _ _ c.before.before.before.loop-p.invariant pre.1.0.1 pre.1.1 more _ c.before.entry_at-e.ensures in
+    let pre = c.requires in
+    let more = c.loop-p-test.true in
+    let f = fine _ _ _ _ _ _ _ _ _ _ _ _ _ c.loop-p.invariant pre.1.0.1 pre.1.1 more _ c.entry_at-e.ensures in
+    let r = roomy _ _ _ _ _ _ _ _ _ _ _ _ _ c.loop-p.invariant pre.1.0.1 pre.1.1 more _ c.entry_at-e.ensures in
     (omega (arith, f.0, f.3), omega (arith, more, pre.1.0.1), r.data_bytes)
 
 put-entry-requires : tie.Need-put_entry-c-requires invariant-loop decreases-loop
 put-entry-requires c κs =
-    let at-put-bytes = c.before.before.before.before in
-    let at-entry-at = at-put-bytes.before.before in
-    let at-loop-test = at-entry-at.before in
-    let at-loop = at-loop-test.before in
-    let start = at-loop.before.before.before.before.before.before.before.before in
-    let pre = start.requires in
-    asked _ _ _ _ _ _ _ _ _ _ _ _ _ at-loop.loop-p.invariant pre.1.0.1 pre.1.1
-    at-loop-test.loop-p-test.true _ at-entry-at.entry_at-e.ensures _
-    at-put-bytes.put_bytes-c.ensures.0
-    (omega (arith, start.well_formed))
+    let pre = c.requires in
+    asked _ _ _ _ _ _ _ _ _ _ _ _ _ c.loop-p.invariant pre.1.0.1 pre.1.1
+    c.loop-p-test.true _ c.entry_at-e.ensures _
+    c.put_bytes-c.ensures.0
+    (omega (arith, c.well_formed))
 
 place-at-requires-2 : tie.Need-place_at-p-requires-in-loop-p invariant-loop decreases-loop
 place-at-requires-2 c κs =
-    let at-put-entry = c.before.before.before.before in
-    let at-put-bytes = at-put-entry.before.before.before.before.before in
-    let at-loop-test = at-put-bytes.before.before.before in
-    let at-loop = at-loop-test.before in
-    let start = at-loop.before.before.before.before.before.before.before.before in
-    let pre = start.requires in
-    let w = entire _ _ _ _ _ _ _ _ _ _ _ _ _ at-loop.loop-p.invariant pre.1.0.1
-    pre.1.1 at-loop-test.loop-p-test.true in
-    omega (arith, w, at-put-bytes.put_bytes-c.ensures.0.1, at-put-entry.put_entry-c.ensures.0.1)
+    let pre = c.requires in
+    let w = entire _ _ _ _ _ _ _ _ _ _ _ _ _ c.loop-p.invariant pre.1.0.1
+    pre.1.1 c.loop-p-test.true in
+    omega (arith, w, c.put_bytes-c.ensures.0.1, c.put_entry-c.ensures.0.1)
 
 loop-less : tie.Need-loop-p-smaller invariant-loop decreases-loop
 loop-less c =
-    let at-put-entry = c.before.before.before.before.before in
-    let at-put-bytes = at-put-entry.before.before.before.before.before in
-    let at-loop-test = at-put-bytes.before.before.before in
-    let at-loop = at-loop-test.before in
-    let start = at-loop.before.before.before.before.before.before.before.before in
-    let pre = start.requires in
-    let w = entire _ _ _ _ _ _ _ _ _ _ _ _ _ at-loop.loop-p.invariant
-    pre.1.0.1 pre.1.1 at-loop-test.loop-p-test.true in
-    omega (arith, w, at-put-bytes.put_bytes-c.ensures.0.1, at-put-entry.put_entry-c.ensures.0.1)
+    let pre = c.requires in
+    let w = entire _ _ _ _ _ _ _ _ _ _ _ _ _ c.loop-p.invariant
+    pre.1.0.1 pre.1.1 c.loop-p-test.true in
+    omega (arith, w, c.put_bytes-c.ensures.0.1, c.put_entry-c.ensures.0.1)
 
 loop-again : tie.Need-loop-p-preserved invariant-loop decreases-loop
 loop-again c =
-    let at-put-entry = c.before.before.before.before.before in
-    let at-put-bytes = at-put-entry.before.before.before.before.before in
-    let at-entry-at = at-put-bytes.before.before in
-    let at-loop-test = at-entry-at.before in
-    let at-loop = at-loop-test.before in
-    let start = at-loop.before.before.before.before.before.before.before.before in
-    let pre = start.requires in
-    let b = at-put-bytes.put_bytes-c.ensures in
-    let e = at-put-entry.put_entry-c.ensures in
-    turned _ _ _ _ _ _ _ _ _ _ _ _ _ at-loop.loop-p.invariant pre.1.0.1
-    pre.1.1 at-loop-test.loop-p-test.true _
-    at-entry-at.entry_at-e.ensures _ _ _ _ _ _ b.1.0 b.0 e.0 e.1.0 e.1.1
+    let pre = c.requires in
+    let b = c.put_bytes-c.ensures in
+    let e = c.put_entry-c.ensures in
+    turned _ _ _ _ _ _ _ _ _ _ _ _ _ c.loop-p.invariant pre.1.0.1
+    pre.1.1 c.loop-p-test.true _
+    c.entry_at-e.ensures _ _ _ _ _ _ b.1.0 b.0 e.0 e.1.0 e.1.1
     c.place_at-p-in-loop-p.ensures
 
 put-bytes-requires-2 : tie.Need-put_bytes-c-requires-2 invariant-loop decreases-loop
 put-bytes-requires-2 c κs =
-    let s = c.before.before.loop-p.invariant in
-    let pre = c.before.before.before.before.before.before.before.before.before.before.requires in
-    (s.here, pre.1.0.1, last-room _ _ _ _ _ _ _ _ _ _ _ _ _ s pre.1.0.1 pre.1.1 c.before.loop-p-test.false)
+    let s = c.loop-p.invariant in
+    let pre = c.requires in
+    (s.here, pre.1.0.1, last-room _ _ _ _ _ _ _ _ _ _ _ _ _ s pre.1.0.1 pre.1.1 c.loop-p-test.false)
 
 same_length : tie.Need-shape_of-bytes invariant-loop decreases-loop
 same_length c =
-    c.before.before.put_bytes-c-2.auto.0 ∙ (now-long _ _ _ _ _ _ _ _ _ _ _ _ _ c.before.before.before.before.before.loop-p.invariant
-    c.before.before.before.before.before.before.before.before.before.before.before.before.before.requires.1.0.1
-    c.before.before.before.before.before.before.before.before.before.before.before.before.before.requires.1.1).0
+    c.put_bytes-c-2.auto.0 ∙ (now-long _ _ _ _ _ _ _ _ _ _ _ _ _ c.loop-p.invariant
+    c.requires.1.0.1
+    c.requires.1.1).0
 
 same-length-2 : tie.Need-shape_of-numbers invariant-loop decreases-loop
 same-length-2 c =
-    (now-long _ _ _ _ _ _ _ _ _ _ _ _ _ c.before.before.before.before.before.loop-p.invariant
-    c.before.before.before.before.before.before.before.before.before.before.before.before.before.requires.1.0.1
-    c.before.before.before.before.before.before.before.before.before.before.before.before.before.requires.1.1).1
+    (now-long _ _ _ _ _ _ _ _ _ _ _ _ _ c.loop-p.invariant
+    c.requires.1.0.1
+    c.requires.1.1).1
 
 same-length-3 : tie.Need-shape_of-texts invariant-loop decreases-loop
 same-length-3 c =
-    (now-long _ _ _ _ _ _ _ _ _ _ _ _ _ c.before.before.before.before.before.loop-p.invariant
-    c.before.before.before.before.before.before.before.before.before.before.before.before.before.requires.1.0.1
-    c.before.before.before.before.before.before.before.before.before.before.before.before.before.requires.1.1).2
+    (now-long _ _ _ _ _ _ _ _ _ _ _ _ _ c.loop-p.invariant
+    c.requires.1.0.1
+    c.requires.1.1).2
 
 returns : tie.Need-returns invariant-loop decreases-loop
 returns c =
-    let pre = c.before.before.before.before.before.before.before.before.before.before.before.before.before.requires in
-    let b = c.before.before.put_bytes-c-2.ensures in
-    let s = c.before.before.before.before.before.loop-p.invariant in
-    let past = c.before.before.before.before.loop-p-test.false in
+    let pre = c.requires in
+    let b = c.put_bytes-c-2.ensures in
+    let s = c.loop-p.invariant in
+    let past = c.loop-p-test.false in
     let e = ended _ _ _ _ _ _ _ _ _ _ _ _ _ s pre.1.0.1 pre.1.1 past _ _ _ b.1.0 b.0 (refl, refl, refl, refl, refl) in
     (e.0, (e.1, (e.2, refl, run-kept _ _ _ _ _ _ _ _ _ _ _ _ _ s pre.1.0.1 pre.1.1 past _ _ e.0)))
 

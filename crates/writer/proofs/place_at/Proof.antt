@@ -16,7 +16,7 @@ sub-if1 c = search rules
 returns : tie.Need-returns-then-entries-k-lt4
 unfolding place_for
 returns c =
-    let a = c.before.args in
+    let a = c.args in
     let z = entries_few (drop a.k a.entries.now) (omega (arith, length-drop a.k a.entries.now, c.if-entries-k-lt4.true)) in rw z
 
 mul-result : tie.Need-offset_bounds-entries-k
@@ -27,13 +27,13 @@ shared-slice-read-result c = search rules
 
 cast-result : tie.Need-overflow_cast-result
 cast-result c =
-    omega (arith, c.shared_slice_known-1.given c.before.before.args.k)
+    omega (arith, c.shared_slice_known-1.given c.args.k)
 
 returns-2 : tie.Need-returns
 unfolding place_for
 returns-2 c =
-    let a = c.before.before.args in
-    let z = entries_next a.entries.now a.k (omega (arith, c.before.if-entries-k-lt4.false, c.before.before.requires)) in rw z
+    let a = c.args in
+    let z = entries_next a.entries.now a.k (omega (arith, c.if-entries-k-lt4.false, c.requires)) in rw z
 
 pub place_at_spec : {M : Type 1} → statement M
 place_at_spec =

@@ -16,13 +16,13 @@ place-in-result-requires c κs = search rules
 -- src/lib.rt:67:9
 returns : tie.Need-returns-then-kind-eq0
 returns c =
-    let a = c.before.before.before.before.before.args in
-    place_label_lem a.part.now a.texts.now (entries_of a.numbers.now) a.kind _ _ c.before.if-kind-eq0.true c.place_in_result.ensures.0 c.place_in_result.ensures.1
+    let a = c.args in
+    place_label_lem a.part.now a.texts.now (entries_of a.numbers.now) a.kind _ _ c.if-kind-eq0.true c.place_in_result.ensures.0 c.place_in_result.ensures.1
 
 -- src/lib.rt:70:9
 returns-2 : tie.Need-returns-then-kind-eq1
 returns-2 c =
-    let a = c.before.before.before.before.before.args in
+    let a = c.args in
     place-pop a.part.now a.texts.now (entries_of a.numbers.now) a.kind c.if-kind-eq1.true
 
 -- src/lib.rt:76:16
@@ -32,8 +32,8 @@ cast-t7 c = search rules
 -- src/lib.rt:62:1
 returns-3 : tie.Need-returns
 returns-3 c =
-    let a = c.before.before.before.before.before.args in
-    place-raw a.part.now a.texts.now (entries_of a.numbers.now) a.kind c.before.if-kind-eq0.false c.if-kind-eq1.false
+    let a = c.args in
+    place-raw a.part.now a.texts.now (entries_of a.numbers.now) a.kind c.if-kind-eq0.false c.if-kind-eq1.false
 
 pub place_of_spec : {M : Type 1} → statement M
 place_of_spec = tie.close (tie.spec place-in-result-requires returns returns-2 cast-t7 returns-3)

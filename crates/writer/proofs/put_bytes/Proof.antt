@@ -18,7 +18,7 @@ same_length c = search rules
 
 returns : tie.Need-returns
 returns c =
-    let e = c.before.before.put-d.ensures in
+    let e = c.put-d.ensures in
     ((refl, refl, e.0, refl, refl), (e.1, e.2))
 
 pub put_bytes_spec : {M : Type 1} → statement M

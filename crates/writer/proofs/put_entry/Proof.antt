@@ -67,7 +67,7 @@ part-place-of-end-3 c = search rules
 -- src/lib.rt:111:9
 place-of-requires : tie.Need-place_of-p-requires
 place-of-requires c κs =
-    (search rules, lent_placed c.before.before.before.before.before.before.before.before.before.before.args.c.e c.before.before.before.before.before.before.before.before.before.before.args.numbers.now c.before.before.before.before.before.before.before.before.before.before.requires.1.1.1.1)
+    (search rules, lent_placed c.args.c.e c.args.numbers.now c.requires.1.1.1.1)
 
 -- src/lib.rt:116:23
 cast-t27 : tie.Need-overflow_cast-c
@@ -80,19 +80,19 @@ set-entry-requires c κs = search rules
 -- src/lib.rt:122:42
 add-put : tie.Need-overflow_add-start
 add-put c =
-    let pre = c.before.before.before.before.before.before.before.before.before.before.before.before.before.before.before.before.before.before.requires in
-    let a = c.before.before.before.before.before.before.before.before.before.before.before.before.before.before.before.before.before.before.args in
-    let q = c.before.before.before.before.before.before.before.place_of-p.ensures in
-    omega (arith, add_short a.c.d _ _ a.c a.text.now a.numbers-1.now a.texts-1.now a.e pre.0 pre.1.0 q.0 q.1, pre.1.0, c.before.before.before.before.before.before.before.before.before.before.before.before.before.before.before.before.before.before.well_formed)
+    let pre = c.requires in
+    let a = c.args in
+    let q = c.place_of-p.ensures in
+    omega (arith, add_short a.c.d _ _ a.c a.text.now a.numbers.now a.texts.now a.e pre.0 pre.1.0 q.0 q.1, pre.1.0, c.well_formed)
 
 -- src/lib.rt:122:9
 put-requires : tie.Need-put-t-requires
 put-requires c κs =
-    let pre = c.before.before.before.before.before.before.before.before.before.before.before.before.before.before.before.before.before.before.requires in
-    let a = c.before.before.before.before.before.before.before.before.before.before.before.before.before.before.before.before.before.before.args in
-    let q = c.before.before.before.before.before.before.before.place_of-p.ensures in
-    let s = add_short a.c.d _ _ a.c a.text.now a.numbers-1.now a.texts-1.now a.e pre.0 pre.1.0 q.0 q.1 in
-    let m = add-length a.c.d _ _ a.c a.text.now a.numbers-1.now a.texts-1.now a.e pre.0 pre.1.0 q.0 q.1 in
+    let pre = c.requires in
+    let a = c.args in
+    let q = c.place_of-p.ensures in
+    let s = add_short a.c.d _ _ a.c a.text.now a.numbers.now a.texts.now a.e pre.0 pre.1.0 q.0 q.1 in
+    let m = add-length a.c.d _ _ a.c a.text.now a.numbers.now a.texts.now a.e pre.0 pre.1.0 q.0 q.1 in
     (omega arith, omega (arith, s, pre.1.0), omega (arith, s, m, pre.1.1.0.1))
 
 -- src/lib.rt:124:13
@@ -102,12 +102,12 @@ cast-t17 c = search rules
 -- src/lib.rt:125:12
 add-t12 : tie.Need-overflow_add-result
 add-t12 c =
-    omega (arith, c.before.before.before.before.before.before.before.before.before.before.before.before.before.before.before.before.before.before.before.before.before.before.before.requires)
+    omega (arith, c.requires)
 
 -- src/lib.rt:127:12
 add-t21 : tie.Need-overflow_add-result-2
 add-t21 c =
-    omega (arith, c.before.before.before.before.before.before.before.before.before.before.before.before.before.before.before.before.before.before.before.before.before.before.before.before.requires, c.before.before.before.before.before.before.before.before.before.before.before.before.before.before.before.before.before.before.before.before.before.before.before.before.well_formed)
+    omega (arith, c.requires, c.well_formed)
 
 -- src/lib.rt:98:1
 same_length : tie.Need-shape_of-numbers
@@ -120,15 +120,15 @@ same-length-2 c = search rules
 -- src/lib.rt:98:1
 returns : tie.Need-returns
 returns c =
-    let pre = c.before.before.before.before.before.before.before.before.before.before.before.before.before.before.before.before.before.before.before.before.before.before.before.before.requires in
-    let a = c.before.before.before.before.before.before.before.before.before.before.before.before.before.before.before.before.before.before.before.before.before.before.before.before.args in
-    let q = c.before.before.before.before.before.before.before.before.before.before.before.before.before.place_of-p.ensures in
-    let p = c.before.before.before.before.before.put-t.ensures in
-    let m = add-length a.c.d _ _ a.c a.text.now a.numbers-1.now a.texts-1.now a.e pre.0 pre.1.0 q.0 q.1 in (
+    let pre = c.requires in
+    let a = c.args in
+    let q = c.place_of-p.ensures in
+    let p = c.put-t.ensures in
+    let m = add-length a.c.d _ _ a.c a.text.now a.numbers.now a.texts.now a.e pre.0 pre.1.0 q.0 q.1 in (
       (refl, refl, refl, refl, omega (arith, p.0, m)),
       (
-        c.before.before.before.before.before.before.before.before.before.before.set_entry.ensures ∙ ap (λ (l : List ℕ). over_at a.c.e l a.numbers-1.now) (entry-written a.c.d _ _ a.c a.text.now a.numbers-1.now a.texts-1.now a.e pre.0 pre.1.0 q.0 q.1),
-        p.1 ∙ ap (λ (l : List ℕ). over_at a.c.t l a.texts-1.now) (text_written a.c.d _ _ a.c a.text.now a.numbers-1.now a.texts-1.now a.e pre.0 pre.1.0 q.0 q.1),
+        c.set_entry.ensures ∙ ap (λ (l : List ℕ). over_at a.c.e l a.numbers.now) (entry-written a.c.d _ _ a.c a.text.now a.numbers.now a.texts.now a.e pre.0 pre.1.0 q.0 q.1),
+        p.1 ∙ ap (λ (l : List ℕ). over_at a.c.t l a.texts.now) (text_written a.c.d _ _ a.c a.text.now a.numbers.now a.texts.now a.e pre.0 pre.1.0 q.0 q.1),
       ),
     )
 

@@ -20,11 +20,11 @@ use Rattle.writer.proofs.keep.Reads as keep-reads
 keep-requires : tie.Need-keep-r-requires
 unfolding out
 keep-requires c κs =
-    let s = c.before.before.before.before.before.before.before.before.before.args in
+    let s = c.args in
     let e = front_start s.content.now s.entries.now s.text.now (record { at = 0; k = 0; d = s.c.d; e = s.c.e; t = s.c.t }) refl refl (length s.content.now)
     ∙ keep_all s.content.now s.entries.now s.text.now in (
-      ready_start _ _ _ _ refl refl c.before.before.before.before.before.before.before.before.before.requires.0,
-      ((omega arith, omega arith), rw e c.before.before.before.before.before.before.before.before.before.requires.1),
+      ready_start _ _ _ _ refl refl c.requires.0,
+      ((omega arith, omega arith), rw e c.requires.1),
     )
 
 same_length : tie.Need-shape_of-bytes
@@ -39,14 +39,12 @@ same-length-3 c = search rules
 returns : tie.Need-returns
 unfolding out
 returns c =
-    let at-keep = c.before.before.before.before.before.before in
-    let start = at-keep.before.before.before.before.before.before.before.before.before.before in
-    let s = start.args in
+    let s = c.args in
     let e = front_start s.content.now s.entries.now s.text.now (record { at = 0; k = 0; d = s.c.d; e = s.c.e; t = s.c.t }) refl refl (length s.content.now)
     ∙ keep_all s.content.now s.entries.now s.text.now in
     let r = recording s.content.now s.entries.now s.text.now in
-    let o = out s.bytes-1.now s.numbers-1.now s.texts-1.now s.c in
-    let w = at-keep.keep-r.ensures.0 ∙ ap (λ (x : List Item). add x o) e in
+    let o = out s.bytes.now s.numbers.now s.texts.now s.c in
+    let w = c.keep-r.ensures.0 ∙ ap (λ (x : List Item). add x o) e in
     (w, (refl, refl, added_held (items r) s.content.now o _ w (data_items r)))
 
 pub put_recording_spec : {M : Type 1} → statement M

@@ -16,40 +16,40 @@ returns c =
 returns-2 : tie.Need-returns-then-e-gt16384
 unfolding settled_fault number_of_refusal
 returns-2 c =
-    sym (over_e _ _ _ _ _ c.before.if-d-gt1048576.false c.if-e-gt16384.true)
+    sym (over_e _ _ _ _ _ c.if-d-gt1048576.false c.if-e-gt16384.true)
 
 returns-3 : tie.Need-returns-then-t-gt65536
 unfolding settled_fault number_of_refusal
 returns-3 c =
-    sym (over_t _ _ _ _ _ c.before.before.if-d-gt1048576.false c.before.if-e-gt16384.false c.if-t-gt65536.true)
+    sym (over_t _ _ _ _ _ c.if-d-gt1048576.false c.if-e-gt16384.false c.if-t-gt65536.true)
 
 returns-4 : tie.Need-returns-then-bytes-d
 unfolding settled_fault number_of_refusal
 returns-4 c =
-    sym (none_d _ _ _ _ _ c.before.before.before.if-d-gt1048576.false c.before.before.if-e-gt16384.false c.before.if-t-gt65536.false c.if-bytes-d.true)
+    sym (none_d _ _ _ _ _ c.if-d-gt1048576.false c.if-e-gt16384.false c.if-t-gt65536.false c.if-bytes-d.true)
 
 returns-5 : tie.Need-returns-then-numbers-e
 unfolding settled_fault number_of_refusal
 returns-5 c =
-    sym (none_e _ _ _ _ _ c.before.before.before.before.if-d-gt1048576.false c.before.before.before.if-e-gt16384.false c.before.before.if-t-gt65536.false c.before.if-bytes-d.false c.if-numbers-e.true)
+    sym (none_e _ _ _ _ _ c.if-d-gt1048576.false c.if-e-gt16384.false c.if-t-gt65536.false c.if-bytes-d.false c.if-numbers-e.true)
 
 returns-6 : tie.Need-returns-then-texts-t
 unfolding settled_fault number_of_refusal
 returns-6 c =
-    sym (none_t _ _ _ _ _ c.before.before.before.before.before.if-d-gt1048576.false c.before.before.before.before.if-e-gt16384.false c.before.before.before.if-t-gt65536.false
-    c.before.before.if-bytes-d.false c.before.if-numbers-e.false c.if-texts-t.true)
+    sym (none_t _ _ _ _ _ c.if-d-gt1048576.false c.if-e-gt16384.false c.if-t-gt65536.false
+    c.if-bytes-d.false c.if-numbers-e.false c.if-texts-t.true)
 
 returns-7 : tie.Need-returns-then-lines-l
 unfolding settled_fault number_of_refusal
 returns-7 c =
-    sym (none_l _ _ _ _ _ c.before.before.before.before.before.before.if-d-gt1048576.false c.before.before.before.before.before.if-e-gt16384.false
-    c.before.before.before.before.if-t-gt65536.false c.before.before.before.if-bytes-d.false c.before.before.if-numbers-e.false c.before.if-texts-t.false c.if-lines-l.true)
+    sym (none_l _ _ _ _ _ c.if-d-gt1048576.false c.if-e-gt16384.false
+    c.if-t-gt65536.false c.if-bytes-d.false c.if-numbers-e.false c.if-texts-t.false c.if-lines-l.true)
 
 returns-8 : tie.Need-returns
 unfolding settled_fault number_of_refusal
 returns-8 c =
-    sym (all_fit_in _ _ _ _ _ c.before.before.before.before.before.before.if-d-gt1048576.false c.before.before.before.before.before.if-e-gt16384.false
-    c.before.before.before.before.if-t-gt65536.false c.before.before.before.if-bytes-d.false c.before.before.if-numbers-e.false c.before.if-texts-t.false c.if-lines-l.false)
+    sym (all_fit_in _ _ _ _ _ c.if-d-gt1048576.false c.if-e-gt16384.false
+    c.if-t-gt65536.false c.if-bytes-d.false c.if-numbers-e.false c.if-texts-t.false c.if-lines-l.false)
 
 pub settle_spec : {M : Type 1} → statement M
 settle_spec =

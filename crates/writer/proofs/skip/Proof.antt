@@ -24,10 +24,10 @@ abbrev start : tie.Then-n-place_at → tie.Start
 start c = c.before.before.before.before.before.before.before.before
 
 later : (c : tie.Then-n-place_at) → let a = (start c).args in a.n < place_for (entries_of (drop a.from.k a.entries.now))
-later c = omega (arith, c.if-n-place_at.true, c.before.place_at.ensures)
+later c = omega (arith, c.if-n-place_at.true, c.place_at.ensures)
 
 place-at-requires : tie.Need-place_at-requires
-place-at-requires c κs = c.before.before.before.before.before.before.requires.0.within
+place-at-requires c κs = c.requires.0.within
 
 returns : tie.Need-returns-then-n-place_at
 unfolding out
@@ -36,7 +36,7 @@ returns c =
     let a = s.args in
     let e = front-plain a.content.now a.entries.now a.text.now a.n a.from s.requires.0 s.requires.1.0.0 s.requires.1.0.1 (later c) in
     let k = back-plain a.content.now a.entries.now a.text.now a.n a.from s.requires.0 s.requires.1.0.0 s.requires.1.0.1 (later c) _ refl refl in
-    let o = out a.bytes-1.now a.numbers-1.now a.texts-1.now a.from in
+    let o = out a.bytes.now a.numbers.now a.texts.now a.from in
     (add-nil o ∙ ap (λ (is : List Item). add is o) (sym (ap entries_only e ∙ only_none (part a.from.at a.n a.content.now))), (k.0, (k.1, refl)))
 
 skip-entries-requires : tie.Need-skip_entries-requires

@@ -100,78 +100,65 @@ loop-holds c =
       wrote = add-nil _;
       rest = refl;
       behind = refl;
-      ready = c.before.before.before.before.before.before.before.requires.0;
+      ready = c.requires.0;
       here =
-          c.before.before.before.before.before.before.before.requires.1.0.0;
+          c.requires.1.0.0;
       next = c.place_at-p.ensures;
     }
 
 entry-at-requires : tie.Need-entry_at-e-requires invariant-loop decreases-loop
 entry-at-requires c κs =
-    entire _ _ _ _ _ _ _ _ _ _ _ _ c.before.loop-p.invariant c.before.before.before.before.before.before.before.before.before.requires.1.0.1
-    c.before.before.before.before.before.before.before.before.before.requires.1.1 c.loop-p-test.true
+    entire _ _ _ _ _ _ _ _ _ _ _ _ c.loop-p.invariant c.requires.1.0.1
+    c.requires.1.1 c.loop-p-test.true
 
 put-entry-requires : tie.Need-put_entry-c-requires invariant-loop decreases-loop
 put-entry-requires c κs =
-    let pre = c.before.before.before.before.before.before.before.before.before.before.before.before.requires in
-    asked _ _ _ _ _ _ _ _ _ _ _ _ c.before.before.before.before.loop-p.invariant pre.1.0.1 pre.1.1 c.before.before.before.loop-p-test.true _
-    c.before.before.entry_at-e.ensures (omega (arith, c.before.before.before.before.before.before.before.before.before.before.before.before.well_formed))
+    let pre = c.requires in
+    asked _ _ _ _ _ _ _ _ _ _ _ _ c.loop-p.invariant pre.1.0.1 pre.1.1 c.loop-p-test.true _
+    c.entry_at-e.ensures (omega (arith, c.well_formed))
 
 place-at-requires-2 : tie.Need-place_at-p-requires-in-loop-p invariant-loop decreases-loop
 place-at-requires-2 c κs =
-    let at-put-entry = c.before.before.before.before in
-    let at-loop-test = at-put-entry.before.before.before.before in
-    let at-loop = at-loop-test.before in
-    let start = at-loop.before.before.before.before.before.before.before.before in
-    let pre = start.requires in
+    let pre = c.requires in
     omega (
       arith,
-      entire _ _ _ _ _ _ _ _ _ _ _ _ at-loop.loop-p.invariant pre.1.0.1 pre.1.1
-          at-loop-test.loop-p-test.true,
-      at-put-entry.put_entry-c.ensures.0.1,
+      entire _ _ _ _ _ _ _ _ _ _ _ _ c.loop-p.invariant pre.1.0.1 pre.1.1
+          c.loop-p-test.true,
+      c.put_entry-c.ensures.0.1,
     )
 
 loop-less : tie.Need-loop-p-smaller invariant-loop decreases-loop
 loop-less c =
-    let at-put-entry = c.before.before.before.before.before in
-    let at-loop-test = at-put-entry.before.before.before.before in
-    let at-loop = at-loop-test.before in
-    let start = at-loop.before.before.before.before.before.before.before.before in
-    let pre = start.requires in
+    let pre = c.requires in
     omega (
       arith,
-      entire _ _ _ _ _ _ _ _ _ _ _ _ at-loop.loop-p.invariant pre.1.0.1 pre.1.1
-          at-loop-test.loop-p-test.true,
-      at-put-entry.put_entry-c.ensures.0.1,
+      entire _ _ _ _ _ _ _ _ _ _ _ _ c.loop-p.invariant pre.1.0.1 pre.1.1
+          c.loop-p-test.true,
+      c.put_entry-c.ensures.0.1,
     )
 
 loop-again : tie.Need-loop-p-preserved invariant-loop decreases-loop
 loop-again c =
-    let at-put-entry = c.before.before.before.before.before in
-    let at-entry-at = at-put-entry.before.before.before in
-    let at-loop-test = at-entry-at.before in
-    let at-loop = at-loop-test.before in
-    let start = at-loop.before.before.before.before.before.before.before.before in
-    let pre = start.requires in
-    let e = at-put-entry.put_entry-c.ensures in
-    turned _ _ _ _ _ _ _ _ _ _ _ _ at-loop.loop-p.invariant pre.1.0.1 pre.1.1
-    at-loop-test.loop-p-test.true _
-    at-entry-at.entry_at-e.ensures _ _ _ _ e.0 e.1.0 e.1.1 c.place_at-p-in-loop-p.ensures
+    let pre = c.requires in
+    let e = c.put_entry-c.ensures in
+    turned _ _ _ _ _ _ _ _ _ _ _ _ c.loop-p.invariant pre.1.0.1 pre.1.1
+    c.loop-p-test.true _
+    c.entry_at-e.ensures _ _ _ _ e.0 e.1.0 e.1.1 c.place_at-p-in-loop-p.ensures
 
 same_length : tie.Need-shape_of-numbers invariant-loop decreases-loop
 same_length c =
-    (now-long _ _ _ _ _ _ _ _ _ _ _ _ c.before.loop-p.invariant c.before.before.before.before.before.before.before.before.before.requires.1.0.1
-    c.before.before.before.before.before.before.before.before.before.requires.1.1).0
+    (now-long _ _ _ _ _ _ _ _ _ _ _ _ c.loop-p.invariant c.requires.1.0.1
+    c.requires.1.1).0
 
 same-length-2 : tie.Need-shape_of-texts invariant-loop decreases-loop
 same-length-2 c =
-    (now-long _ _ _ _ _ _ _ _ _ _ _ _ c.before.loop-p.invariant c.before.before.before.before.before.before.before.before.before.requires.1.0.1
-    c.before.before.before.before.before.before.before.before.before.requires.1.1).1
+    (now-long _ _ _ _ _ _ _ _ _ _ _ _ c.loop-p.invariant c.requires.1.0.1
+    c.requires.1.1).1
 
 returns : tie.Need-returns invariant-loop decreases-loop
 returns c =
-    let e = ended _ _ _ _ _ _ _ _ _ _ _ _ c.before.loop-p.invariant c.before.before.before.before.before.before.before.before.before.requires.1.0.1
-    c.before.before.before.before.before.before.before.before.before.requires.1.1 c.loop-p-test.false _ (refl, refl, refl, refl, refl) in
+    let e = ended _ _ _ _ _ _ _ _ _ _ _ _ c.loop-p.invariant c.requires.1.0.1
+    c.requires.1.1 c.loop-p-test.false _ (refl, refl, refl, refl, refl) in
     (e.0, (e.1, (e.2, refl)))
 
 pub skip_entries_spec : {M : Type 1} → statement M
