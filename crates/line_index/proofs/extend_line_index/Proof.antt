@@ -63,7 +63,7 @@ fine c = clean c.before.before.before.before.before.before
 
 -- the earlier part is within list and data, and its index is there
 within : (c : tie.Else-not-is_index) → (used (checked c) ≤ length (list (checked c))) × (earlier (checked c) ≤ length (bytes (checked c)))
-within c = (c.if1.false, c.if2.false)
+within c = (c.if-index-used.false, c.if-content-earlier.false)
 
 front : (c : tie.Else-not-is_index) → same (take (used (checked c)) (list (checked c))) (line_starts (take (earlier (checked c)) (bytes (checked c)))) ≡ true
 front c =
@@ -126,8 +126,8 @@ same_length c = search rules
 returns-4 : tie.Need-returns-then-not-is_index
 returns-4 c =
     let t = c.is_index in
-    calls.extend_wrong (content c.before.before.before.before.before.before.before.before) (list c.before.before.before.before.before.before.before.before) (earlier c.before.before.before.before.before.before.before.before) (used c.before.before.before.before.before.before.before.before) (clean c.before.before.before.before.before.before) c.if1.false
-    c.if2.false
+    calls.extend_wrong (content c.before.before.before.before.before.before.before.before) (list c.before.before.before.before.before.before.before.before) (earlier c.before.before.before.before.before.before.before.before) (used c.before.before.before.before.before.before.before.before) (clean c.before.before.before.before.before.before) c.if-index-used.false
+    c.if-content-earlier.false
     (calls.fronts_same (bytes c.before.before.before.before.before.before.before.before) (list c.before.before.before.before.before.before.before.before) (earlier c.before.before.before.before.before.before.before.before) (used c.before.before.before.before.before.before.before.before) t.result t.ensures ∙ c.if-not-is_index.true)
 
 sub-starts-fit : tie.Need-overflow_sub-index

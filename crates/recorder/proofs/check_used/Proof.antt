@@ -38,17 +38,17 @@ returns-3 c =
 slice-aggregate-check : tie.Need-slice_bounds-check-end
 slice-aggregate-check c =
     let a = c.args in
-    sym (length-take-le a.d a.content.now c.if1.false)
+    sym (length-take-le a.d a.content.now c.if-content-d.false)
 
 slice-aggregate-check-2 : tie.Need-slice_bounds-check-end-2
 slice-aggregate-check-2 c =
     let a = c.args in
-    sym (length-take-le a.e a.entries.now c.if2.false)
+    sym (length-take-le a.e a.entries.now c.if-entries-e.false)
 
 slice-aggregate-check-3 : tie.Need-slice_bounds-check-end-3
 slice-aggregate-check-3 c =
     let a = c.args in
-    sym (length-take-le a.n a.text.now c.if3.false)
+    sym (length-take-le a.n a.text.now c.if-text-n.false)
 
 check-requires : tie.Need-check-requires
 check-requires c κs = search rules
@@ -58,8 +58,8 @@ returns-4 c =
     let a = c.args in
     let b = lent_of a.content.now a.entries.now a.text.now in
     let k = c.check in
-    let z = no_long b a.d a.e a.n c.if1.false c.if2.false
-    c.if3.false in
+    let z = no_long b a.d a.e a.n c.if-content-d.false c.if-entries-e.false
+    c.if-text-n.false in
     let r = recording_fault (used_of b a.d a.e a.n) in
     k.ensures.0 ∙ sym (first_on (lengths_fault b a.d a.e a.n) (r ∷ []) z ∙ first_one r)
 

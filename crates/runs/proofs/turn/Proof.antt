@@ -73,7 +73,7 @@ same-length-7 c = search rules
 returns : tie.Need-returns-then-s
 returns c =
     let s = start c.before.before.before.before.before.before.before.before.before.before.before.before.before.before.before.before.before in
-    to_other (job s) s.args.s (first s) (other s) _ s.args.lines.now _ c.make_call.result c.if1.true c.make_call.ensures
+    to_other (job s) s.args.s (first s) (other s) _ s.args.lines.now _ c.make_call.result c.if-s.true c.make_call.ensures
 
 slice-reshare-prefix-make-call-4 : tie.Need-slice_bounds-make_call-end-2
 slice-reshare-prefix-make-call-4 c = search rules
@@ -120,7 +120,7 @@ same-length-14 c = search rules
 returns-2 : tie.Need-returns
 returns-2 c =
     let s = start c.before.before.before.before.before.before.before.before.before.before.before.before.before.before.before.before.before in
-    to_first (job s) s.args.s (other s) (first s) _ s.args.lines.now _ c.make_call-2.result c.if1.false c.make_call-2.ensures
+    to_first (job s) s.args.s (other s) (first s) _ s.args.lines.now _ c.make_call-2.result c.if-s.false c.make_call-2.ensures
 
 pub turn_spec : {M : Type 1} → statement M
 turn_spec =

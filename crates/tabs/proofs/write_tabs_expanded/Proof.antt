@@ -137,8 +137,8 @@ put-expanded-requires c κs =
     let k = checked (tested c.before.before.before.before.before.before.before) in
     let s = start k in
     let g = good (tested c.before.before.before.before.before.before.before) in
-    let room = has_room (call s) (ds s) (ns s) (ts s) (lent s) (fine k).passed (good (tested c.before.before.before.before.before.before.before)).2 _ _ 0 refl (measured c.before.before.before.before.before.before.before).own_size-shared.ensures refl c.settle-expanded.result c.settle-expanded.ensures
-    c.enum_told.given.1 in
+    let room = has_room (call s) (ds s) (ns s) (ts s) (lent s) (fine k).passed (good (tested c.before.before.before.before.before.before.before)).2 _ _ 0 refl (measured c.before.before.before.before.before.before.before).own_size-shared.ensures refl c.settle_expanded-verdict.result c.settle_expanded-verdict.ensures
+    c.in-Room.is in
     ((refl, refl, (fine k).whole), ((g.0, g.1), room))
 
 same_length : tie.Need-shape_of-bytes
@@ -156,8 +156,8 @@ returns-5 c =
     let w = c.put_expanded-c in
     let k = checked (tested c.before.before.before.before.before.before.before.before.before.before.before.before.before.before) in
     let s = start k in
-    written (call s) (ds s) (ns s) (ts s) (lent s) (fine k).passed (good (tested c.before.before.before.before.before.before.before.before.before.before.before.before.before.before)).2 _ _ 0 refl (measured c.before.before.before.before.before.before.before.before.before.before.before.before.before.before).own_size-shared.ensures refl c.settle-expanded.result c.settle-expanded.ensures
-    c.enum_told.given.1
+    written (call s) (ds s) (ns s) (ts s) (lent s) (fine k).passed (good (tested c.before.before.before.before.before.before.before.before.before.before.before.before.before.before)).2 _ _ 0 refl (measured c.before.before.before.before.before.before.before.before.before.before.before.before.before.before).own_size-shared.ensures refl c.settle_expanded-verdict.result c.settle_expanded-verdict.ensures
+    c.in-Room.is
     0 _ _ _ _ w.result refl w.ensures refl
 
 pub write_tabs_expanded_spec : {M : Type 1} → statement M
