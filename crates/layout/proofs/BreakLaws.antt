@@ -66,6 +66,7 @@ heads-cons : (w : ℕ) (c : Character) (cs : List Character) (gs : List (List Ch
     → AllOf (λ (c : Character). is_nil c.text ≡ false) (c ∷ cs) → (t : Bool)
     → HeadsOk w t (onto_first c gs)
 heads-cons w c cs (g ∷ gs) d h t = (heads_apart w d h.1 (wide c + width_of g) refl, λ e. is_nil-append c.text (bytes_of g) h.0)
+heads-cons w c cs [] d h t = elim d [ ]
 
 heads_ok : (w : ℕ) (cs : List Character) → Valid cs → HeadsOk w (is_nil (bytes_of cs)) (groups (in_head w) wide cs)
 heads_ok w [] h = (tt, λ e. absurd (false≢true (sym e)))
@@ -94,6 +95,7 @@ first_heads n h (k ∷ ks) rest e = e
 chain_broken : (w n : ℕ) (t : Bool) (hs : List (List Character)) (rest : List Word) → HeadsOk w t hs → Chain (Apart w) rest → FirstOk rest → GapOk n rest
     → Chain (Apart w) (heads_as_words n hs ++ rest) × (t ≡ false → FirstOk (heads_as_words n hs ++ rest))
 chain_broken w n t (h ∷ hs) rest o c f g = (chain_heads w n h hs rest o.0 c f g, λ e. first_heads n h hs rest (o.1 e))
+chain_broken w n t [] rest o c f g = elim o [ ]
 
 gap_first : (v : Word) (vs : List Word) (rest : List Word) → ChainFrom Spaced v vs → (vs ≡ [] → rest ≡ []) → GapOk v.space rest
 gap_first v [] rest c e = rw (e refl) tt
@@ -191,6 +193,7 @@ fit_chain w (new {a = a} e d) u c h =
 
 fit_cons : (w : ℕ) (v : Word) (vs : List Word) (gs : List (List Word)) → Grouped (fits_line w) full_width (full_width v) vs gs → ChainFrom (Apart w) v vs → AllOf (Chain Spaced) (onto_first v gs)
 fit_cons w v vs (g ∷ gs) d c = fit_chain w d v c (omega arith)
+fit_cons w v vs [] d c = elim d [ ]
 
 pub fit_spaced : (w : ℕ) (vs : List Word) → Chain (Apart w) vs → AllOf (Chain Spaced) (first_fit_of w vs)
 unfolding first_fit_of

@@ -32,9 +32,11 @@ module _ {A : Type 0} (joins : ℕ → A → Bool) (size : A → ℕ) where
 
   onto_join : (run : ℕ) (a : A) (r : List A) (gs : List (List A)) → joins run a ≡ true → Grouped (run + size a) r gs → Grouped run (a ∷ r) (onto_first a gs)
   onto_join run a r (g ∷ gs) e d = join e d
+  onto_join run a r [] e d = elim d [ ]
 
   onto_new : (run : ℕ) (a : A) (r : List A) (gs : List (List A)) → joins run a ≡ false → Grouped (size a) r gs → Grouped run (a ∷ r) ([] ∷ onto_first a gs)
   onto_new run a r (g ∷ gs) e d = new e d
+  onto_new run a r [] e d = elim d [ ]
 
   pub grouped : (run : ℕ) (as' : List A) → Grouped run as' (groups_from joins size run as')
   grouped run [] = end
@@ -67,6 +69,7 @@ module _ {A : Type 0} (joins : ℕ → A → Bool) (size : A → ℕ) where
   -- the groups of a list that has a first member
   pub groups-cons : (a : A) (r : List A) (gs : List (List A)) → Grouped (size a) r gs → AllOf Single (onto_first a gs)
   groups-cons a r (g ∷ gs) d = (ap (λ (l : List (List A)). onto_first a l) (grouped_first d), grouped_rest d)
+  groups-cons a r [] d = elim d [ ]
 
   pub groups-single : (as' : List A) → AllOf Single (groups joins size as')
   groups-single [] = (refl, tt)
@@ -109,6 +112,7 @@ module _ {A : Type 0} (joins : ℕ → A → Bool) (size : A → ℕ) where
 
   joined-cons : (a : A) (r : List A) (gs : List (List A)) → Grouped (size a) r gs → AllOf JoinedAll (onto_first a gs)
   joined-cons a r (g ∷ gs) d = (joined_first d, joined-rest d)
+  joined-cons a r [] d = elim d [ ]
 
   pub groups-joined : (as' : List A) → AllOf JoinedAll (groups joins size as')
   groups-joined [] = (tt, tt)

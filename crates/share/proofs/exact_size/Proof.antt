@@ -97,10 +97,10 @@ more-labels-requires-2 c κs = search rules
 
 returns-4 : tie.Need-returns
 returns-4 c =
-    let m = measured c.before.before.before.before.before.before.before.before.before in
+    let m = measured c.before.before.before.before.before.before.before.before in
     let a = (start m).args in
     size_both a.text.now (entries_of a.entries.now) a.own.now (entries_of a.second.now) a.n a.gone _ _ (ap (λ (k : ℕ). k - a.gone) m.raw_size.ensures.0) m.raw_size-2.ensures.0 _ c.more_labels-one.ensures.0 c.if-n-eq0.false c.if-one-gt65536.false
-    c.more_labels-one.new.1.1.1.1.1.0 c.more_labels-one.result.end c.more_labels-one.ensures.1.1 _ c.more_labels.ensures.0
+    c.more_labels-one.new.firsts c.more_labels-one.result.end c.more_labels-one.ensures.1.1 _ c.more_labels.ensures.0
 
 pub exact_size_spec : {M : Type 1} → statement M
 exact_size_spec =
