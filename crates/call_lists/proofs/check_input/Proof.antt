@@ -22,7 +22,7 @@ returns-2 c =
 returns-3 : tie.Need-returns-then-calls-ne0
 unfolding input_fault settled_fault
 returns-3 c =
-    rw (c.if-long.false, not_false c.args.same c.if-not-same.false, ne_eqb _ _ c.if-calls-ne0.true)
+    rw (c.if-long.false, c.if-not-same.false, ne_eqb _ _ c.if-calls-ne0.true)
 
 all-fit-requires : tie.Need-all_fit-requires
 all-fit-requires c κs = search rules
@@ -33,7 +33,7 @@ returns-4 c =
     let a = c.all_fit in
     rw (
       c.if-long.false,
-      not_false c.args.same c.if-not-same.false,
+      c.if-not-same.false,
       eq-eqb _ _ c.if-calls-ne0.false,
       sym a.ensures,
       c.if-not-all_fit.true,
@@ -48,10 +48,10 @@ returns-5 c =
     let a = c.all_fit in
     rw (
       c.if-long.false,
-      not_false c.args.same c.if-not-same.false,
+      c.if-not-same.false,
       eq-eqb _ _ c.if-calls-ne0.false,
       sym a.ensures,
-      not_false a.result c.if-not-all_fit.false,
+      c.if-not-all_fit.false,
       lt-ltb _ _ c.if-n-calls.true,
     )
 
@@ -61,10 +61,10 @@ returns-6 c =
     let a = c.all_fit in
     rw (
       c.if-long.false,
-      not_false c.args.same c.if-not-same.false,
+      c.if-not-same.false,
       eq-eqb _ _ c.if-calls-ne0.false,
       sym a.ensures,
-      not_false a.result c.if-not-all_fit.false,
+      c.if-not-all_fit.false,
       le-ltb _ _ c.if-n-calls.false,
     )
 

@@ -31,7 +31,7 @@ returns c =
 put-requires-2 : tie.Need-put-requires
 put-requires-2 c κs =
     let a = c.args in
-    let z = not_false a.p.cut c.if-not-p.false in
+    let z = c.if-not-p.false in
     let k = c.put-end in
     let f = second_fits a.p a.content.now a.ellipsis.now a.from a.to a.at a.bytes.now c.requires.0.2 c.requires.0.1 z c.requires.0.3 _ c.requires.1.1 in
     (omega arith, c.requires.0.3, omega (arith, f, k.ensures.0, k.auto.0))
@@ -42,7 +42,7 @@ same-length-2 c = search rules
 returns-2 : tie.Need-returns
 returns-2 c =
     let a = c.args in
-    let z = not_false a.p.cut c.if-not-p.false in
+    let z = c.if-not-p.false in
     let k = c.put-end in
     let l = c.put in
     put_cut a.p a.content.now a.ellipsis.now a.from a.to a.at a.bytes.now c.requires.0.2 c.requires.0.1 z c.requires.0.3 _ _ _ _ (omega (arith, c.requires.1.1)) k.ensures.0

@@ -45,7 +45,7 @@ returns-4 c = (
     le-ltb _ _ c.if-ellipsis-gt-LIMIT.false,
     ←
         c.long_well_formed.ensures,
-    not_false c.long_well_formed.result c.if-not-long_well_formed.false,
+    c.if-not-long_well_formed.false,
     ←
         c.long_well_formed-2.ensures,
     c.if-not-long_well_formed-2.true,
@@ -61,10 +61,10 @@ returns-5 c = (
     le-ltb _ _ c.if-ellipsis-gt-LIMIT.false,
     ←
         c.long_well_formed.ensures,
-    not_false c.long_well_formed.result c.if-not-long_well_formed.false,
+    c.if-not-long_well_formed.false,
     ←
         c.long_well_formed-2.ensures,
-    not_false c.long_well_formed-2.result c.if-not-long_well_formed-2.false,
+    c.if-not-long_well_formed-2.false,
   ),
   λ z.
       (c.if-text-gt-LIMIT.false, c.if-ellipsis-gt-LIMIT.false),

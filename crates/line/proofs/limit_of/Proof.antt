@@ -1,7 +1,7 @@
 -- The two tests are those of `limit_of_line`.
 use Prim.Native.Nat.{◌-◌}
 use native.Mathlib.Omega.{arith}
-use borrow.Author.Tests.{lt-ltb, not-true, not-false}
+use borrow.Author.Tests.{lt-ltb, not-true, not_false}
 use Rattle.line.specs.Rest.{limit_of_line}
 use Rattle.line.proofs.LineLaws as laws
 use Rattle.line.proofs.limit_of.Statement.{statement}
@@ -15,11 +15,11 @@ returns c = rw c.if-not-break_words.true
 
 returns-2 : tie.Need-returns-then-width-eq0
 unfolding limit_of_line
-returns-2 c = rw (not-false c.args.break_words c.if-not-break_words.false, c.if-width-eq0.true)
+returns-2 c = rw (c.if-not-break_words.false, c.if-width-eq0.true)
 
 returns-3 : tie.Need-returns
 unfolding limit_of_line
-returns-3 c = rw (not-false c.args.break_words c.if-not-break_words.false, lt-ltb 0 c.args.width (omega arith))
+returns-3 c = rw (c.if-not-break_words.false, lt-ltb 0 c.args.width (omega arith))
 
 pub limit_of_spec : {M : Type 1} → statement M
 limit_of_spec = tie.close (tie.spec returns returns-2 returns-3)

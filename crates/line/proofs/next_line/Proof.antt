@@ -7,7 +7,7 @@ use mathlib.Core.Path.{◌≡◌, sym, ap, ◌∙◌}
 use mathlib.Core.List.{List}
 use lib.ListN.{length, length-drop}
 use borrow.Author.Rules.{rules}
-use borrow.Author.Tests.{not-true, not-false}
+use borrow.Author.Tests.{not-true, not_false}
 use borrow.Author.Rules.{part_to_end}
 use Rattle.chars.specs.Cut.{truncate_end_pos_of, truncate_end_width}
 use Rattle.line.specs.Rest.{word_text, limit_of_line, head_len, head_width, unreached}
@@ -78,7 +78,7 @@ abbrev limit : Underway → ℕ
 limit c = c.before.limit-of.result
 
 abbrev breaks : Underway → ℕ
-breaks c = limit_of_line (start c).args.width (start c).args.break_words
+breaks c = limit_of_line (start c).args.width (start c).args.break-words
 
 abbrev room : Searching → ℕ
 room c = c.before.before.room_of.result
@@ -88,7 +88,7 @@ left c = c.words.word.now
 
 -- the promise of the call that starts there
 abbrev Promised : Started → Next → Type 0
-Promised c r = laws.Promise c.args.«data».now c.args.at c.args.width c.args.break_words r
+Promised c r = laws.Promise c.args.«data».now c.args.at c.args.width c.args.break-words r
 
 -- ── what is known there
 short : (c : Underway) → 2 * length (start c).args.«data».now ≤ unreached
@@ -101,7 +101,7 @@ narrow c = omega arith
 room_within : (c : tie.After-room_of-room invariant-loop decreases-loop invariant-words decreases-words) → c.room_of-room.result ≤ limit c.before.before
 room_within c =
     let a = (start c.before.before).args in
-    rw c.room_of-room.ensures (room_le _ _ _ _ (rw c.limit_of-limit.ensures (limit_ge a.width a.break_words (narrow c.before.before))))
+    rw c.room_of-room.ensures (room_le _ _ _ _ (rw c.limit_of-limit.ensures (limit_ge a.width a.break-words (narrow c.before.before))))
 
 -- the visible bytes at the front are part of the head, or as many of them as have room
 visible : (c : tie.After-visible_len-i invariant-loop decreases-loop invariant-words decreases-words)
@@ -200,7 +200,7 @@ limit-of-requires c κs = search rules
 
 words-holds : tie.Need-words-init invariant-loop decreases-loop invariant-words decreases-words
 words-holds c =
-    loops.words_start _ _ _ _ c.requires.1 (sym c.in_line.ensures ∙ not-false c.in_line.result c.if-not-in_line.false)
+    loops.words_start _ _ _ _ c.requires.1 (sym c.in_line.ensures ∙ c.if-not-in_line.false)
 
 room-of-requires : tie.Need-room_of-room-requires invariant-loop decreases-loop invariant-words decreases-words
 room-of-requires c κs = search rules
@@ -289,7 +289,7 @@ words-again c =
     let l = line_of (found c) in
     let h = headed (found c) in
     let s = c.spaces_at-gap in
-    let fits = sym c.fits2.ensures ∙ not-false c.fits2.result c.if-not-fits.false in
+    let fits = sym c.fits2.ensures ∙ c.if-not-fits.false in
     loops.words_next _ _ _ _ _ _ _ _ _ l.words.invariant (short l) (tested c) _ _ h.0 h.1 _ _ (narrow l) s.ensures.0 s.ensures.1 fits c.goes_on-going.ensures
 
 sub-here : tie.Need-overflow_sub-here invariant-loop decreases-loop invariant-words decreases-words

@@ -43,7 +43,7 @@ starts k = length (starts_from 0 (drop 0 (start k).args.content.now))
 fits : (c : tie.Else-not-starts_fit) → length (line_starts (start c.before.before.before.before).args.content.now) ≤ length (start c.before.before.before.before).args.index.now
 fits c =
     let f = c.starts_fit in
-    let l = leb-true (starts c.before.before.before.before) (length (start c.before.before.before.before).args.index.now - 1) (sym f.ensures ∙ not_false f.result c.if-not-starts_fit.false) in
+    let l = leb-true (starts c.before.before.before.before) (length (start c.before.before.before.before).args.index.now - 1) (sym f.ensures ∙ c.if-not-starts_fit.false) in
     omega (arith, calls.starts_one (start c.before.before.before.before).args.content.now, l, c.if-index-eq0.false)
 
 check-requires : tie.Need-check-checked-requires

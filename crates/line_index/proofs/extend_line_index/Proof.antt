@@ -69,14 +69,14 @@ front : (c : tie.Else-not-is_index) → same (take (used (checked c)) (list (che
 front c =
     let k = checked c in
     let t = c.is_index in
-    calls.fronts_same (bytes k) (list k) (earlier k) (used k) t.result t.ensures ∙ not_false t.result c.if-not-is_index.false
+    calls.fronts_same (bytes k) (list k) (earlier k) (used k) t.result t.ensures ∙ c.if-not-is_index.false
 
 -- what is new has room behind it
 fits : (c : tie.Else-not-starts_fit) → new (checked c.before.before) ≤ length (list (checked c.before.before)) - used (checked c.before.before)
 fits c =
     let k = checked c.before.before in
     let f = c.starts_fit in
-    leb-true (new k) (length (list k) - used k) (sym f.ensures ∙ not_false f.result c.if-not-starts_fit.false)
+    leb-true (new k) (length (list k) - used k) (sym f.ensures ∙ c.if-not-starts_fit.false)
 
 check-requires : tie.Need-check-checked-requires
 check-requires c κs = search rules

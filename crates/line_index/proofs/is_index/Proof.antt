@@ -46,7 +46,7 @@ returns-4 c =
     let a = c.args in
     let r = c.stand_behind in
     ap (λ (n : ℕ). eqb n (length a.index.now - 1)) c.count_newlines.ensures.0
-    ∙ ask_count a.s.now a.index.now (omega arith) c.if-index-ne0.false (sym r.ensures ∙ not_false r.result c.if-not-stand_behind.false)
+    ∙ ask_count a.s.now a.index.now (omega arith) c.if-index-ne0.false (sym r.ensures ∙ c.if-not-stand_behind.false)
 
 pub is_index_spec : {M : Type 1} → statement M
 is_index_spec =

@@ -33,7 +33,7 @@ clean c = let k = c.check-checked in sym k.ensures.0 ∙ fine_zero k.result c.in
 
 -- the list is the index
 index : (c : tie.Else-not-is_index) → same (start c.before.before.before).args.index.now (line_starts (start c.before.before.before).args.content.now) ≡ true
-index c = let t = c.is_index in sym t.ensures ∙ not_false t.result c.if-not-is_index.false
+index c = let t = c.is_index in sym t.ensures ∙ c.if-not-is_index.false
 
 check-requires : tie.Need-check-checked-requires
 check-requires c κs = search rules

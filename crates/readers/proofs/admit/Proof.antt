@@ -74,14 +74,14 @@ returns-4 : tie.Need-returns-in-Unbalanced
 returns-4 c =
     let w = c.is_well_formed in
     content_unbalanced (start c.before.before.before.before.before.before).args.label.now (content c.before.before.before.before.before.before) (clean c.before.before.before.before.before) c.if-label-eq0.false
-    (sym w.ensures ∙ not_false w.result c.if-not-is_well_formed.false) c.scan-scanned.result c.scan-scanned.ensures.0 c.in-Unbalanced.is
+    (sym w.ensures ∙ c.if-not-is_well_formed.false) c.scan-scanned.result c.scan-scanned.ensures.0 c.in-Unbalanced.is
 
 returns-5 : tie.Need-returns-in-Fine-scanned
 returns-5 c =
     let k = c.check-checked in
     let w = c.is_well_formed in
     all_fine (start c.before.before.before.before.before.before).args.label.now (content c.before.before.before.before.before.before) (clean c.before.before.before.before.before) c.if-label-eq0.false
-    (sym w.ensures ∙ not_false w.result c.if-not-is_well_formed.false) c.scan-scanned.result c.scan-scanned.ensures.0
+    (sym w.ensures ∙ c.if-not-is_well_formed.false) c.scan-scanned.result c.scan-scanned.ensures.0
     c.in-Fine-scanned.k c.in-Fine-scanned.is c.scan-scanned.ensures.1 c.in-Fine.n (fine_count k.result c.in-Fine.n (length (text_of (items (content c.before.before.before.before.before.before)))) c.in-Fine.is k.ensures.1.0)
 
 pub admit_spec : {M : Type 1} → statement M

@@ -99,7 +99,7 @@ abbrev well : tie.Else-not-is_well_formed → tie.In-Fine
 well c = c.before.before
 
 good : (c : tie.Else-not-is_well_formed) → fault (call (well c)) ≡ 0
-good c = let w = c.is_well_formed in good_label w.result (label (call (well c))) w.ensures (not_false w.result c.if-not-is_well_formed.false)
+good c = let w = c.is_well_formed in good_label w.result (label (call (well c))) w.ensures (c.if-not-is_well_formed.false)
 
 abbrev fine : tie.After-place_label-place → tie.Else-not-is_well_formed
 fine c = c.before.before.before.before.before

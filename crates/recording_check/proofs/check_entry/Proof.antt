@@ -111,7 +111,7 @@ returns-7 c =
           c.if-e-at.false
           c.if-content-e.false c.if-text-end.false
           c.if-e-ne0.false c.is_well_formed.result c.is_well_formed.ensures
-          (not_false c.is_well_formed.result c.if-not-is_well_formed.false)),
+          (c.if-not-is_well_formed.false)),
       refl,
     )
 

@@ -59,7 +59,7 @@ loop-again c =
     let n = length c.args.calls.now / 8 in (
       search rules,
       sym (one_good c.args.p c.args.q n l.k c.args.calls.now c.loop-k-test.true q.result w.result q.ensures w.ensures
-          (not_false w.result c.if-not-fits.false)) ∙ l.invariant.1,
+          (c.if-not-fits.false)) ∙ l.invariant.1,
     )
 
 returns-2 : tie.Need-returns invariant-loop decreases-loop

@@ -30,7 +30,7 @@ unfolding fits_in
 returns-3 c =
     let a = c.range_fits in
     let b = c.range_fits-2 in
-    rw (le-leb _ _ c.if-x-gt-LAST_KIND.false, sym a.ensures, not_false a.result c.if-not-range_fits.false, sym b.ensures, c.if-not-range_fits-2.true)
+    rw (le-leb _ _ c.if-x-gt-LAST_KIND.false, sym a.ensures, c.if-not-range_fits.false, sym b.ensures, c.if-not-range_fits-2.true)
 
 range-fits-requires-3 : tie.Need-range_fits-requires-3
 range-fits-requires-3 c κs = search rules
@@ -43,9 +43,9 @@ returns-4 c =
     rw (
       le-leb _ _ c.if-x-gt-LAST_KIND.false,
       sym a.ensures,
-      not_false a.result c.if-not-range_fits.false,
+      c.if-not-range_fits.false,
       sym b.ensures,
-      not_false b.result c.if-not-range_fits-2.false,
+      c.if-not-range_fits-2.false,
       c.range_fits-3.ensures,
     )
 

@@ -44,7 +44,7 @@ loop-again c = let s = c.args.s.now in (
   omega (arith, c.loop-i-test.true),
   sym
       (hex_next s c.loop-i.i c.loop-i-test.true c.is_hex.result c.is_hex.ensures
-      ∙ simp (not_false c.is_hex.result c.if-not-is_hex.false)) ∙ c.loop-i.invariant.1,
+      ∙ simp (c.if-not-is_hex.false)) ∙ c.loop-i.invariant.1,
 )
 
 returns-2 : tie.Need-returns invariant-loop decreases-loop

@@ -23,7 +23,7 @@ digits-requires c κs = search rules
 
 returns-2 : tie.Need-returns
 unfolding decimal_or is_decimal
-returns-2 c = (simp (← c.no_leading_zero.ensures, not_false c.no_leading_zero.result c.if-not-no_leading_zero.false) c.digits.ensures.0, c.digits.ensures.1)
+returns-2 c = (simp (← c.no_leading_zero.ensures, c.if-not-no_leading_zero.false) c.digits.ensures.0, c.digits.ensures.1)
 
 pub decimal_in_spec : {M : Type 1} → statement M
 decimal_in_spec = tie.close (tie.spec no-leading-zero-requires returns digits-requires returns-2)

@@ -34,7 +34,7 @@ abbrev cell : tie.After-plan_cell-p → Bytes
 cell c = c.args.cell.now
 
 clean : (c : tie.After-plan_cell-p) → is_clean_text (cell c) ≡ true
-clean c = sym c.is_clean.ensures ∙ not_false c.is_clean.result c.if-not-is_clean.false
+clean c = sym c.is_clean.ensures ∙ c.if-not-is_clean.false
 
 formed : (c : tie.After-plan_cell-p) → well_formed_of (cell c) ≡ true
 formed c = clean_formed (cell c) (clean_text (cell c) (clean c))

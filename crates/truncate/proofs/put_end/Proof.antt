@@ -9,7 +9,7 @@ use lib.ListN.{length, take}
 use lib.Seq.{length-take-le}
 use borrow.Author.Tests.{not-true, not_false}
 use Rattle.buffer.specs.Held.{HoldsUpTo}
-use Rattle.buffer.specs.LendsOn.{LendsOn, own_arrays, acts, touches, loops, calls}
+use Rattle.buffer.specs.LendsOn.{LendsOn, own_arrays, acts, touches, loops, calls, called}
 use Rattle.buffer.proofs.HeldLaws.{held_self}
 use Rattle.recording.specs.Recording.{Recording, recording, Item, items}
 use Rattle.recording.specs.Edit.{edit}
@@ -92,7 +92,7 @@ unfolding out
 put-up-to-requires c κs =
     let a = c.args in
     let p = c.requires in
-    let cut = not_false a.p.cut c.if-not-p.false in
+    let cut = c.if-not-p.false in
     let e = end_cut a.p (content c.before.before.before.before.before.before.before.before.before.before.before.before.before.before) (ellipsis c.before.before.before.before.before.before.before.before.before.before.before.before.before.before) cut in
     (p.0, (p.1.1.0.0, fits_first _ _ _ _ e p.1.1.1))
 
@@ -101,7 +101,7 @@ unfolding out
 put-end-ellipsis-requires c κs =
     let a = c.args in
     let p = c.requires in
-    let cut = not_false a.p.cut c.if-not-p.false in
+    let cut = c.if-not-p.false in
     let e = end_cut a.p (content c.before.before.before.before.before.before.before.before.before.before.before.before.before.before.before.before.before.before.before.before.before.before.before.before) (ellipsis c.before.before.before.before.before.before.before.before.before.before.before.before.before.before.before.before.before.before.before.before.before.before.before.before) cut in
     let w = c.put_up_to-c.ensures.0 in
     let f = first c.before.before.before.before.before.before.before.before.before.before.before.before.before.before.before.before.before.before.before.before.before.before.before.before _ cut w in
@@ -121,7 +121,7 @@ unfolding out
 returns-2 c =
     let a = c.args in
     let p = c.requires in
-    let e = end_cut a.p (content c.before.before.before.before.before.before.before.before.before.before.before.before.before.before.before.before.before.before.before.before.before.before.before.before.before.before.before.before.before.before.before) (ellipsis c.before.before.before.before.before.before.before.before.before.before.before.before.before.before.before.before.before.before.before.before.before.before.before.before.before.before.before.before.before.before.before) (not_false a.p.cut c.if-not-p.false) in
+    let e = end_cut a.p (content c.before.before.before.before.before.before.before.before.before.before.before.before.before.before.before.before.before.before.before.before.before.before.before.before.before.before.before.before.before.before.before) (ellipsis c.before.before.before.before.before.before.before.before.before.before.before.before.before.before.before.before.before.before.before.before.before.before.before.before.before.before.before.before.before.before.before) (c.if-not-p.false) in
     let w = then _ _ _ _ _ _ e p.1.1.1 c.put_up_to-c.ensures.0 c.put_end_ellipsis.ensures.0 in
     (w, held c.before.before.before.before.before.before.before.before.before.before.before.before.before.before.before.before.before.before.before.before.before.before.before.before.before.before.before.before.before.before.before _ w)
 
@@ -143,5 +143,5 @@ put_end_spec =
 
 -- each run goes by one call, and nothing is done between them
 pub put-end-lends-on : LendsOn code.function [] 0 ("writer::put_recording" ∷ "truncate::put_up_to" ∷ "truncate::put_end_ellipsis" ∷ [])
-unfolding own_arrays acts touches loops calls
+unfolding own_arrays acts touches loops calls called
 put-end-lends-on = refl

@@ -5,7 +5,7 @@ use mathlib.Core.List.{[], ◌∷◌}
 use lib.ListN.{take}
 use lib.Seq.{length-take-le}
 use Rattle.buffer.specs.Held.{RunHeld}
-use Rattle.buffer.specs.LendsOn.{LendsOn, own_arrays, acts, touches, loops, calls}
+use Rattle.buffer.specs.LendsOn.{LendsOn, own_arrays, acts, touches, loops, calls, called}
 use Rattle.buffer.proofs.HeldLaws.{next_second}
 use Rattle.writer.specs.Write.{out}
 use Rattle.truncate.specs.Planned.{finished_end}
@@ -49,5 +49,5 @@ put_end_ellipsis_spec = tie.close (tie.spec put-up-to-requires same_length same-
 
 -- the run goes by one call
 pub put-end-ellipsis-lends-on : LendsOn code.function [] 0 ("truncate::put_up_to" ∷ [])
-unfolding own_arrays acts touches loops calls
+unfolding own_arrays acts touches loops calls called
 put-end-ellipsis-lends-on = refl

@@ -8,7 +8,7 @@ use mathlib.Core.Bool.{true}
 use lib.ListN.{length, drop, length-drop}
 use borrow.Author.Tests.{not-true, not_false}
 use Rattle.buffer.specs.Held.{HoldsUpTo}
-use Rattle.buffer.specs.LendsOn.{LendsOn, own_arrays, acts, touches, loops, calls}
+use Rattle.buffer.specs.LendsOn.{LendsOn, own_arrays, acts, touches, loops, calls, called}
 use Rattle.buffer.proofs.HeldLaws.{held_self}
 use Rattle.recording.specs.Recording.{Recording, recording, Item, items}
 use Rattle.recording.specs.Edit.{edit}
@@ -90,7 +90,7 @@ unfolding out
 put-from-requires-2 c κs =
     let a = c.args in
     let p = c.requires in
-    let cut = not_false a.p.cut c.if-not-p.false in
+    let cut = c.if-not-p.false in
     let e = start_cut a.p (content c.before.before.before.before.before.before.before.before.before.before.before.before.before.before) (ellipsis c.before.before.before.before.before.before.before.before.before.before.before.before.before.before) cut in
     (p.1.0, (p.1.1.0.1, fits_first _ _ _ _ e p.1.1.1))
 
@@ -99,7 +99,7 @@ unfolding out
 put-start-content-requires c κs =
     let a = c.args in
     let p = c.requires in
-    let cut = not_false a.p.cut c.if-not-p.false in
+    let cut = c.if-not-p.false in
     let e = start_cut a.p (content c.before.before.before.before.before.before.before.before.before.before.before.before.before.before.before.before.before.before.before.before.before.before.before.before) (ellipsis c.before.before.before.before.before.before.before.before.before.before.before.before.before.before.before.before.before.before.before.before.before.before.before.before) cut in
     let w = c.put_from-c.ensures.0 in
     let f = first c.before.before.before.before.before.before.before.before.before.before.before.before.before.before.before.before.before.before.before.before.before.before.before.before _ cut w in
@@ -119,7 +119,7 @@ unfolding out
 returns-2 c =
     let a = c.args in
     let p = c.requires in
-    let e = start_cut a.p (content c.before.before.before.before.before.before.before.before.before.before.before.before.before.before.before.before.before.before.before.before.before.before.before.before.before.before.before.before.before.before.before) (ellipsis c.before.before.before.before.before.before.before.before.before.before.before.before.before.before.before.before.before.before.before.before.before.before.before.before.before.before.before.before.before.before.before) (not_false a.p.cut c.if-not-p.false) in
+    let e = start_cut a.p (content c.before.before.before.before.before.before.before.before.before.before.before.before.before.before.before.before.before.before.before.before.before.before.before.before.before.before.before.before.before.before.before) (ellipsis c.before.before.before.before.before.before.before.before.before.before.before.before.before.before.before.before.before.before.before.before.before.before.before.before.before.before.before.before.before.before.before) (c.if-not-p.false) in
     let w = then _ _ _ _ _ _ e p.1.1.1 c.put_from-c.ensures.0 c.put_start_content.ensures.0 in
     (w, held c.before.before.before.before.before.before.before.before.before.before.before.before.before.before.before.before.before.before.before.before.before.before.before.before.before.before.before.before.before.before.before _ w)
 
@@ -141,5 +141,5 @@ put_start_spec =
 
 -- each run goes by one call, and nothing is done between them
 pub put-start-lends-on : LendsOn code.function [] 0 ("truncate::put_from" ∷ "truncate::put_from" ∷ "truncate::put_start_content" ∷ [])
-unfolding own_arrays acts touches loops calls
+unfolding own_arrays acts touches loops calls called
 put-start-lends-on = refl

@@ -4,7 +4,7 @@ use mathlib.Core.Path.{refl, sym, ◌∙◌}
 use mathlib.Core.List.{[], ◌∷◌}
 use lib.ListN.{drop, length-drop}
 use Rattle.buffer.specs.Held.{RunHeld}
-use Rattle.buffer.specs.LendsOn.{LendsOn, own_arrays, acts, touches, loops, calls}
+use Rattle.buffer.specs.LendsOn.{LendsOn, own_arrays, acts, touches, loops, calls, called}
 use Rattle.buffer.proofs.HeldLaws.{next_second}
 use Rattle.writer.specs.Write.{out}
 use Rattle.truncate.specs.Planned.{finished_start}
@@ -48,5 +48,5 @@ put_start_content_spec = tie.close (tie.spec put-from-requires same_length same-
 
 -- the run goes by one call
 pub put-start-content-lends-on : LendsOn code.function [] 0 ("truncate::put_from" ∷ [])
-unfolding own_arrays acts touches loops calls
+unfolding own_arrays acts touches loops calls called
 put-start-content-lends-on = refl

@@ -4,7 +4,7 @@ use borrow.Author.Rules.{rules}
 use mathlib.Core.Path.{refl}
 use mathlib.Core.List.{List, [], ◌∷◌}
 use lib.ListN.{take}
-use Rattle.buffer.specs.LendsOn.{LendsOn, own_arrays, acts, touches, loops, calls}
+use Rattle.buffer.specs.LendsOn.{LendsOn, own_arrays, acts, touches, loops, calls, called}
 use Rattle.recording.specs.Recording.{Item, recording, items}
 use Rattle.recording.specs.Edit.{edit, entries_only}
 use Rattle.writer.specs.Write.{out}
@@ -74,5 +74,5 @@ put_up_to_spec =
 
 -- the bytes go by one `keep`
 pub put-up-to-lends-on : LendsOn code.function [] 0 ("writer::keep" ∷ "writer::skip_entries" ∷ [])
-unfolding own_arrays acts touches loops calls
+unfolding own_arrays acts touches loops calls called
 put-up-to-lends-on = refl

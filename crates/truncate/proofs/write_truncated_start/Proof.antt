@@ -6,7 +6,7 @@ use mathlib.Core.List.{List, [], ◌∷◌}
 use Prim.Native.Nat.{◌+◌, ◌-◌}
 use lib.ListN.{length}
 use mir.Syntax.{ty_array, ty_int, w16}
-use Rattle.buffer.specs.LendsOn.{LendsOn, own_arrays, acts, touches, loops, calls}
+use Rattle.buffer.specs.LendsOn.{LendsOn, own_arrays, acts, touches, loops, calls, called}
 use Rattle.chars.specs.Leads.{lead_table}
 use Rattle.recording.specs.declared.TextSizes.{TextSizes}
 use Rattle.recording.specs.Recording.{Item}
@@ -208,5 +208,5 @@ write_truncated_start_spec =
 -- the lent buffers go by one call; its arrays are the table of lead bytes, as a constant and as the local that is lent to be read
 pub write-truncated-start-lends-on : LendsOn code.function (ty_array (ty_int w16) 256 ∷ ty_array (ty_int w16) 256 ∷ []) 0
     ("recording_check::check_both" ∷ "truncate_plan::measure_start" ∷ "truncate::plus_if" ∷ "truncate::plus_if" ∷ "share::text_size" ∷ "truncate::plus_if" ∷ "writer::settle" ∷ "truncate::put_start" ∷ [])
-unfolding own_arrays acts touches loops calls
+unfolding own_arrays acts touches loops calls called
 write-truncated-start-lends-on = refl

@@ -41,7 +41,7 @@ abbrev line : tie.After-begins_at invariant-loop decreases-loop → tie.At-loop-
 line c = c.before.before
 
 begins : (c : tie.Else-not-begins_at invariant-loop decreases-loop) → begins_with (prefix (line c.before)) (drop (line c.before).loop.at (content (line c.before))) ≡ true
-begins c = let b = c.begins_at in sym b.ensures ∙ not_false b.result c.if-not-begins_at.false
+begins c = let b = c.begins_at in sym b.ensures ∙ c.if-not-begins_at.false
 
 inner : (c : tie.Else-not-begins_at invariant-loop decreases-loop) → (line c.before).loop.at + length (prefix (line c.before)) ≤ length (content (line c.before))
 inner c =

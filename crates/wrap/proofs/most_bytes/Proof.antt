@@ -16,7 +16,7 @@ returns c =
 returns-2 : tie.Need-returns-then-width-eq0
 returns-2 c =
     let a = c.args in
-    joined_short a.width a.break-words a.content.now c.requires (rw (not_false a.break-words c.if-not-break_words.false, c.if-width-eq0.true))
+    joined_short a.width a.break-words a.content.now c.requires (rw (c.if-not-break_words.false, c.if-width-eq0.true))
 
 mul-result : tie.Need-overflow_mul-result
 mul-result c = search rules

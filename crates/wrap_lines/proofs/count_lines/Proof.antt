@@ -41,12 +41,12 @@ add-bytes c =
 loop-less : tie.Need-loop-l-smaller invariant-loop decreases-loop
 loop-less c =
     let l = c.next_line-l in
-    omega (arith, l.ensures.1.0.2, (l.ensures.1.0.3 (not_false l.result.more c.if-not-l.false)).0)
+    omega (arith, l.ensures.1.0.2, (l.ensures.1.0.3 (c.if-not-l.false)).0)
 
 loop-again : tie.Need-loop-l-preserved invariant-loop decreases-loop
 loop-again c =
     let l = c.next_line-l in
-    let m = not_false l.result.more c.if-not-l.false in
+    let m = c.if-not-l.false in
     let p = l.ensures.1.0.3 m in
     laws.count_on _ _ _ _ _ _ c.loop-l.invariant l.result l.ensures.0 m l.ensures.1.0.2 p.0 l.ensures.1.0.0 p.1
 

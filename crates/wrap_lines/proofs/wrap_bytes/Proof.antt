@@ -40,7 +40,7 @@ write-lines-requires : tie.Need-write_lines-count-requires
 unfolding lead_table
 write-lines-requires c κs =
     let f = c.lines_fit in
-    (search rules, (search rules, leb-true _ _ (sym f.ensures ∙ not_false f.result c.if-not-lines_fit.false)))
+    (search rules, (search rules, leb-true _ _ (sym f.ensures ∙ c.if-not-lines_fit.false)))
 
 same_length : tie.Need-shape_of-lines
 same_length c = search rules
@@ -51,7 +51,7 @@ returns-3 c =
     let a = c.args in
     let f = c.lines_fit in
     let w = c.write_lines-count.ensures in
-    let h = leb-true _ _ (sym f.ensures ∙ not_false f.result c.if-not-lines_fit.false) in (
+    let h = leb-true _ _ (sym f.ensures ∙ c.if-not-lines_fit.false) in (
       rw (laws.outcome_done a.width a.break-words a.«data».now (length a.lines.now) c.if-data-gt-DATA_LIMIT.false h)
           (λ i. record { refusal = 0; data_bytes = 0; entry_numbers = 0; text = 0; number = w.1 i }, λ i. lent_lines (w.0 i)),
       λ d. lines_few a.width a.break-words a.«data».now d,

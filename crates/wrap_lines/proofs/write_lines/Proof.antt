@@ -55,7 +55,7 @@ set-line-requires c κs =
 loop-less : tie.Need-loop-l-smaller invariant-loop decreases-loop
 loop-less c =
     let l = (found (set c.before).before).next-line in
-    omega (arith, l.ensures.1.0.2, (l.ensures.1.0.3 (not_false l.result.more c.if-not-l.false)).0)
+    omega (arith, l.ensures.1.0.2, (l.ensures.1.0.3 (c.if-not-l.false)).0)
 
 loop-again : tie.Need-loop-l-preserved invariant-loop decreases-loop
 loop-again c =
@@ -63,7 +63,7 @@ loop-again c =
     let f = found a.before in
     let l = f.next_line-l in
     let s = a.set_line-k in
-    laws.next _ _ _ _ _ _ _ f.loop-l.invariant l.result l.ensures.0 l.ensures.1.1.0 _ _ s.ensures.0 s.ensures.1 s.kept.0 (not_false l.result.more c.if-not-l.false)
+    laws.next _ _ _ _ _ _ _ f.loop-l.invariant l.result l.ensures.0 l.ensures.1.1.0 _ _ s.ensures.0 s.ensures.1 s.kept.0 (c.if-not-l.false)
     l.ensures.1.0.2
 
 same_length : tie.Need-shape_of-lines invariant-loop decreases-loop

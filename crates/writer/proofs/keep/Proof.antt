@@ -6,7 +6,7 @@ use mathlib.Core.Path.{◌≡◌, refl, sym, ap, ◌∙◌}
 use mathlib.Core.List.{List, [], ◌∷◌}
 use lib.ListN.{length, drop}
 use Rattle.buffer.specs.Place.{part}
-use Rattle.buffer.specs.LendsOn.{LendsOn, own_arrays, acts, touches, loops, calls, Threads, only_by}
+use Rattle.buffer.specs.LendsOn.{LendsOn, own_arrays, acts, touches, loops, calls, called, Threads, only_by}
 use Rattle.buffer.proofs.Laws.{length_part}
 use Rattle.recording.specs.Recording.{Item, byte_items, entries_of}
 use Rattle.recording.specs.Edit.{front}
@@ -63,7 +63,7 @@ returns c =
     let b = c.put_bytes-c.ensures in
     let z = length_part a.from.at a.n a.content.now s.requires.1.0.1 in
     let r = c.put_bytes-c.result in
-    let q : Cursor = record { at = a.n; k = r.k; d = r.d; e = r.e; c.before.before.before.before = r.t } in
+    let q : Cursor = record { at = a.n; k = r.k; d = r.d; e = r.e; t = r.t } in
     let k = back-plain a.content.now a.entries.now a.text.now a.n a.from s.requires.0 s.requires.1.0.0 s.requires.1.0.1 (later c.before.before.before.before) q refl b.0.1 in
     let w = bytes_wrote a.bytes.now _ a.numbers.now a.texts.now (part a.from.at a.n a.content.now) a.from q b.1.0 (omega (arith, b.0.2, z)) b.0.3 b.0.4 in
     (w ∙ ap (λ (is : List Item). add is (out a.bytes.now a.numbers.now a.texts.now a.from)) (sym (bytes-alone c.before.before.before.before)), (k.0, (k.1, refl, b.1.1)))
@@ -87,9 +87,9 @@ keep_spec =
 
 -- the bytes go by `put_bytes` or by `keep_entries`, which take the cursor and leave it: so not by one after the other
 pub keep-lends-on : LendsOn code.function [] 0 ("writer::place_at" ∷ "writer::put_bytes" ∷ "writer::keep_entries" ∷ [])
-unfolding own_arrays acts touches loops calls
+unfolding own_arrays acts touches loops calls called
 keep-lends-on = refl
 
 pub keep-threads : Threads code.function 7 9 ("writer::put_bytes" ∷ "writer::keep_entries" ∷ [])
-unfolding acts only_by
+unfolding acts only_by called
 keep-threads = record { rest = acts code.t-2; begins = refl; goes_on = refl }

@@ -13,7 +13,7 @@ use Rattle.recording.specs.Recording.{Item, byte_items, entries_of}
 use Rattle.recording.specs.declared.Entry.{Entry}
 use Rattle.buffer.specs.Place.{over_at, part}
 use Rattle.buffer.specs.Held.{RunHeld}
-use Rattle.buffer.specs.LendsOn.{LendsOn, own_arrays, acts, touches, loops, calls, Threads, only_by}
+use Rattle.buffer.specs.LendsOn.{LendsOn, own_arrays, acts, touches, loops, calls, called, Threads, only_by}
 use lib.ListN.{length, take, drop}
 use mathlib.Core.Path.{◌≡◌, refl, ap, ◌∙◌}
 use mathlib.Core.List.{List, [], ◌∷◌}
@@ -243,10 +243,10 @@ keep_entries_spec =
 
 -- the bytes go by `put_bytes` alone: once a turn, and once at the end
 pub keep-entries-lends-on : LendsOn code.function [] 1 ("writer::place_at" ∷ "recording::entry_at" ∷ "writer::put_bytes" ∷ "writer::put_entry" ∷ "writer::place_at" ∷ "writer::put_bytes" ∷ [])
-unfolding own_arrays acts touches loops calls
+unfolding own_arrays acts touches loops calls called
 keep-entries-lends-on = refl
 
 -- and each run where the one before ended: the cursor c begins as `from`, and is what one writing call leaves and the next one takes
 pub keep-entries-threads : Threads code.function 7 9 ("writer::put_bytes" ∷ "writer::put_entry" ∷ [])
-unfolding acts only_by
+unfolding acts only_by called
 keep-entries-threads = record { rest = acts code.t-2; begins = refl; goes_on = refl }

@@ -2,7 +2,7 @@
 use borrow.Author.Rules.{rules}
 use mathlib.Core.Path.{refl}
 use mathlib.Core.List.{[], ◌∷◌}
-use Rattle.buffer.specs.LendsOn.{LendsOn, own_arrays, acts, touches, loops, calls}
+use Rattle.buffer.specs.LendsOn.{LendsOn, own_arrays, acts, touches, loops, calls, called}
 use Rattle.writer.proofs.put_bytes.Code.Mir as code
 use Rattle.writer.proofs.put_bytes.Statement.{statement}
 use Rattle.writer.proofs.put_bytes.Tie as tie
@@ -26,5 +26,5 @@ put_bytes_spec = tie.close (tie.spec put-requires same_length returns)
 
 -- the run goes by one `put`
 pub put-bytes-lends-on : LendsOn code.function [] 0 ("buffer::put" ∷ [])
-unfolding own_arrays acts touches loops calls
+unfolding own_arrays acts touches loops calls called
 put-bytes-lends-on = refl

@@ -6,7 +6,7 @@ use mathlib.Core.Path.{refl, ap, ◌∙◌}
 use mathlib.Core.List.{List, [], ◌∷◌}
 use Prim.Native.Nat.{ℕ}
 use Rattle.buffer.specs.Place.{over_at}
-use Rattle.buffer.specs.LendsOn.{LendsOn, own_arrays, acts, touches, loops, calls}
+use Rattle.buffer.specs.LendsOn.{LendsOn, own_arrays, acts, touches, loops, calls, called}
 use Rattle.writer.proofs.put_entry.Code.Mir as code
 use Rattle.writer.proofs.put_entry.Statement.{statement}
 use Rattle.writer.proofs.put_entry.Tie as tie
@@ -162,5 +162,5 @@ put_entry_spec =
 
 -- the text buffer is lent to one `put` of what the entry adds, before that as a shared part to be searched; neither the content nor the data buffer is lent at all
 pub put-entry-lends-on : LendsOn code.function [] 0 ("writer::place_of" ∷ "share::set_entry" ∷ "buffer::put" ∷ [])
-unfolding own_arrays acts touches loops calls
+unfolding own_arrays acts touches loops calls called
 put-entry-lends-on = refl

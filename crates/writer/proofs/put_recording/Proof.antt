@@ -6,7 +6,7 @@ use Rattle.writer.proofs.HeldLaws.{added_held}
 use Rattle.writer.specs.Write.{out, add}
 use Rattle.recording.specs.Recording.{Item, recording, items}
 use Rattle.recording.proofs.ItemsLaws.{data_items}
-use Rattle.buffer.specs.LendsOn.{LendsOn, own_arrays, acts, touches, loops, calls}
+use Rattle.buffer.specs.LendsOn.{LendsOn, own_arrays, acts, touches, loops, calls, called}
 use lib.ListN.{length}
 use mathlib.Core.Path.{refl, ap, ◌∙◌}
 use mathlib.Core.List.{List, [], ◌∷◌}
@@ -53,5 +53,5 @@ put_recording_spec =
 
 -- the bytes go by one `keep`
 pub put-recording-lends-on : LendsOn code.function [] 0 ("writer::keep" ∷ [])
-unfolding own_arrays acts touches loops calls
+unfolding own_arrays acts touches loops calls called
 put-recording-lends-on = refl

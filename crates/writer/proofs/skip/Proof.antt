@@ -6,7 +6,7 @@ use mathlib.Core.Path.{◌≡◌, refl, sym, ap, ◌∙◌}
 use mathlib.Core.List.{List, [], ◌∷◌}
 use lib.ListN.{drop}
 use Rattle.buffer.specs.Place.{part}
-use Rattle.buffer.specs.LendsOn.{LendsOn, own_arrays, acts, touches, loops, calls}
+use Rattle.buffer.specs.LendsOn.{LendsOn, own_arrays, acts, touches, loops, calls, called}
 use Rattle.recording.specs.Recording.{Item, entries_of}
 use Rattle.recording.specs.Edit.{front, entries_only}
 use Rattle.writer.specs.Write.{out, add, left, place_for}
@@ -60,5 +60,5 @@ skip_spec =
 
 -- no bytes go
 pub skip-lends-on : LendsOn code.function [] 0 ("writer::place_at" ∷ "writer::skip_entries" ∷ [])
-unfolding own_arrays acts touches loops calls
+unfolding own_arrays acts touches loops calls called
 skip-lends-on = refl

@@ -11,7 +11,7 @@ use Rattle.recording.specs.Recording.{Item, entries_of}
 use Rattle.recording.specs.declared.Entry.{Entry}
 use Rattle.buffer.specs.Place.{over_at, part}
 use Rattle.buffer.proofs.Laws.{over_none}
-use Rattle.buffer.specs.LendsOn.{LendsOn, own_arrays, acts, touches, loops, calls}
+use Rattle.buffer.specs.LendsOn.{LendsOn, own_arrays, acts, touches, loops, calls, called}
 use lib.ListN.{length, take, drop}
 use mathlib.Core.Path.{◌≡◌, refl, sym, ap, ◌∙◌}
 use mathlib.Core.List.{List, [], ◌∷◌}
@@ -180,5 +180,5 @@ skip_entries_spec =
 
 -- no call is lent the data buffer or the content
 pub skip-entries-lends-on : LendsOn code.function [] 1 ("writer::place_at" ∷ "recording::entry_at" ∷ "writer::put_entry" ∷ "writer::place_at" ∷ [])
-unfolding own_arrays acts touches loops calls
+unfolding own_arrays acts touches loops calls called
 skip-entries-lends-on = refl
