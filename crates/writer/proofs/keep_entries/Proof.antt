@@ -196,7 +196,7 @@ put-bytes-requires-2 c κs =
 
 same_length : tie.Need-shape_of-bytes invariant-loop decreases-loop
 same_length c =
-    c.put_bytes-c-2.auto.0 ∙ (now-long _ _ _ _ _ _ _ _ _ _ _ _ _ c.loop-p.invariant
+    c.put_bytes-c-2.auto.bytes ∙ (now-long _ _ _ _ _ _ _ _ _ _ _ _ _ c.loop-p.invariant
     c.requires.1.0.1
     c.requires.1.1).0
 
