@@ -108,7 +108,7 @@ put-times-requires-2 c κs =
 
 same_length : tie.Need-shape_of-bytes invariant-loop decreases-loop
 same_length c =
-    c.put_times.auto.0 ∙ (now_long _ _ _ _ _ _ _ _ _ _ _ _ _ c.loop-p.invariant (room c.before.before.before.before.before)).0
+    c.put_times.auto.bytes ∙ (now_long _ _ _ _ _ _ _ _ _ _ _ _ _ c.loop-p.invariant (room c.before.before.before.before.before)).0
 
 same-length-2 : tie.Need-shape_of-numbers invariant-loop decreases-loop
 same-length-2 c =

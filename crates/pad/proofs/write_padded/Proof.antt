@@ -41,13 +41,13 @@ given s =
     let a = s.args in
     record {
       kind = kind_of a.side;
-      width = a.min-width;
+      width = a.min_width;
       ds = a.content.now;
       ns = a.entries.now;
       ts = a.text.now;
       fs = a.fill.now;
-      gs = a.fill-entries.now;
-      us = a.fill-text.now;
+      gs = a.fill_entries.now;
+      us = a.fill_text.now;
       od = a.bytes.now;
       oe = a.numbers.now;
       ot = a.texts.now;
@@ -55,7 +55,7 @@ given s =
 
 -- once both recordings are checked
 abbrev start : tie.In-Fine → tie.Start
-start c = c.before.before.before.before.before.before.before.before.before.before.before.before
+start c = c.before.before.before.before.before.before.before.before.before.before.before
 
 abbrev sizes : tie.In-Fine → TextSizes
 sizes c = c.in-Fine.n

@@ -3,7 +3,7 @@ use borrow.Author.Rules.{rules}
 use Rattle.recording.proofs.CheckLaws.{ill_shaped, falling, beyond, outside, no_label, ill, well}
 use Rattle.recording.specs.Check.{fault_of, Counted}
 use Rattle.recording.specs.Refusals.{number_of_refusal}
-use borrow.Author.Tests.{not-true, not_false}
+use borrow.Author.Tests.{not-true, not-false}
 use mathlib.Core.Path.{refl, sym, ◌∙◌}
 use Rattle.recording_check.proofs.check_entry.Statement.{statement}
 use Rattle.recording_check.proofs.check_entry.Tie as tie

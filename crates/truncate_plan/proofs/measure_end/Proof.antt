@@ -16,7 +16,7 @@ text-width-requires c κs = search rules
 returns : tie.Need-returns-then-w-max
 returns c =
     let a = c.args in
-    (end_plan_whole a.max-width a.content.now a.ellipsis.now c.text_width-w.result c.text_width-w.ensures.0 c.if-w-max.true, (omega arith, omega arith))
+    (end_plan_whole a.max_width a.content.now a.ellipsis.now c.text_width-w.result c.text_width-w.ensures.0 c.if-w-max.true, (omega arith, omega arith))
 
 text-width-requires-2 : tie.Need-text_width-requires
 text-width-requires-2 c κs = search rules
@@ -40,7 +40,7 @@ returns-2 c =
     let v = c.text_width in
     let x = c.truncate_end_pos-a in
     let y = c.truncate_end_pos-b in (
-      end_plan_cut a.max-width a.content.now a.ellipsis.now w.result w.ensures.0 v.result c.less-room.result v.ensures.0
+      end_plan_cut a.max_width a.content.now a.ellipsis.now w.result w.ensures.0 v.result c.less-room.result v.ensures.0
           c.less-room.ensures c.if-w-max.false x.result.pos x.result.width y.result.pos
           y.result.width x.ensures.0.0 x.ensures.0.1 y.ensures.0.0 y.ensures.0.1,
       (x.ensures.1.0, y.ensures.1.0),

@@ -21,7 +21,7 @@ returns : tie.Need-returns-then-whole-max
 returns c =
     let a = c.args in
     let n = c.trimmed_from in (
-      start_plan_whole a.max-width a.content.now a.ellipsis.now c.text_width-whole.result c.text_width-whole.ensures.0 n.result
+      start_plan_whole a.max_width a.content.now a.ellipsis.now c.text_width-whole.result c.text_width-whole.ensures.0 n.result
           c.if-whole-max.true n.ensures.0,
       (n.ensures.1, omega arith),
     )
@@ -56,7 +56,7 @@ returns-2 c =
     let y = c.truncate_start_pos-b in
     let n = c.trimmed_from-2 in
     let m = c.trimmed_from-3 in (
-      start_plan_cut a.max-width a.content.now a.ellipsis.now w.result w.ensures.0 v.result c.less.result
+      start_plan_cut a.max_width a.content.now a.ellipsis.now w.result w.ensures.0 v.result c.less.result
           v.ensures.0 c.less.ensures c.if-whole-max.false
           x.result.pos x.result.width y.result.pos y.result.width n.result m.result x.ensures.0.0 x.ensures.0.1 y.ensures.0.0 y.ensures.0.1
           n.ensures.0 m.ensures.0,
