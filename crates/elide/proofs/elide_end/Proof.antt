@@ -27,7 +27,7 @@ unfolding answer_of returned lent_after
 returns c =
     let x = c.args in
     let f = c.fault-f in
-    let e : elide_end_outcome (length x.out.now) x.text.now x.ellipsis.now x.max-width ≡ refused 1 = end_faulty (length x.out.now) x.max-width x.text.now
+    let e : elide_end_outcome (length x.out.now) x.text.now x.ellipsis.now x.max_width ≡ refused 1 = end_faulty (length x.out.now) x.max_width x.text.now
     x.ellipsis.now 1 (sym c.if-f-eq1.true ∙ f.ensures.0) (λ z. omega (arith, z)) in
     (simp e, simp e)
 
@@ -36,7 +36,7 @@ unfolding answer_of returned lent_after
 returns-2 c =
     let x = c.args in
     let f = c.fault-f in
-    let e : elide_end_outcome (length x.out.now) x.text.now x.ellipsis.now x.max-width ≡ refused 7 = end_faulty (length x.out.now) x.max-width x.text.now
+    let e : elide_end_outcome (length x.out.now) x.text.now x.ellipsis.now x.max_width ≡ refused 7 = end_faulty (length x.out.now) x.max_width x.text.now
     x.ellipsis.now 7 (sym c.if-f-eq7.true ∙ f.ensures.0) (λ z. omega (arith, z)) in
     (simp e, simp e)
 
@@ -63,7 +63,7 @@ returns-3 c =
     let w = c.write_parts in
     let none = no_fault x.text.now x.ellipsis.now f.result f.ensures.0 c.if-f-eq1.false
     c.if-f-eq7.false in
-    let g = end_goes (length x.out.now) x.max-width x.text.now x.ellipsis.now f.result f.ensures.0
+    let g = end_goes (length x.out.now) x.max_width x.text.now x.ellipsis.now f.result f.ensures.0
     (part p.result.from p.result.to x.text.now ++ part p.result.begin p.result.end x.ellipsis.now) p.result.width none p.ensures.0.0 p.ensures.0.1 in
     (w.ensures.0 ∙ ap returned g, w.ensures.1 ∙ ap (λ (o : Outcome). lent_after o (lent x.out.now)) g)
 

@@ -3,7 +3,7 @@ use native.Mathlib.Omega.{arith}
 use borrow.Author.Rules.{rules}
 use Rattle.elide.specs.Elide.{plain_fault}
 use Prim.Native.Nat.{◌-◌}
-use borrow.Author.Tests.{lt-ltb, le-ltb, not-true, not_false}
+use borrow.Author.Tests.{lt-ltb, le-ltb, not-true, not-false}
 use Rattle.elide.proofs.fault.Statement.{statement}
 use Rattle.elide.proofs.fault.Tie as tie
 use Rattle.elide.proofs.fault.Reads as reads

@@ -1,7 +1,7 @@
 -- The two tests are those of `limit_of_line`.
 use Prim.Native.Nat.{◌-◌}
 use native.Mathlib.Omega.{arith}
-use borrow.Author.Tests.{lt-ltb, not-true, not_false}
+use borrow.Author.Tests.{lt-ltb, not-true, not-false}
 use Rattle.line.specs.Rest.{limit_of_line}
 use Rattle.line.proofs.LineLaws as laws
 use Rattle.line.proofs.limit_of.Statement.{statement}

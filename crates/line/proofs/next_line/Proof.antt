@@ -7,7 +7,7 @@ use mathlib.Core.Path.{◌≡◌, sym, ap, ◌∙◌}
 use mathlib.Core.List.{List}
 use lib.ListN.{length, length-drop}
 use borrow.Author.Rules.{rules}
-use borrow.Author.Tests.{not-true, not_false}
+use borrow.Author.Tests.{not-true, not-false}
 use borrow.Author.Rules.{part_to_end}
 use Rattle.chars.specs.Cut.{truncate_end_pos_of, truncate_end_width}
 use Rattle.line.specs.Rest.{word_text, limit_of_line, head_len, head_width, unreached}
@@ -75,20 +75,20 @@ line_of c = underway (searched c)
 
 -- the numbers there: the width to break at, as the code has it and as the definition has it; the room; what is left of the data
 abbrev limit : Underway → ℕ
-limit c = c.before.limit-of.result
+limit c = c.before.limit_of-limit.result
 
 abbrev breaks : Underway → ℕ
-breaks c = limit_of_line (start c).args.width (start c).args.break-words
+breaks c = limit_of_line (start c).args.width (start c).args.break_words
 
 abbrev room : Searching → ℕ
-room c = c.before.before.room_of.result
+room c = c.before.before.room_of-room.result
 
 abbrev left : Underway → List ℕ
 left c = c.words.word.now
 
 -- the promise of the call that starts there
 abbrev Promised : Started → Next → Type 0
-Promised c r = laws.Promise c.args.«data».now c.args.at c.args.width c.args.break-words r
+Promised c r = laws.Promise c.args.«data».now c.args.at c.args.width c.args.break_words r
 
 -- ── what is known there
 short : (c : Underway) → 2 * length (start c).args.«data».now ≤ unreached
@@ -101,7 +101,7 @@ narrow c = omega arith
 room_within : (c : tie.After-room_of-room invariant-loop decreases-loop invariant-words decreases-words) → c.room_of-room.result ≤ limit c.before.before
 room_within c =
     let a = (start c.before.before).args in
-    rw c.room_of-room.ensures (room_le _ _ _ _ (rw c.limit_of-limit.ensures (limit_ge a.width a.break-words (narrow c.before.before))))
+    rw c.room_of-room.ensures (room_le _ _ _ _ (rw c.limit_of-limit.ensures (limit_ge a.width a.break_words (narrow c.before.before))))
 
 -- the visible bytes at the front are part of the head, or as many of them as have room
 visible : (c : tie.After-visible_len-i invariant-loop decreases-loop invariant-words decreases-words)
@@ -118,12 +118,12 @@ abbrev from : Seen → Searching
 from c = c.before.before.before.before.before.before
 
 further : (c : Seen)
-    → laws.Search (left (underway (from c))) (limit (underway (from c))) ((from c).loop.i + c.before.before.before.before.before.seen-in-word.result.len)
-    ((limit (underway (from c)) - (room (from c) - (from c).loop.left)) - c.before.before.before.before.before.seen-in-word.result.width)
+    → laws.Search (left (underway (from c))) (limit (underway (from c))) ((from c).loop-c.i + c.before.before.before.before.before.seen_in_word-c.result.len)
+    ((limit (underway (from c)) - (room (from c) - (from c).loop-c.left)) - c.before.before.before.before.before.seen_in_word-c.result.width)
 further c =
-    let r = c.before.before.before.before.before.seen-in-word in
-    let I = (from c).loop.invariant in
-    laws.search_more _ _ _ _ I.0 r.result r.ensures.0 c.before.before.before.if2.false (omega (arith, I.1, I.2, c.before.if3.false)) r.ensures.1.1 r.ensures.1.0
+    let r = c.before.before.before.before.before.seen_in_word-c in
+    let I = (from c).loop-c.invariant in
+    laws.search_more _ _ _ _ I.0 r.result r.ensures.0 c.before.before.before.if-c-eq0.false (omega (arith, I.1, I.2, c.before.if-left-w.false)) r.ensures.1.1 r.ensures.1.0
 
 -- where the search ends: at the end of the word, or at the first character that would pass the width to break at
 abbrev Cut : Type 0
@@ -133,30 +133,30 @@ abbrev until : Cut → Searching
 until c = c.before.before.before
 
 ended : (c : Cut)
-    → (c.if2.cut ≡ truncate_end_pos_of (limit (underway (until c))) (word_text (left (underway (until c)))))
-    × (room (until c) - (until c).loop.left ≡ truncate_end_width (limit (underway (until c))) (word_text (left (underway (until c)))))
+    → (c.if-c-eq0.cut ≡ truncate_end_pos_of (limit (underway (until c))) (word_text (left (underway (until c)))))
+    × (room (until c) - (until c).loop-c.left ≡ truncate_end_width (limit (underway (until c))) (word_text (left (underway (until c)))))
 ended c =
-    let I = (until c).loop.invariant in
-    let r = c.before.before.seen-in-word in
-    let used : limit (underway (until c)) - (limit (underway (until c)) - (room (until c) - (until c).loop.left)) ≡ room (until c) - (until c).loop.left = omega (arith, I.2) in
+    let I = (until c).loop-c.invariant in
+    let r = c.before.before.seen_in_word-c in
+    let used : limit (underway (until c)) - (limit (underway (until c)) - (room (until c) - (until c).loop-c.left)) ≡ room (until c) - (until c).loop-c.left = omega (arith, I.2) in
     ⊎_elim
-    (λ w. let z = laws.search_end _ _ _ _ I.0 r.result r.ensures.0 w.0.true in (w.1 ∙ z.0, sym used ∙ z.1))
-    (λ w. let z = laws.search_pass _ _ _ _ I.0 r.result r.ensures.0 w.0.left (omega (arith, w.3.left)) in (w.4 ∙ z.0, sym used ∙ z.1))
-    c.if2.branch-raw
+    (λ w. let z = laws.search_end _ _ _ _ I.0 r.result r.ensures.0 w.if-c-eq0.true in (w.cut-is ∙ z.0, sym used ∙ z.1))
+    (λ w. let z = laws.search_pass _ _ _ _ I.0 r.result r.ensures.0 w.if-c-eq0.false (omega (arith, w.if-w-limit.false)) in (w.cut-is ∙ z.0, sym used ∙ z.1))
+    c.if-c-eq0.branch-raw
 
 -- the head that is taken
-headed : (c : Headed) → (c.head_at.result.len ≡ head_len (breaks (line_of c)) (left (line_of c))) × (c.head_at.result.width ≡ head_width (breaks (line_of c)) (left (line_of c)))
+headed : (c : Headed) → (c.head_at-head.result.len ≡ head_len (breaks (line_of c)) (left (line_of c))) × (c.head_at-head.result.width ≡ head_width (breaks (line_of c)) (left (line_of c)))
 headed c =
     let e = ended c.before in
-    let h = laws.head_law (limit (line_of c)) (left (line_of c)) c.before.if2.cut _ e.0 e.1 in
-    let m = (line_of c).before.limit-of.ensures in (
-      ap (λ (x : Head). x.len) c.head_at.ensures ∙ h.0 ∙ ap (λ (n : ℕ). head_len n (left (line_of c))) m,
-      ap (λ (x : Head). x.width) c.head_at.ensures ∙ h.1 ∙ ap (λ (n : ℕ). head_width n (left (line_of c))) m,
+    let h = laws.head_law (limit (line_of c)) (left (line_of c)) c.before.if-c-eq0.cut _ e.0 e.1 in
+    let m = (line_of c).before.limit_of-limit.ensures in (
+      ap (λ (x : Head). x.len) c.head_at-head.ensures ∙ h.0 ∙ ap (λ (n : ℕ). head_len n (left (line_of c))) m,
+      ap (λ (x : Head). x.width) c.head_at-head.ensures ∙ h.1 ∙ ap (λ (n : ℕ). head_width n (left (line_of c))) m,
     )
 
 sized : (c : Headed)
-    → (c.head_at.result.len ≤ length (left (line_of c))) × (c.head_at.result.width ≤ 2 * c.head_at.result.len)
-    × ((line_of c).words.run + c.head_at.result.width ≤ 2 * length (start (line_of c)).args.«data».now)
+    → (c.head_at-head.result.len ≤ length (left (line_of c))) × (c.head_at-head.result.width ≤ 2 * c.head_at-head.result.len)
+    × ((line_of c).words.run + c.head_at-head.result.width ≤ 2 * length (start (line_of c)).args.«data».now)
 sized c = laws.sizes _ _ _ _ _ _ _ _ _ _ (line_of c).words.invariant.state (breaks (line_of c)) _ _ (headed c).0 (headed c).1
 
 -- the end of a round: its head, and that the line went on at its start
@@ -192,7 +192,7 @@ returns : tie.Need-returns-then-not-in_line invariant-loop decreases-loop invari
 returns c =
     let none = sym c.in_line.ensures ∙ c.if-not-in_line.true in
     let first = laws.state_start _ _ _ _ c.requires.1 in
-    let R : Promised c.before.before.before.before.before c.after_Line.result = rw c.after_Line.ensures (laws.state_end _ _ _ _ _ _ _ _ _ _ first none) in
+    let R : Promised c.before.before.before.before.before c.after_line.result = rw c.after_line.ensures (laws.state_end _ _ _ _ _ _ _ _ _ _ first none) in
     R
 
 limit-of-requires : tie.Need-limit_of-limit-requires invariant-loop decreases-loop invariant-words decreases-words
@@ -238,7 +238,7 @@ loop-less c = search rules
 
 loop-again : tie.Need-loop-c-preserved invariant-loop decreases-loop invariant-words decreases-words
 loop-again c =
-    let I = (from c).loop.invariant in
+    let I = (from c).loop-c.invariant in
     (loops.search_as _ _ _ _ _ (omega (arith, I.1, I.2, c.if-left-w.false)) (further c), omega (arith, I.1), I.2)
 
 sub-head-at : tie.Need-overflow_sub-room-in-words invariant-loop decreases-loop invariant-words decreases-words
@@ -280,7 +280,7 @@ words-less : tie.Need-words-smaller invariant-loop decreases-loop invariant-word
 words-less c =
     let l = line_of (found c) in
     let s = c.spaces_at-gap in
-    let n = (found c).head_at.result.len + s.result in
+    let n = (found c).head_at-head.result.len + s.result in
     let some = laws.moves _ _ _ _ _ _ _ _ _ _ l.words.invariant.state (breaks l) _ _ (l.words.invariant.goes (tested c)) (headed (found c)).0 s.ensures.0 in
     omega (arith, ap length (part_to_end (left l) n), length-drop n (left l), s.ensures.1, some)
 
@@ -289,7 +289,7 @@ words-again c =
     let l = line_of (found c) in
     let h = headed (found c) in
     let s = c.spaces_at-gap in
-    let fits = sym c.fits2.ensures ∙ c.if-not-fits.false in
+    let fits = sym c.fits.ensures ∙ c.if-not-fits.false in
     loops.words_next _ _ _ _ _ _ _ _ _ l.words.invariant (short l) (tested c) _ _ h.0 h.1 _ _ (narrow l) s.ensures.0 s.ensures.1 fits c.goes_on-going.ensures
 
 sub-here : tie.Need-overflow_sub-here invariant-loop decreases-loop invariant-words decreases-words
@@ -311,19 +311,20 @@ returns-2 c =
     let R : Promised (start c.before.before) c.after_line-2.result =
     rw c.after_line-2.ensures
     (⊎_elim
-    (λ w. W.over w.left)
+    (λ w. W.over w.words-test.false)
     (λ v. ⊎_elim
     (λ w.
-    let g = w.4 in
-    let S = laws.search_more _ _ _ _ w.3.invariant.0 g.result g.ensures.0 w.6.left (omega (arith, w.9.true)) g.ensures.1.1 g.ensures.1.0 in
-    let within = room_within (record { before = record { before = c.before.before; words-test = w.0 }; room_of = w.1 }) in
-    loops.words_early _ _ _ _ _ _ _ _ _ W (short c.before.before) w.0.true (limit c.before.before) ((w.1.result - w.3.left) + g.result.width) c.limit_of-limit.ensures
-    (omega (arith, S.place, w.6.left)) (omega (arith, S.width, w.3.invariant.1, within, w.9.true))
-    (loops.past_room _ _ _ _ _ _ w.1.ensures (omega (arith, w.8.true, w.3.invariant.1)) (omega (arith, w.9.true, w.3.invariant.1, within))))
+    let g = w.seen_in_word-c in
+    let I = w.loop-c.invariant in
+    let S = laws.search_more _ _ _ _ I.0 g.result g.ensures.0 w.if-c-eq0.false (omega (arith, w.if-w-limit.true)) g.ensures.1.1 g.ensures.1.0 in
+    let within = room_within (record { before = record { before = c.before.before; words-test = w.words-test }; room_of-room = w.room_of-room }) in
+    loops.words_early _ _ _ _ _ _ _ _ _ W (short c.before.before) w.words-test.true (limit c.before.before) ((w.room_of-room.result - w.loop-c.left) + g.result.width) c.limit_of-limit.ensures
+    (omega (arith, S.place, w.if-c-eq0.false)) (omega (arith, S.width, I.1, within, w.if-w-limit.true))
+    (loops.past_room _ _ _ _ _ _ w.room_of-room.ensures (omega (arith, w.if-left-w.true, I.1)) (omega (arith, w.if-w-limit.true, I.1, within))))
     (λ w.
-    let s : Searching = record { before = record { before = record { before = record { before = c.before.before; words-test = w.0 }; room_of = w.1 }; visible-len = w.2 }; loop = w.3 } in
-    let h : Headed = record { before = record { before = record { before = record { before = s; seen-in-word = w.4 }; struct_known = w.5 }; if2 = w.6 }; head_at = w.7 } in
-    loops.words_new _ _ _ _ _ _ _ _ _ W (short c.before.before) w.0.true _ _ (headed h).0 (headed h).1 (sym w.8.ensures ∙ not-true w.8.result w.9.true))
+    let s : Searching = record { before = record { before = record { before = record { before = c.before.before; words-test = w.words-test }; room_of-room = w.room_of-room }; visible_len-i = w.visible_len-i }; loop-c = w.loop-c } in
+    let h : Headed = record { before = record { before = record { before = record { before = s; seen_in_word-c = w.seen_in_word-c }; struct_known-1 = w.struct_known-1 }; if-c-eq0 = w.if-c-eq0 }; head_at-head = w.head_at-head } in
+    loops.words_new _ _ _ _ _ _ _ _ _ W (short c.before.before) w.words-test.true _ _ (headed h).0 (headed h).1 (sym w.fits.ensures ∙ w.if-not-fits.true))
     v)
     c.words-test.branch-raw) in
     R

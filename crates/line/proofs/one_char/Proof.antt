@@ -53,7 +53,7 @@ returns c =
     let g = c.seen_in_word-first in
     let t = word_text d in
     let none : zero_width_len_of (drop c.loop-c.at t) ≡ 0 =
-    ⊎_elim (λ w. laws.zero_end t c.loop-c.at r.result r.ensures.0 w.true) (λ w. laws.zero_pass t c.loop-c.at r.result r.ensures.0 w.0.left w.2.true)
+    ⊎_elim (λ w. laws.zero_end t c.loop-c.at r.result r.ensures.0 w.if-c-eq0.true) (λ w. laws.zero_pass t c.loop-c.at r.result r.ensures.0 w.if-c-eq0.false w.if-c-ne0.true)
     c.if-c-eq0.branch-raw in
     let p : c.loop-c.at ≡ (one_head d).len = omega (arith, none, c.loop-c.invariant.1) in
     let q : g.result.width ≡ (one_head d).width = (laws.one_start d g.result g.ensures.0).1 in

@@ -40,7 +40,7 @@ sub-result c = search rules
 returns : tie.Need-returns invariant-loop decreases-loop
 returns c =
     let none : space_len (drop c.loop-i.i c.args.s.now) ≡ 0 =
-    ⊎_elim (λ w. laws.space_end c.args.s.now c.loop-i.i w.left) (λ w. laws.space_no c.args.s.now c.loop-i.i w.0.true w.2.true) c.loop-i-test.branch-raw in
+    ⊎_elim (λ w. laws.space_end c.args.s.now c.loop-i.i w.loop-i-test.false) (λ w. laws.space_no c.args.s.now c.loop-i.i w.loop-i-test.true w.if-s-i-ne32.true) c.loop-i-test.branch-raw in
     (omega (arith, none, c.loop-i.invariant.2), search rules)
 
 pub spaces_at_spec : {M : Type 1} → statement M
