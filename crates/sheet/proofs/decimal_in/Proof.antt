@@ -2,7 +2,7 @@
 use native.Mathlib.Omega.{arith}
 use borrow.Author.Rules.{rules}
 use Prim.Native.Nat.{◌-◌}
-use borrow.Author.Tests.{not-true, not_false}
+use borrow.Author.Tests.{not-true, not-false}
 use Rattle.sheet.specs.Sheet.{is_decimal, decimal_or}
 use Rattle.sheet.proofs.decimal_in.Statement.{statement}
 use Rattle.sheet.proofs.decimal_in.Tie as tie
