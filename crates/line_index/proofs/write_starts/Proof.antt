@@ -67,7 +67,7 @@ loop-again c =
     let ways
     = ⊎_elim
     (λ w. fill_more all rest c.args.index.now c.loop-at.index c.args.first c.loop-at.k S (omega (arith, c.requires.1)) (starts_from at (part at (at + 16) s)) next c.if-has_break.index c.if-has_break.k
-    (starts_part at (at + 16) s (omega arith) (omega arith)) (w.5 ∙ w.2.ensures.0) (ap length w.5 ∙ w.2.kept.1.1.1.0) (w.6 ∙ w.2.ensures.1))
+    (starts_part at (at + 16) s (omega arith) (omega arith)) (w.5 ∙ w.2.ensures.0) (ap length w.5 ∙ w.2.auto.1.1.1.0) (w.6 ∙ w.2.ensures.1))
     (λ w. fill_kept all rest c.args.index.now c.loop-at.index c.args.first c.loop-at.k S next c.if-has_break.index c.if-has_break.k
     (starts_block 16 at s (ltb-false (to_break (drop at s)) 16 (sym c.has_break.ensures ∙ w.0.left))) w.1 w.2)
     c.if-has_break.branch-raw in
