@@ -53,10 +53,10 @@ abbrev cell : tie.In-loop-k invariant-loop decreases-loop → List ℕ
 cell c = part c.loop-k.from (end c) (start c).args.content.now
 
 planned : (c : tie.After-measure_cell-p invariant-loop decreases-loop)
-    → c.measure_cell-p.result ≡ plan_with (mark_of (start (turn c)).args.max-width (start (turn c)).args.ellipsis.now) (start (turn c)).args.max-width (cell (turn c))
+    → c.measure_cell-p.result ≡ plan_with (mark_of (start (turn c)).args.max_width (start (turn c)).args.ellipsis.now) (start (turn c)).args.max_width (cell (turn c))
 planned c =
     let a = (start (turn c)).args in
-    c.measure_cell-p.ensures.0 ∙ ap (λ (k : Mark). plan_with k a.max-width (cell (turn c))) (start (turn c)).requires.1.0.0
+    c.measure_cell-p.ensures.0 ∙ ap (λ (k : Mark). plan_with k a.max_width (cell (turn c))) (start (turn c)).requires.1.0.0
 
 loop-holds : tie.Need-loop-k-init invariant-loop decreases-loop
 loop-holds c =
@@ -137,7 +137,7 @@ loop-again c =
     let p = put c.before.before.before in
     let l = turn p.before.before in
     write_next _ _ _ _ _ _ _ _ _ _ _ l.loop-k.invariant l.loop-k-test.true p.measure_cell-p.result (cell l) (end l) refl refl (planned p.before.before) _ _ _ p.put_cell-at.ensures.0 p.put_cell-at.ensures.1
-    p.put_cell-at.kept.0 c.set_cell.ensures c.set_cell.auto.0
+    p.put_cell-at.auto.0 c.set_cell.ensures c.set_cell.auto.0
 
 same_length : tie.Need-shape_of-bytes invariant-loop decreases-loop
 same_length c = c.loop-k.invariant.bytes.long

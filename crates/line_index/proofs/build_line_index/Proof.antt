@@ -4,7 +4,7 @@ use borrow.Author.Rules.{rules}
 use Prim.Native.Nat.{ℕ, ◌-◌, ◌≤◌}
 use mathlib.Core.Path.{◌≡◌, sym, ◌∙◌}
 use lib.ListN.{length, drop}
-use borrow.Author.Tests.{ltb-false, leb-true, leb-false, not-true, not_false}
+use borrow.Author.Tests.{ltb-false, leb-true, leb-false, not-true, not-false}
 use Rattle.recording.specs.Recording.{Recording, recording}
 use Rattle.recording.specs.Refusals.{recording_fault, data_limit}
 use Rattle.recording.proofs.FaultLaws.{no_fault}

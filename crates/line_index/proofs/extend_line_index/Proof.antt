@@ -5,7 +5,7 @@ use mathlib.Core.Path.{◌≡◌, sym, ◌∙◌}
 use mathlib.Core.Bool.{true}
 use mathlib.Core.List.{List}
 use lib.ListN.{length, take, drop}
-use borrow.Author.Tests.{ltb-false, leb-true, leb-false, not-true, not_false}
+use borrow.Author.Tests.{ltb-false, leb-true, leb-false, not-true, not-false}
 use Rattle.recording.specs.Recording.{Recording, recording}
 use Rattle.recording.specs.Refusals.{recording_fault, data_limit}
 use Rattle.recording.proofs.FaultLaws.{no_fault}

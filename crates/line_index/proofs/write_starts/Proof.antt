@@ -67,9 +67,9 @@ loop-again c =
     let ways
     = ⊎_elim
     (λ w. fill_more all rest c.args.index.now c.loop-at.index c.args.first c.loop-at.k S (omega (arith, c.requires.1)) (starts_from at (part at (at + 16) s)) next c.if-has_break.index c.if-has_break.k
-    (starts_part at (at + 16) s (omega arith) (omega arith)) (w.5 ∙ w.2.ensures.0) (ap length w.5 ∙ w.2.kept.1.1.1.0) (w.6 ∙ w.2.ensures.1))
+    (starts_part at (at + 16) s (omega arith) (omega arith)) (w.index-is ∙ w.put_starts-k.ensures.0) (ap length w.index-is ∙ w.put_starts-k.auto.index) (w.k-is ∙ w.put_starts-k.ensures.1))
     (λ w. fill_kept all rest c.args.index.now c.loop-at.index c.args.first c.loop-at.k S next c.if-has_break.index c.if-has_break.k
-    (starts_block 16 at s (ltb-false (to_break (drop at s)) 16 (sym c.has_break.ensures ∙ w.0.left))) w.1 w.2)
+    (starts_block 16 at s (ltb-false (to_break (drop at s)) 16 (sym c.has_break.ensures ∙ w.if-has_break.false))) w.index-is w.k-is)
     c.if-has_break.branch-raw in
     (omega (arith, c.loop-at.invariant.0), omega arith, ways)
 

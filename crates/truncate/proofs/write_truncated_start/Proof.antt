@@ -34,13 +34,13 @@ given s =
     let a = s.args in
     record {
       kind = truncated_start;
-      width = a.max-width;
+      width = a.max_width;
       ds = a.content.now;
       ns = a.entries.now;
       ts = a.text.now;
       fs = a.ellipsis.now;
-      gs = a.ellipsis-entries.now;
-      us = a.ellipsis-text.now;
+      gs = a.ellipsis_entries.now;
+      us = a.ellipsis_text.now;
       od = a.bytes.now;
       oe = a.numbers.now;
       ot = a.texts.now;
