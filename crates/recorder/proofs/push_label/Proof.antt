@@ -102,7 +102,7 @@ good : (c : tie.Else-not-is_well_formed) → fault (call (well c)) ≡ 0
 good c = let w = c.is_well_formed in good_label w.result (label (call (well c))) w.ensures (c.if-not-is_well_formed.false)
 
 abbrev fine : tie.After-place_label-place → tie.Else-not-is_well_formed
-fine c = c.before.before.before.before.before
+fine c = c.before.before.before
 
 abbrev searched : tie.After-place_label-place → tie.Start
 searched c = call (well (fine c))
@@ -202,7 +202,7 @@ part-place-label-start : tie.Need-slice_bounds-place_label-start
 part-place-label-start c = search rules
 
 part-place-label-end : tie.Need-slice_bounds-place_label-end
-part-place-label-end c = omega (arith, (inside (well c.before)).entry_numbers)
+part-place-label-end c = omega (arith, (inside (well c)).entry_numbers)
 
 sub-place-label-2 : tie.Need-slice_bounds-place_label-count-2
 sub-place-label-2 c = search rules
@@ -211,11 +211,11 @@ part-place-label-start-2 : tie.Need-slice_bounds-place_label-start-2
 part-place-label-start-2 c = search rules
 
 part-place-label-end-2 : tie.Need-slice_bounds-place_label-end-2
-part-place-label-end-2 c = omega (arith, (inside (well c.before.before.before)).text)
+part-place-label-end-2 c = omega (arith, (inside (well c.before)).text)
 
 place-label-requires : tie.Need-place_label-place-requires
 place-label-requires c κs =
-    let w = well c.before.before.before.before in
+    let w = well c.before.before in
     let a = (call w).args in
     omega (arith, text-used w, (within w).2, ap length (lent_front a.text_len a.text.now))
 
