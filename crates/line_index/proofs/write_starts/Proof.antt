@@ -80,7 +80,7 @@ put-starts-requires-2 c κs =
 
 same_length : tie.Need-shape_of-index invariant-loop decreases-loop
 same_length c =
-    c.put_starts.auto.1.1.1.0 ∙ c.loop-at.invariant.2.long
+    c.put_starts.auto.index ∙ c.loop-at.invariant.2.long
 
 returns : tie.Need-returns invariant-loop decreases-loop
 returns c =
@@ -90,7 +90,7 @@ returns c =
     let none = sym (append-nil (starts_from at (part at (length s) s))) in
     let e = sym (starts_rest at s c.loop-at.invariant.1) ∙ none in
     let h : c.args.first ≤ length c.args.index.now = omega (arith, c.requires.1) in
-    let S = fill_more _ (starts_from at (drop at s)) _ _ _ _ c.loop-at.invariant.2 h (starts_from at (part at (length s) s)) [] _ _ e r.ensures.0 r.auto.1.1.1.0 r.ensures.1 in
+    let S = fill_more _ (starts_from at (drop at s)) _ _ _ _ c.loop-at.invariant.2 h (starts_from at (part at (length s) s)) [] _ _ e r.ensures.0 r.auto.index r.ensures.1 in
     fill_end _ [] _ _ _ _ S refl
 
 pub write_starts_spec : {M : Type 1} → statement M
