@@ -34,7 +34,7 @@ put-requires-2 c κs =
     let z = (not-false _ c.if-not-p.false) in
     let k = c.put-end in
     let f = second_fits a.p a.content.now a.ellipsis.now a.from a.to a.at a.bytes.now c.requires.0.2 c.requires.0.1 z c.requires.0.3 _ c.requires.1.1 in
-    (omega arith, c.requires.0.3, omega (arith, f, k.ensures.0, k.auto.0))
+    (omega arith, c.requires.0.3, omega (arith, f, k.ensures.0, k.auto.out))
 
 same-length-2 : tie.Need-shape_of-bytes
 same-length-2 c = search rules

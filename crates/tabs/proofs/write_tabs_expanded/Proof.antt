@@ -137,7 +137,7 @@ put-expanded-requires c κs =
     let k = checked (tested c.before.before.before.before.before.before) in
     let s = start k in
     let g = good (tested c.before.before.before.before.before.before) in
-    let room = has_room (call s) (ds s) (ns s) (ts s) (lent s) (fine k).passed (good (tested c.before.before.before.before.before.before)).2 _ _ 0 refl (measured c.before.before.before.before.before.before.before).own_size-shared.ensures refl c.settle_expanded-verdict.result c.settle_expanded-verdict.ensures
+    let room = has_room (call s) (ds s) (ns s) (ts s) (lent s) (fine k).passed (good (tested c.before.before.before.before.before.before)).2 _ _ 0 refl (measured c.before.before.before.before.before.before).own_size-shared.ensures refl c.settle_expanded-verdict.result c.settle_expanded-verdict.ensures
     c.in-Room.is in
     ((refl, refl, (fine k).whole), ((g.0, g.1), room))
 
