@@ -3,7 +3,7 @@ use borrow.Author.Rules.{rules}
 use Rattle.call_lists.specs.Runs.{input_fault}
 use Rattle.writer.specs.Sizes.{settled_fault}
 use mathlib.Core.Path.{sym}
-use borrow.Author.Tests.{lt-ltb, le-ltb, eq-eqb, ne_eqb, not-true, not_false}
+use borrow.Author.Tests.{lt-ltb, le-ltb, eq-eqb, ne_eqb, not-true, not-false}
 use Rattle.call_lists.proofs.check_input.Statement.{statement}
 use Rattle.call_lists.proofs.check_input.Tie as tie
 use Rattle.call_lists.proofs.check_input.Reads as reads

@@ -32,7 +32,7 @@ abbrev found : tie.After-struct_known-1 invariant-loop decreases-loop → tie.Af
 found c = c.before
 
 -- the numbers that are added are small
-kept_small : (c : tie.After-struct_known-1 invariant-loop decreases-loop) → (found c).measure-cell.result.content + (found c).measure-cell.result.ellipsis ≤ 2097152
+kept_small : (c : tie.After-struct_known-1 invariant-loop decreases-loop) → (found c).measure_cell-p.result.content + (found c).measure_cell-p.result.ellipsis ≤ 2097152
 kept_small c =
     let f = found c in
     let n = within f.before.before.before in
@@ -40,11 +40,11 @@ kept_small c =
     let k = f.measure_cell-p.ensures.1 in
     omega (arith, k.0, k.1, l, n, f.requires.1.1.1, f.requires.1.1.2)
 
-total-small : (c : tie.After-struct_known-1 invariant-loop decreases-loop) → (found c).before.before.before.before.loop.total ≤ 68157440
+total-small : (c : tie.After-struct_known-1 invariant-loop decreases-loop) → (found c).before.before.before.before.loop-k.total ≤ 68157440
 total-small c =
     let l = (found c).before.before.before in
     let s = l.before.before.before.before in
-    omega (arith, l.before.loop.invariant.small, above l, within l, l.loop-test.true, few _ _ s.requires.1.1.0, s.requires.1.1.1)
+    omega (arith, l.before.loop-k.invariant.small, above l, within l, l.loop-test.true, few _ _ s.requires.1.1.0, s.requires.1.1.1)
 
 loop-holds : tie.Need-loop-k-init invariant-loop decreases-loop
 loop-holds c =

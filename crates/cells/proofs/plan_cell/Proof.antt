@@ -22,8 +22,8 @@ returns : tie.Need-returns-then-cell-max
 returns c =
     let x = c.args in
     let w = c.text_width in
-    let k = cell_short (mark_of x.max-width x.ellipsis.now) x.max-width w.result x.cell.now c.if-cell-max.true w.ensures.0 in
-    (k.0 ∙ plan_with_lem x.max-width x.ellipsis.now x.cell.now, (omega arith, omega arith))
+    let k = cell_short (mark_of x.max_width x.ellipsis.now) x.max_width w.result x.cell.now c.if-cell-max.true w.ensures.0 in
+    (k.0 ∙ plan_with_lem x.max_width x.ellipsis.now x.cell.now, (omega arith, omega arith))
 
 measure-ellipsis-requires : tie.Need-measure_ellipsis-m-requires
 unfolding lead_table
@@ -38,7 +38,7 @@ returns-2 c =
     let x = c.args in
     let m = c.measure_ellipsis-m in
     let r = c.measure_cell in (
-      r.ensures.0 ∙ ap (λ (k : Mark). plan_with k x.max-width x.cell.now) m.ensures.0 ∙ plan_with_lem x.max-width x.ellipsis.now x.cell.now,
+      r.ensures.0 ∙ ap (λ (k : Mark). plan_with k x.max_width x.cell.now) m.ensures.0 ∙ plan_with_lem x.max_width x.ellipsis.now x.cell.now,
       (r.ensures.1.0, omega (arith, r.ensures.1.1, m.ensures.1.0)),
     )
 

@@ -53,10 +53,10 @@ abbrev cell : tie.In-loop-k invariant-loop decreases-loop → List ℕ
 cell c = part c.loop-k.from (end c) (start c).args.content.now
 
 planned : (c : tie.After-measure_cell-p invariant-loop decreases-loop)
-    → c.measure_cell-p.result ≡ plan_with (mark_of (start (turn c)).args.max-width (start (turn c)).args.ellipsis.now) (start (turn c)).args.max-width (cell (turn c))
+    → c.measure_cell-p.result ≡ plan_with (mark_of (start (turn c)).args.max_width (start (turn c)).args.ellipsis.now) (start (turn c)).args.max_width (cell (turn c))
 planned c =
     let a = (start (turn c)).args in
-    c.measure_cell-p.ensures.0 ∙ ap (λ (k : Mark). plan_with k a.max-width (cell (turn c))) (start (turn c)).requires.1.0.0
+    c.measure_cell-p.ensures.0 ∙ ap (λ (k : Mark). plan_with k a.max_width (cell (turn c))) (start (turn c)).requires.1.0.0
 
 loop-holds : tie.Need-loop-k-init invariant-loop decreases-loop
 loop-holds c =
@@ -114,30 +114,30 @@ cast-set-cell c =
 cast-set-cell-2 : tie.Need-overflow_cast-p invariant-loop decreases-loop
 cast-set-cell-2 c =
     let f = (put c).before.before in
-    omega (arith, f.measure-cell.ensures.1.2, (start (turn f)).fits)
+    omega (arith, f.measure_cell-p.ensures.1.2, (start (turn f)).fits)
 
 set-cell-requires : tie.Need-set_cell-requires invariant-loop decreases-loop
 set-cell-requires c κs =
     let f = (put c).before.before in
     let l = turn f in
-    numbers_fit _ _ _ _ _ _ _ _ _ _ _ l.before.loop.invariant l.loop-test.true f.measure-cell.result (cell l) (end l) refl refl (planned f) (start l).requires.1.1.1.2
+    numbers_fit _ _ _ _ _ _ _ _ _ _ _ l.before.loop-k.invariant l.loop-k-test.true f.measure_cell-p.result (cell l) (end l) refl refl (planned f) (start l).requires.1.1.1.2
 
 add-k : tie.Need-overflow_add-k invariant-loop decreases-loop
 add-k c =
     let l = turn (put c.before.before.before).before.before in
-    omega (arith, l.loop-test.true, few _ _ (start l).requires.1.1.0)
+    omega (arith, l.loop-k-test.true, few _ _ (start l).requires.1.1.0)
 
 loop-less : tie.Need-loop-k-smaller invariant-loop decreases-loop
 loop-less c =
     let l = turn (put c.before.before.before).before.before in
-    omega (arith, l.loop-test.true)
+    omega (arith, l.loop-k-test.true)
 
 loop-again : tie.Need-loop-k-preserved invariant-loop decreases-loop
 loop-again c =
     let p = put c.before.before.before in
     let l = turn p.before.before in
     write_next _ _ _ _ _ _ _ _ _ _ _ l.loop-k.invariant l.loop-k-test.true p.measure_cell-p.result (cell l) (end l) refl refl (planned p.before.before) _ _ _ p.put_cell-at.ensures.0 p.put_cell-at.ensures.1
-    p.put_cell-at.kept.0 c.set_cell.ensures c.set_cell.auto.0
+    p.put_cell-at.auto.bytes c.set_cell.ensures c.set_cell.auto.0
 
 same_length : tie.Need-shape_of-bytes invariant-loop decreases-loop
 same_length c = c.loop-k.invariant.bytes.long

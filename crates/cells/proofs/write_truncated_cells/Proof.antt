@@ -35,24 +35,24 @@ tested c = c.before.before.before.before
 settled : (c : tie.After-settle_cells-verdict)
     → let a = (start (tested c)).args in
     settled_fault c.settle_cells-verdict.result
-    ≡ sizes_fault (length_with (mark_of a.max-width a.ellipsis.now) a.max-width (parts a.ends.now a.content.now)) 0 0 (length a.ends.now * 2)
+    ≡ sizes_fault (length_with (mark_of a.max_width a.ellipsis.now) a.max_width (parts a.ends.now a.content.now)) 0 0 (length a.ends.now * 2)
     (room_of_state (length a.bytes.now) 0 0 (length a.cells.now))
 settled c =
     let a = (start (tested c)).args in
     c.settle_cells-verdict.ensures
-    ∙ ap (λ (k : Mark). sizes_fault (length_with k a.max-width (parts a.ends.now a.content.now)) 0 0 (length a.ends.now * 2) (room_of_state (length a.bytes.now) 0 0 (length a.cells.now)))
+    ∙ ap (λ (k : Mark). sizes_fault (length_with k a.max_width (parts a.ends.now a.content.now)) 0 0 (length a.ends.now * 2) (room_of_state (length a.bytes.now) 0 0 (length a.cells.now)))
     c.measure_ellipsis-m.ensures.0
 
 -- ── what is asked on the way
 returns : tie.Need-returns-then-content-gt-DATA_LIMIT
 returns c =
     let a = c.args in
-    data_refused a.max-width a.ends.now a.ellipsis.now a.content.now a.bytes.now a.cells.now c.if-content-gt-DATA_LIMIT.true
+    data_refused a.max_width a.ends.now a.ellipsis.now a.content.now a.bytes.now a.cells.now c.if-content-gt-DATA_LIMIT.true
 
 returns-2 : tie.Need-returns-then-ellipsis-gt-DATA_LIMIT
 returns-2 c =
     let a = c.args in
-    ellipsis_refused a.max-width a.ends.now a.ellipsis.now a.content.now a.bytes.now a.cells.now c.if-content-gt-DATA_LIMIT.false c.if-ellipsis-gt-DATA_LIMIT.true
+    ellipsis_refused a.max_width a.ends.now a.ellipsis.now a.content.now a.bytes.now a.cells.now c.if-content-gt-DATA_LIMIT.false c.if-ellipsis-gt-DATA_LIMIT.true
 
 wrong-ends-requires : tie.Need-wrong_ends-requires
 wrong-ends-requires c κs = search rules
@@ -61,7 +61,7 @@ returns-3 : tie.Need-returns-then-wrong_ends
 returns-3 c =
     let a = c.args in
     let w = c.wrong_ends in
-    ends_refused a.max-width a.ends.now a.ellipsis.now a.content.now a.bytes.now a.cells.now c.if-content-gt-DATA_LIMIT.false c.if-ellipsis-gt-DATA_LIMIT.false
+    ends_refused a.max_width a.ends.now a.ellipsis.now a.content.now a.bytes.now a.cells.now c.if-content-gt-DATA_LIMIT.false c.if-ellipsis-gt-DATA_LIMIT.false
     (sym w.ensures ∙ c.if-wrong_ends.true)
 
 measure-ellipsis-requires : tie.Need-measure_ellipsis-m-requires
@@ -81,7 +81,7 @@ returns-4 : tie.Need-returns-in-Refused
 returns-4 c =
     let t = tested c.before in
     let a = (start t).args in
-    sizes_refused a.max-width a.ends.now a.ellipsis.now a.content.now a.bytes.now a.cells.now t.if-content-gt-DATA_LIMIT.false t.if-ellipsis-gt-DATA_LIMIT.false (right t)
+    sizes_refused a.max_width a.ends.now a.ellipsis.now a.content.now a.bytes.now a.cells.now t.if-content-gt-DATA_LIMIT.false t.if-ellipsis-gt-DATA_LIMIT.false (right t)
     c.settle_cells-verdict.result (settled c.before) c.in-Refused.f c.in-Refused.is
 
 enum_told : tie.Need-enum_told-1
@@ -93,7 +93,7 @@ put-cells-requires c κs =
     let t = tested c.before.before.before.before in
     let a = (start t).args in
     let m = c.measure_ellipsis-m in
-    let h = has_room a.max-width a.ends.now a.ellipsis.now a.content.now a.bytes.now a.cells.now t.if-content-gt-DATA_LIMIT.false t.if-ellipsis-gt-DATA_LIMIT.false (right t)
+    let h = has_room a.max_width a.ends.now a.ellipsis.now a.content.now a.bytes.now a.cells.now t.if-content-gt-DATA_LIMIT.false t.if-ellipsis-gt-DATA_LIMIT.false (right t)
     c.settle_cells-verdict.result (settled c.before.before.before.before) c.in-Room.is in
     (refl, ((m.ensures.0, m.ensures.1.1, m.ensures.1.0), (right t, h)))
 
@@ -108,7 +108,7 @@ returns-5 c =
     let t = tested c.before.before.before.before.before.before.before.before.before in
     let a = (start t).args in
     let e = c.put_cells-end.ensures in
-    written a.max-width a.ends.now a.ellipsis.now a.content.now a.bytes.now a.cells.now t.if-content-gt-DATA_LIMIT.false t.if-ellipsis-gt-DATA_LIMIT.false (right t)
+    written a.max_width a.ends.now a.ellipsis.now a.content.now a.bytes.now a.cells.now t.if-content-gt-DATA_LIMIT.false t.if-ellipsis-gt-DATA_LIMIT.false (right t)
     c.settle_cells-verdict.result (settled c.before.before.before.before.before.before.before.before.before) c.in-Room.is _ _ _ e.0 e.1.0 e.1.1
 
 pub write_truncated_cells_spec : {M : Type 1} → statement M

@@ -28,8 +28,7 @@ returns-3 c = (
     le-ltb _ _ c.if-text-gt-LIMIT.false,
     le-ltb _ _ c.if-ellipsis-gt-LIMIT.false,
     ← c.long_well_formed.ensures,
-    not-true
-        c.long_well_formed.result c.if-not-long_well_formed.true,
+    c.if-not-long_well_formed.true,
   ),
   λ z. absurd (omega (arith, z)),
 )

@@ -40,8 +40,8 @@ given s =
       ns = a.entries.now;
       ts = a.text.now;
       fs = a.prefix.now;
-      gs = a.prefix-entries.now;
-      us = a.prefix-text.now;
+      gs = a.prefix_entries.now;
+      us = a.prefix_text.now;
       od = a.bytes.now;
       oe = a.numbers.now;
       ot = a.texts.now;
@@ -49,7 +49,7 @@ given s =
 
 -- once both recordings are checked
 abbrev start : tie.In-Fine → tie.Start
-start c = c.before.before.before.before.before.before.before.before.before.before.before.before
+start c = c.before.before.before.before.before.before.before.before.before.before.before
 
 abbrev sizes : tie.In-Fine → TextSizes
 sizes c = c.in-Fine.n

@@ -4,7 +4,7 @@ use borrow.Author.Rules.{rules}
 use Prim.Native.Nat.{ℕ, ◌-◌, ◌≤◌}
 use mathlib.Core.Path.{◌≡◌, sym, ◌∙◌}
 use lib.ListN.{length, drop}
-use borrow.Author.Tests.{ltb-false, leb-true, leb-false, not-true, not_false}
+use borrow.Author.Tests.{ltb-false, leb-true, leb-false, not-true, not-false}
 use Rattle.recording.specs.Recording.{Recording, recording}
 use Rattle.recording.specs.Refusals.{recording_fault, data_limit}
 use Rattle.recording.proofs.FaultLaws.{no_fault}
@@ -79,7 +79,7 @@ write-index-requires : tie.Need-write_index-count-requires
 write-index-requires c κs = (short c.before.before.before.before, fits c.before)
 
 same_length : tie.Need-shape_of-index
-same_length c = c.write_index-count.auto.1.0
+same_length c = c.write_index-count.auto.index
 
 returns-4 : tie.Need-returns
 returns-4 c =

@@ -4,7 +4,7 @@ use borrow.Author.Rules.{rules}
 use Prim.Native.Nat.{ℕ, ◌-◌}
 use mathlib.Core.Path.{sym, ap, ◌∙◌}
 use lib.ListN.{length}
-use borrow.Author.Tests.{not-true, not_false}
+use borrow.Author.Tests.{not-true, not-false}
 use Rattle.line_index.proofs.AskLaws.{ask_none, ask_first, ask_behind, ask_count}
 use lib.Dec.{eqb}
 use Rattle.line_index.proofs.is_index.Statement.{statement}

@@ -4,7 +4,7 @@ use borrow.Author.Rules.{rules}
 use Prim.Native.Nat.{◌-◌}
 use mathlib.Core.Path.{◌≡◌, sym, ◌∙◌}
 use mathlib.Core.Bool.{true}
-use borrow.Author.Tests.{not-true, not_false}
+use borrow.Author.Tests.{not-true, not-false}
 use Rattle.recording.specs.Recording.{Recording, recording}
 use Rattle.recording.specs.Refusals.{recording_fault}
 use Rattle.recording.proofs.CheckLaws.{refused-number, fine_zero}

@@ -66,7 +66,7 @@ opened-requires c κs =
     )
 
 add-k : tie.Need-overflow_add-k invariant-loop decreases-loop
-add-k c = omega (arith, entire c.before.before.before.before, (start c.before.before.before.before.before).good)
+add-k c = omega (arith, entire c.before.before.before.before, (start c.before.before.before.before.before).well_formed)
 
 place-at-requires-2 : tie.Need-place_at-p-requires-in-loop-p invariant-loop decreases-loop
 place-at-requires-2 c κs = entire c.before.before.before.before

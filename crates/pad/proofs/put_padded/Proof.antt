@@ -41,7 +41,7 @@ put-padding-requires-2 c κs =
 same_length : tie.Need-shape_of-bytes
 same_length c =
     let m = content-done c.before.before.before.before.before.before in
-    c.put_padding.auto.bytes ∙ m.put_recording-b.kept.0 ∙ (left-done m).put_padding-a.kept.0
+    c.put_padding.auto.bytes ∙ m.put_recording-b.auto.bytes ∙ (left-done m).put_padding-a.auto.bytes
 
 same-length-2 : tie.Need-shape_of-numbers
 same-length-2 c = search rules

@@ -85,7 +85,7 @@ put-entry-requires : tie.Need-put_entry-f-requires invariant-loop decreases-loop
 put-entry-requires c κs =
     let t = turn c.before.before.before.before in
     entry_asked _ _ _ _ _ _ _ _ _ _ _ _ _ t.loop-p.invariant (room t.before) t.loop-p-test.true _ c.entry_at-e.ensures
-    _ c.put_times-f.ensures.0 (omega (arith, (start t.before).good))
+    _ c.put_times-f.ensures.0 (omega (arith, (start t.before).well_formed))
 
 place-at-requires-2 : tie.Need-place_at-p-requires-in-loop-p invariant-loop decreases-loop
 place-at-requires-2 c κs =

@@ -3,7 +3,7 @@
 use borrow.Author.Rules.{rules}
 use mathlib.Core.Path.{◌≡◌, sym, ◌∙◌}
 use lib.ListN.{length}
-use borrow.Author.Tests.{ltb-false, not-true, not_false}
+use borrow.Author.Tests.{ltb-false, not-true, not-false}
 use Rattle.recording.specs.Recording.{Recording, recording, items, text_of}
 use Rattle.recording.specs.Refusals.{recording_fault}
 use Rattle.recording.proofs.FaultLaws.{no_fault}

@@ -42,7 +42,7 @@ opened-requires c κs =
     may_open _ _ _ _ _ _ _ c.loop-p.invariant c.loop-p-test.true _ c.entry_at-e.ensures (omega (arith, (start c.before.before.before).well_formed))
 
 behind-entry-requires : tie.Need-behind_entry-c-requires invariant-loop decreases-loop
-behind-entry-requires c κs = omega (arith, entire c.before.before, (start c.before.before.before.before).good)
+behind-entry-requires c κs = omega (arith, entire c.before.before, (start c.before.before.before.before).well_formed)
 
 place-at-requires-2 : tie.Need-place_at-p-requires-in-loop-p invariant-loop decreases-loop
 place-at-requires-2 c κs = omega (arith, entire c.before.before.before, c.behind_entry-c.ensures.1)

@@ -54,7 +54,7 @@ opened-requires : tie.Need-opened-o-requires invariant-loop decreases-loop
 opened-requires c κs =
     let t = turn c in
     may_open _ _ _ _ _ _ _ t.loop-p.invariant.passing t.loop-p-test.true _ c.entry_at-e.ensures
-    (omega (arith, (start t.before.before).good))
+    (omega (arith, (start t.before.before).well_formed))
 
 place-at-requires-2 : tie.Need-place_at-p-requires-in-loop-p invariant-loop decreases-loop
 place-at-requires-2 c κs = omega (arith, entire (turn c.before), c.put_unless-c.ensures.1)

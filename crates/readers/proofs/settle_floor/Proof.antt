@@ -21,7 +21,7 @@ enum_told c = search rules
 returns : tie.Need-returns-in-Room
 returns c =
     let a = c.args in
-    floor_roomy a.label.now (recording a.content.now a.entries.now a.text.now) c.settle-verdict.result a.floor-entries a.floor-text
+    floor_roomy a.label.now (recording a.content.now a.entries.now a.text.now) c.settle-verdict.result a.floor_entries a.floor_text
     (room_of_state a.bytes a.numbers a.texts 0) c.settle-verdict.ensures c.in-Room.is
 
 enum-known-verdict : tie.Need-enum_known-verdict
@@ -36,7 +36,7 @@ settle-requires-2 c κs = search rules
 returns-2 : tie.Need-returns
 returns-2 c =
     let a = c.args in
-    c.settle.ensures ∙ ap (λ (d : ℕ). sizes_fault d a.floor-entries a.floor-text 0 (room_of_state a.bytes a.numbers a.texts 0)) c.floor_len-d.ensures
+    c.settle.ensures ∙ ap (λ (d : ℕ). sizes_fault d a.floor_entries a.floor_text 0 (room_of_state a.bytes a.numbers a.texts 0)) c.floor_len-d.ensures
 
 pub settle_floor_spec : {M : Type 1} → statement M
 settle_floor_spec =

@@ -30,11 +30,11 @@ unfolding popped with_pop
 returns c =
     let a = c.args in
     let b = lent_of a.content.now a.entries.now a.text.now in
-    let u = used_of b a.content-len a.entries-len a.text-len in
+    let u = used_of b a.content_len a.entries_len a.text_len in
     let q = with_entry 1 0 0 [] u in
     let k = c.check_used-checked in
-    add-refused (add_faults 0 b a.content-len a.entries-len a.text-len) b q c.in-Refused.f
-    (check_refused b a.content-len a.entries-len a.text-len k.result k.ensures 0 (room_in b) (leaves q) c.in-Refused.f c.in-Refused.is)
+    add-refused (add_faults 0 b a.content_len a.entries_len a.text_len) b q c.in-Refused.f
+    (check_refused b a.content_len a.entries_len a.text_len k.result k.ensures 0 (room_in b) (leaves q) c.in-Refused.f c.in-Refused.is)
 
 enum_told : tie.Need-enum_told-1
 enum_told c = search rules
@@ -44,7 +44,7 @@ add-settle c =
     let a = c.args in
     let b = lent_of a.content.now a.entries.now a.text.now in
     let k = c.check_used-checked in
-    omega (arith, limits b a.content-len a.entries-len a.text-len k.result k.ensures c.in-Fine.field-0 c.in-Fine.is, c.well_formed)
+    omega (arith, limits b a.content_len a.entries_len a.text_len k.result k.ensures c.in-Fine.field-0 c.in-Fine.is, c.well_formed)
 
 settle-requires : tie.Need-settle-verdict-requires
 settle-requires c κs = search rules
@@ -60,15 +60,15 @@ unfolding popped with_pop
 returns-2 c =
     let a = c.args in
     let b = lent_of a.content.now a.entries.now a.text.now in
-    let u = used_of b a.content-len a.entries-len a.text-len in
+    let u = used_of b a.content_len a.entries_len a.text_len in
     let q = with_entry 1 0 0 [] u in
     let k = c.check_used-checked in
     let v = c.settle-verdict in
-    let i = is_inside b a.content-len a.entries-len a.text-len k.result k.ensures c.in-Fine.field-0 c.in-Fine.is in
-    let s = entry_sizes b a.content-len a.entries-len a.text-len [] i 1 0 0 in
-    add-refused (add_faults 0 b a.content-len a.entries-len a.text-len) b q c.in-Refused-verdict.f
-    (too_large b a.content-len a.entries-len a.text-len k.result k.ensures c.in-Fine.field-0 c.in-Fine.is 0 refl (room_in b) (leaves q) v.result a.content-len (a.entries-len + 4)
-    a.text-len v.ensures s.0 s.1 (omega (arith, s.2)) refl c.in-Refused-verdict.f c.in-Refused-verdict.is)
+    let i = is_inside b a.content_len a.entries_len a.text_len k.result k.ensures c.in-Fine.field-0 c.in-Fine.is in
+    let s = entry_sizes b a.content_len a.entries_len a.text_len [] i 1 0 0 in
+    add-refused (add_faults 0 b a.content_len a.entries_len a.text_len) b q c.in-Refused-verdict.f
+    (too_large b a.content_len a.entries_len a.text_len k.result k.ensures c.in-Fine.field-0 c.in-Fine.is 0 refl (room_in b) (leaves q) v.result a.content_len (a.entries_len + 4)
+    a.text_len v.ensures s.0 s.1 (omega (arith, s.2)) refl c.in-Refused-verdict.f c.in-Refused-verdict.is)
 
 enum-told-2 : tie.Need-enum_told-in-Room
 enum-told-2 c = search rules
@@ -80,7 +80,7 @@ cast-t18 c =
     let k = c.check_used-checked in
     omega (
       arith,
-      limits b a.content-len a.entries-len a.text-len k.result k.ensures c.in-Fine.field-0 c.in-Fine.is,
+      limits b a.content_len a.entries_len a.text_len k.result k.ensures c.in-Fine.field-0 c.in-Fine.is,
       c.well_formed,
     )
 
@@ -88,15 +88,15 @@ set-entry-requires : tie.Need-set_entry-requires
 set-entry-requires c κs =
     let a = c.args in
     let b = lent_of a.content.now a.entries.now a.text.now in
-    let u = used_of b a.content-len a.entries-len a.text-len in
+    let u = used_of b a.content_len a.entries_len a.text_len in
     let q = with_entry 1 0 0 [] u in
     let k = c.check_used-checked in
     let v = c.settle-verdict in
-    let i = is_inside b a.content-len a.entries-len a.text-len k.result k.ensures c.in-Fine.field-0 c.in-Fine.is in
-    let s = entry_sizes b a.content-len a.entries-len a.text-len [] i 1 0 0 in
-    let f = fits b a.content-len a.entries-len a.text-len k.result k.ensures c.in-Fine.field-0 c.in-Fine.is 0 refl (room_in b) (leaves q) v.result a.content-len (a.entries-len + 4)
-    a.text-len v.ensures s.0 s.1 (omega (arith, s.2)) refl c.in-Room.is in
-    let m = limits b a.content-len a.entries-len a.text-len k.result k.ensures c.in-Fine.field-0 c.in-Fine.is in
+    let i = is_inside b a.content_len a.entries_len a.text_len k.result k.ensures c.in-Fine.field-0 c.in-Fine.is in
+    let s = entry_sizes b a.content_len a.entries_len a.text_len [] i 1 0 0 in
+    let f = fits b a.content_len a.entries_len a.text_len k.result k.ensures c.in-Fine.field-0 c.in-Fine.is 0 refl (room_in b) (leaves q) v.result a.content_len (a.entries_len + 4)
+    a.text_len v.ensures s.0 s.1 (omega (arith, s.2)) refl c.in-Room.is in
+    let m = limits b a.content_len a.entries_len a.text_len k.result k.ensures c.in-Fine.field-0 c.in-Fine.is in
     omega (arith, f.entry_room, s.1)
 
 add-t14 : tie.Need-overflow_add-result
@@ -106,7 +106,7 @@ add-t14 c =
     let k = c.check_used-checked in
     omega (
       arith,
-      limits b a.content-len a.entries-len a.text-len k.result k.ensures c.in-Fine.field-0 c.in-Fine.is,
+      limits b a.content_len a.entries_len a.text_len k.result k.ensures c.in-Fine.field-0 c.in-Fine.is,
       c.well_formed,
     )
 
@@ -118,17 +118,17 @@ unfolding popped with_pop
 returns-3 c =
     let a = c.args in
     let b = lent_of a.content.now a.entries.now a.text.now in
-    let u = used_of b a.content-len a.entries-len a.text-len in
+    let u = used_of b a.content_len a.entries_len a.text_len in
     let q = with_entry 1 0 0 [] u in
     let k = c.check_used-checked in
     let v = c.settle-verdict in
     let p = c.set_entry in
-    let i = is_inside b a.content-len a.entries-len a.text-len k.result k.ensures c.in-Fine.field-0 c.in-Fine.is in
-    let s = entry_sizes b a.content-len a.entries-len a.text-len [] i 1 0 0 in
-    let z = accepted b a.content-len a.entries-len a.text-len k.result k.ensures c.in-Fine.field-0 c.in-Fine.is 0 refl (room_in b) (leaves q) v.result a.content-len
-    (a.entries-len + 4) a.text-len v.ensures s.0 s.1 (omega (arith, s.2)) refl c.in-Room.is in
-    let w = entry_left b a.content-len a.entries-len a.text-len [] i 1 0 0 0 _ _ refl p.ensures (sym (over_none _ _)) in
-    add_done (add_faults 0 b a.content-len a.entries-len a.text-len) b q a.content-len (a.entries-len + 4) a.text-len _ _ _ z s.0 s.1 (omega (arith, s.2)) w.0
+    let i = is_inside b a.content_len a.entries_len a.text_len k.result k.ensures c.in-Fine.field-0 c.in-Fine.is in
+    let s = entry_sizes b a.content_len a.entries_len a.text_len [] i 1 0 0 in
+    let z = accepted b a.content_len a.entries_len a.text_len k.result k.ensures c.in-Fine.field-0 c.in-Fine.is 0 refl (room_in b) (leaves q) v.result a.content_len
+    (a.entries_len + 4) a.text_len v.ensures s.0 s.1 (omega (arith, s.2)) refl c.in-Room.is in
+    let w = entry_left b a.content_len a.entries_len a.text_len [] i 1 0 0 0 _ _ refl p.ensures (sym (over_none _ _)) in
+    add_done (add_faults 0 b a.content_len a.entries_len a.text_len) b q a.content_len (a.entries_len + 4) a.text_len _ _ _ z s.0 s.1 (omega (arith, s.2)) w.0
     w.1 w.2 refl
 
 pub pop_label_spec : {M : Type 1} → statement M

@@ -2,7 +2,7 @@
 -- The search of the label finds where the definition has its part (`found`).
 use native.Mathlib.Omega.{arith}
 use borrow.Author.Rules.{rules}
-use borrow.Author.Tests.{not-true, not_false}
+use borrow.Author.Tests.{not-true, not-false}
 use mathlib.Core.Bool.{not}
 use mathlib.Core.Path.{◌≡◌, refl, ap, ◌∙◌}
 use Prim.Native.Nat.{ℕ, ◌+◌, ◌-◌, ◌≤◌}
@@ -34,7 +34,7 @@ abbrev lent : tie.Start → Lent
 lent s = let a = s.args in lent_of a.content.now a.entries.now a.text.now
 
 abbrev used : tie.Start → Recording
-used s = let a = s.args in used_of (lent s) a.content-len a.entries-len a.text-len
+used s = let a = s.args in used_of (lent s) a.content_len a.entries_len a.text_len
 
 abbrev label : tie.Start → Bytes
 label s = s.args.label.now
@@ -62,23 +62,23 @@ checked c = c.before
 abbrev call : tie.In-Fine → tie.Start
 call c = start (checked c)
 
-inside : (c : tie.In-Fine) → let a = (call c).args in Inside (lent (call c)) a.content-len a.entries-len a.text-len
+inside : (c : tie.In-Fine) → let a = (call c).args in Inside (lent (call c)) a.content_len a.entries_len a.text_len
 inside c =
     let a = (call c).args in
     let k = (checked c).check_used-checked in
-    is_inside (lent (call c)) a.content-len a.entries-len a.text-len k.result k.ensures c.in-Fine.field-0 c.in-Fine.is
+    is_inside (lent (call c)) a.content_len a.entries_len a.text_len k.result k.ensures c.in-Fine.field-0 c.in-Fine.is
 
-within : (c : tie.In-Fine) → let a = (call c).args in (a.content-len ≤ 1048576) × (a.entries-len ≤ 16384) × (a.text-len ≤ 65536)
+within : (c : tie.In-Fine) → let a = (call c).args in (a.content_len ≤ 1048576) × (a.entries_len ≤ 16384) × (a.text_len ≤ 65536)
 within c =
     let a = (call c).args in
     let k = (checked c).check_used-checked in
-    limits (lent (call c)) a.content-len a.entries-len a.text-len k.result k.ensures c.in-Fine.field-0 c.in-Fine.is
+    limits (lent (call c)) a.content_len a.entries_len a.text_len k.result k.ensures c.in-Fine.field-0 c.in-Fine.is
 
-text-used : (c : tie.In-Fine) → length (used (call c)).text ≡ (call c).args.text-len
+text-used : (c : tie.In-Fine) → length (used (call c)).text ≡ (call c).args.text_len
 text-used c =
     let a = (call c).args in
     let k = (checked c).check_used-checked in
-    used_t (lent (call c)) a.content-len a.entries-len a.text-len k.result k.ensures c.in-Fine.field-0 c.in-Fine.is
+    used_t (lent (call c)) a.content_len a.entries_len a.text_len k.result k.ensures c.in-Fine.field-0 c.in-Fine.is
 
 -- the label's part lies in the text
 part_in : (c : tie.In-Fine) → from (call c) + length (label (call c)) ≤ length (used (call c)).text + length (new (call c))
@@ -86,7 +86,7 @@ part_in c =
     let s = call c in
     let a = s.args in
     let k = (checked c).check_used-checked in
-    let f = is_fine (lent s) a.content-len a.entries-len a.text-len k.result k.ensures c.in-Fine.field-0 c.in-Fine.is in
+    let f = is_fine (lent s) a.content_len a.entries_len a.text_len k.result k.ensures c.in-Fine.field-0 c.in-Fine.is in
     let es = entries_of (used s).entry_numbers in
     omega (
       arith,
@@ -102,7 +102,7 @@ good : (c : tie.Else-not-is_well_formed) → fault (call (well c)) ≡ 0
 good c = let w = c.is_well_formed in good_label w.result (label (call (well c))) w.ensures (c.if-not-is_well_formed.false)
 
 abbrev fine : tie.After-place_label-place → tie.Else-not-is_well_formed
-fine c = c.before.before.before.before.before
+fine c = c.before.before.before
 
 abbrev searched : tie.After-place_label-place → tie.Start
 searched c = call (well (fine c))
@@ -110,8 +110,8 @@ searched c = call (well (fine c))
 found : (c : tie.After-place_label-place) → (c.place_label-place.result.start ≡ from (searched c)) × (c.place_label-place.result.add ≡ length (new (searched c)))
 found c =
     let a = (searched c).args in
-    let n = lent_front a.entries-len a.entries.now in
-    let t = lent_front a.text-len a.text.now in
+    let n = lent_front a.entries_len a.entries.now in
+    let t = lent_front a.text_len a.text.now in
     let e = c.place_label-place.ensures in (
       e.0 ∙ (λ i. start_in a.label.now (t i) (length (t i)) (entries_of (n i))),
       e.1 ∙ (λ i. length (new_text a.label.now (t i) (entries_of (n i)))),
@@ -128,12 +128,12 @@ lent-new c =
 sizes : (c : tie.After-place_label-place)
     → let s = searched c in
     let a = s.args in
-    (a.content-len ≡ length (result s).data_bytes) × (a.entries-len + 4 ≡ length (result s).entry_numbers) × (a.text-len + c.place_label-place.result.add ≡ length (result s).text)
+    (a.content_len ≡ length (result s).data_bytes) × (a.entries_len + 4 ≡ length (result s).entry_numbers) × (a.text_len + c.place_label-place.result.add ≡ length (result s).text)
 sizes c =
     let s = searched c in
     let a = s.args in
-    let z = entry_sizes (lent s) a.content-len a.entries-len a.text-len (new s) (inside (well (fine c))) 0 (from s) (length (label s)) in
-    (z.0, z.1, ap (λ (n : ℕ). a.text-len + n) (found c).1 ∙ z.2)
+    let z = entry_sizes (lent s) a.content_len a.entries_len a.text_len (new s) (inside (well (fine c))) 0 (from s) (length (label s)) in
+    (z.0, z.1, ap (λ (n : ℕ). a.text_len + n) (found c).1 ∙ z.2)
 
 -- once the sizes are settled
 abbrev placed : tie.After-settle-verdict → tie.After-place_label-place
@@ -148,7 +148,7 @@ fitting c =
     let k = (checked w).check_used-checked in
     let v = c.settle-verdict in
     let z = sizes p in
-    fits (lent s) a.content-len a.entries-len a.text-len k.result k.ensures w.in-Fine.field-0 w.in-Fine.is (fault s) (good (fine p)) (room_in (lent s)) (leaves (result s))
+    fits (lent s) a.content_len a.entries_len a.text_len k.result k.ensures w.in-Fine.field-0 w.in-Fine.is (fault s) (good (fine p)) (room_in (lent s)) (leaves (result s))
     v.result _ _ _ v.ensures z.0 z.1 z.2 refl c.in-Room.is
 
 -- ── what is asked on the way
@@ -169,8 +169,8 @@ unfolding pushed with_label
 returns c =
     let s = start c.before in
     let a = s.args in
-    add-refused (add_faults (fault s) (lent s) a.content-len a.entries-len a.text-len) (lent s) (result s) c.in-Refused.f
-    (check_refused (lent s) a.content-len a.entries-len a.text-len c.check_used-checked.result c.check_used-checked.ensures (fault s) (room_in (lent s)) (leaves (result s)) c.in-Refused.f c.in-Refused.is)
+    add-refused (add_faults (fault s) (lent s) a.content_len a.entries_len a.text_len) (lent s) (result s) c.in-Refused.f
+    (check_refused (lent s) a.content_len a.entries_len a.text_len c.check_used-checked.result c.check_used-checked.ensures (fault s) (room_in (lent s)) (leaves (result s)) c.in-Refused.f c.in-Refused.is)
 
 enum_told : tie.Need-enum_told-1
 enum_told c = search rules
@@ -191,8 +191,8 @@ returns-2 c =
     let a = s.args in
     let k = (checked c.before.before).check_used-checked in
     let w = c.is_well_formed in
-    add-refused (add_faults (fault s) (lent s) a.content-len a.entries-len a.text-len) (lent s) (result s) LabelIllFormed
-    (added_refused (lent s) a.content-len a.entries-len a.text-len k.result k.ensures c.in-Fine.field-0 c.in-Fine.is (fault s) (room_in (lent s)) (leaves (result s)) LabelIllFormed
+    add-refused (add_faults (fault s) (lent s) a.content_len a.entries_len a.text_len) (lent s) (result s) LabelIllFormed
+    (added_refused (lent s) a.content_len a.entries_len a.text_len k.result k.ensures c.in-Fine.field-0 c.in-Fine.is (fault s) (room_in (lent s)) (leaves (result s)) LabelIllFormed
     (bad_label w.result (label s) w.ensures c.if-not-is_well_formed.true))
 
 sub-place-label : tie.Need-slice_bounds-place_label-count
@@ -202,7 +202,7 @@ part-place-label-start : tie.Need-slice_bounds-place_label-start
 part-place-label-start c = search rules
 
 part-place-label-end : tie.Need-slice_bounds-place_label-end
-part-place-label-end c = omega (arith, (inside (well c.before)).entry_numbers)
+part-place-label-end c = omega (arith, (inside (well c)).entry_numbers)
 
 sub-place-label-2 : tie.Need-slice_bounds-place_label-count-2
 sub-place-label-2 c = search rules
@@ -211,13 +211,13 @@ part-place-label-start-2 : tie.Need-slice_bounds-place_label-start-2
 part-place-label-start-2 c = search rules
 
 part-place-label-end-2 : tie.Need-slice_bounds-place_label-end-2
-part-place-label-end-2 c = omega (arith, (inside (well c.before.before.before)).text)
+part-place-label-end-2 c = omega (arith, (inside (well c.before)).text)
 
 place-label-requires : tie.Need-place_label-place-requires
 place-label-requires c κs =
-    let w = well c.before.before.before.before in
+    let w = well c.before.before in
     let a = (call w).args in
-    omega (arith, text-used w, (within w).2, ap length (lent_front a.text-len a.text.now))
+    omega (arith, text-used w, (within w).2, ap length (lent_front a.text_len a.text.now))
 
 add-settle : tie.Need-overflow_add-entries_len
 add-settle c = omega (arith, (within (well (fine c))).1)
@@ -225,7 +225,7 @@ add-settle c = omega (arith, (within (well (fine c))).1)
 add-settle-2 : tie.Need-overflow_add-text_len
 add-settle-2 c =
     let s = searched c.before in
-    omega (arith, (within (well (fine c.before))).2, (found c.before).1, new_short (label s) (used s).text (entries_of (used s).entry_numbers), s.good)
+    omega (arith, (within (well (fine c.before))).2, (found c.before).1, new_short (label s) (used s).text (entries_of (used s).entry_numbers), s.well_formed)
 
 settle-requires : tie.Need-settle-verdict-requires
 settle-requires c κs = search rules
@@ -248,8 +248,8 @@ returns-3 c =
     let a = s.args in
     let k = (checked w).check_used-checked in
     let z = sizes p in
-    add-refused (add_faults (fault s) (lent s) a.content-len a.entries-len a.text-len) (lent s) (result s) c.in-Refused-verdict.f
-    (too_large (lent s) a.content-len a.entries-len a.text-len k.result k.ensures w.in-Fine.field-0 w.in-Fine.is (fault s) (good (fine p)) (room_in (lent s)) (leaves (result s))
+    add-refused (add_faults (fault s) (lent s) a.content_len a.entries_len a.text_len) (lent s) (result s) c.in-Refused-verdict.f
+    (too_large (lent s) a.content_len a.entries_len a.text_len k.result k.ensures w.in-Fine.field-0 w.in-Fine.is (fault s) (good (fine p)) (room_in (lent s)) (leaves (result s))
     c.settle-verdict.result _ _ _ c.settle-verdict.ensures z.0 z.1 z.2 refl c.in-Refused-verdict.f c.in-Refused-verdict.is)
 
 enum-told-2 : tie.Need-enum_told-in-Room
@@ -308,11 +308,11 @@ returns-4 c =
     let a = s.args in
     let k = (checked w).check_used-checked in
     let z = sizes p in
-    let ok = accepted (lent s) a.content-len a.entries-len a.text-len k.result k.ensures w.in-Fine.field-0 w.in-Fine.is (fault s) (good (fine p)) (room_in (lent s)) (leaves (result s))
+    let ok = accepted (lent s) a.content_len a.entries_len a.text_len k.result k.ensures w.in-Fine.field-0 w.in-Fine.is (fault s) (good (fine p)) (room_in (lent s)) (leaves (result s))
     t.settle-verdict.result _ _ _ t.settle-verdict.ensures z.0 z.1 z.2 refl t.in-Room.is in
-    let l = entry_left (lent s) a.content-len a.entries-len a.text-len (new s) (inside w) 0 (from s) (length (label s)) _ _ _ (found p).0 c.put_mark.ensures.0
-    (c.put_mark.ensures.1 ∙ ap (λ (x : Bytes). over_at a.text-len x a.text.now) (lent-new p)) in
-    add_done (add_faults (fault s) (lent s) a.content-len a.entries-len a.text-len) (lent s) (result s) _ _ _ _ _ _ ok z.0 z.1 z.2 l.0 l.1 l.2 refl
+    let l = entry_left (lent s) a.content_len a.entries_len a.text_len (new s) (inside w) 0 (from s) (length (label s)) _ _ _ (found p).0 c.put_mark.ensures.0
+    (c.put_mark.ensures.1 ∙ ap (λ (x : Bytes). over_at a.text_len x a.text.now) (lent-new p)) in
+    add_done (add_faults (fault s) (lent s) a.content_len a.entries_len a.text_len) (lent s) (result s) _ _ _ _ _ _ ok z.0 z.1 z.2 l.0 l.1 l.2 refl
 
 pub push_label_spec : {M : Type 1} → statement M
 push_label_spec =

@@ -32,11 +32,11 @@ whole c = let a = (start c).args in items (recording a.content.now a.entries.now
 
 sized : (c : tie.After-settle-verdict)
     → let a = (start c).args in
-    Sized (length a.out-text.now) (whole c) (length a.content.now) (length a.entries.now) c.own_size-shared.result
+    Sized (length a.out_text.now) (whole c) (length a.content.now) (length a.entries.now) c.own_size-shared.result
 sized c =
     let a = (start c).args in
     let o = c.own_size-shared in
-    whole_sized a.content.now a.entries.now a.text.now (length a.out-text.now) o.result (start c).requires.0 o.ensures
+    whole_sized a.content.now a.entries.now a.text.now (length a.out_text.now) o.result (start c).requires.0 o.ensures
 
 own-size-requires : tie.Need-own_size-shared-requires
 own-size-requires c κs =
@@ -52,7 +52,7 @@ enum-known-verdict c = search rules
 returns : tie.Need-returns-in-Refused
 returns c =
     let a = (start c.before).args in
-    left_refused (whole c.before) a.out-data.now a.out-entries.now a.out-text.now _ _ _ (sized c.before) c.settle-verdict.result c.settle-verdict.ensures c.in-Refused.f c.in-Refused.is
+    left_refused (whole c.before) a.out_data.now a.out_entries.now a.out_text.now _ _ _ (sized c.before) c.settle-verdict.result c.settle-verdict.ensures c.in-Refused.f c.in-Refused.is
 
 enum_told : tie.Need-enum_told-1
 enum_told c = search rules
@@ -69,7 +69,7 @@ keep-entries-requires c κs =
       (
         (omega arith, omega arith),
         rw (all-items a.content.now a.entries.now a.text.now)
-            (left_room (whole c.before.before.before.before) a.out-data.now a.out-entries.now a.out-text.now _ _ _ (sized c.before.before.before.before) c.settle-verdict.result c.settle-verdict.ensures c.in-Room.is),
+            (left_room (whole c.before.before.before.before) a.out_data.now a.out_entries.now a.out_text.now _ _ _ (sized c.before.before.before.before) c.settle-verdict.result c.settle-verdict.ensures c.in-Room.is),
       ),
     )
 
@@ -86,10 +86,10 @@ returns-2 : tie.Need-returns
 unfolding out
 returns-2 c =
     let a = (start c.before.before.before.before.before.before.before.before.before.before.before).args in
-    left_settled (whole c.before.before.before.before.before.before.before.before.before.before.before) a.out-data.now a.out-entries.now a.out-text.now _ _ _ (sized c.before.before.before.before.before.before.before.before.before.before.before) c.settle-verdict.result c.settle-verdict.ensures
+    left_settled (whole c.before.before.before.before.before.before.before.before.before.before.before) a.out_data.now a.out_entries.now a.out_text.now _ _ _ (sized c.before.before.before.before.before.before.before.before.before.before.before) c.settle-verdict.result c.settle-verdict.ensures
     c.in-Room.is _ _ _
     c.keep_entries-c.result
-    (c.keep_entries-c.ensures.0 ∙ ap (λ (is : List Item). add is (out a.out-data.now a.out-entries.now a.out-text.now begin)) (all-items a.content.now a.entries.now a.text.now))
+    (c.keep_entries-c.ensures.0 ∙ ap (λ (is : List Item). add is (out a.out_data.now a.out_entries.now a.out_text.now begin)) (all-items a.content.now a.entries.now a.text.now))
 
 pub put_whole_spec : {M : Type 1} → statement M
 put_whole_spec =

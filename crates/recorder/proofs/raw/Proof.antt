@@ -35,12 +35,12 @@ unfolding raw_added with_raw
 returns c =
     let a = c.args in
     let b = lent_of a.content.now a.entries.now a.text.now in
-    let u = used_of b a.content-len a.entries-len a.text-len in
+    let u = used_of b a.content_len a.entries_len a.text_len in
     let n = refuse_if (eqb (length a.sequence.now) 0) 3 in
-    let q = with_entry 2 (length (take a.text-len a.text.now)) (length a.sequence.now) a.sequence.now u in
+    let q = with_entry 2 (length (take a.text_len a.text.now)) (length a.sequence.now) a.sequence.now u in
     let k = c.check_used-checked in
-    add-refused (add_faults n b a.content-len a.entries-len a.text-len) b q c.in-Refused.f
-    (check_refused b a.content-len a.entries-len a.text-len k.result k.ensures n (room_in b) (leaves q) c.in-Refused.f c.in-Refused.is)
+    add-refused (add_faults n b a.content_len a.entries_len a.text_len) b q c.in-Refused.f
+    (check_refused b a.content_len a.entries_len a.text_len k.result k.ensures n (room_in b) (leaves q) c.in-Refused.f c.in-Refused.is)
 
 enum_told : tie.Need-enum_told-1
 enum_told c = search rules
@@ -56,12 +56,12 @@ unfolding raw_added with_raw number_of_refusal
 returns-2 c =
     let a = c.args in
     let b = lent_of a.content.now a.entries.now a.text.now in
-    let u = used_of b a.content-len a.entries-len a.text-len in
+    let u = used_of b a.content_len a.entries_len a.text_len in
     let n = refuse_if (eqb (length a.sequence.now) 0) 3 in
-    let q = with_entry 2 (length (take a.text-len a.text.now)) (length a.sequence.now) a.sequence.now u in
+    let q = with_entry 2 (length (take a.text_len a.text.now)) (length a.sequence.now) a.sequence.now u in
     let k = c.check_used-checked in
-    add-refused (add_faults n b a.content-len a.entries-len a.text-len) b q EntryShape
-    (added_refused b a.content-len a.entries-len a.text-len k.result k.ensures c.in-Fine.field-0 c.in-Fine.is n (room_in b) (leaves q) EntryShape (empty_raw _ c.if-sequence-eq0.true))
+    add-refused (add_faults n b a.content_len a.entries_len a.text_len) b q EntryShape
+    (added_refused b a.content_len a.entries_len a.text_len k.result k.ensures c.in-Fine.field-0 c.in-Fine.is n (room_in b) (leaves q) EntryShape (empty_raw _ c.if-sequence-eq0.true))
 
 add-settle : tie.Need-overflow_add-entries_len
 add-settle c =
@@ -70,7 +70,7 @@ add-settle c =
     let k = c.check_used-checked in
     omega (
       arith,
-      limits b a.content-len a.entries-len a.text-len k.result k.ensures c.in-Fine.field-0 c.in-Fine.is,
+      limits b a.content_len a.entries_len a.text_len k.result k.ensures c.in-Fine.field-0 c.in-Fine.is,
       c.well_formed,
     )
 
@@ -81,7 +81,7 @@ add-settle-2 c =
     let k = c.check_used-checked in
     omega (
       arith,
-      limits b a.content-len a.entries-len a.text-len k.result k.ensures c.in-Fine.field-0 c.in-Fine.is,
+      limits b a.content_len a.entries_len a.text_len k.result k.ensures c.in-Fine.field-0 c.in-Fine.is,
       c.well_formed,
     )
 
@@ -102,16 +102,16 @@ unfolding raw_added with_raw
 returns-3 c =
     let a = c.args in
     let b = lent_of a.content.now a.entries.now a.text.now in
-    let u = used_of b a.content-len a.entries-len a.text-len in
+    let u = used_of b a.content_len a.entries_len a.text_len in
     let n = refuse_if (eqb (length a.sequence.now) 0) 3 in
-    let q = with_entry 2 (length (take a.text-len a.text.now)) (length a.sequence.now) a.sequence.now u in
+    let q = with_entry 2 (length (take a.text_len a.text.now)) (length a.sequence.now) a.sequence.now u in
     let k = c.check_used-checked in
     let v = c.settle-verdict in
-    let i = is_inside b a.content-len a.entries-len a.text-len k.result k.ensures c.in-Fine.field-0 c.in-Fine.is in
-    let s = entry_sizes b a.content-len a.entries-len a.text-len a.sequence.now i 2 (length (take a.text-len a.text.now)) (length a.sequence.now) in
-    add-refused (add_faults n b a.content-len a.entries-len a.text-len) b q c.in-Refused-verdict.f
-    (too_large b a.content-len a.entries-len a.text-len k.result k.ensures c.in-Fine.field-0 c.in-Fine.is n (some_raw _ c.if-sequence-eq0.false) (room_in b)
-    (leaves q) v.result a.content-len (a.entries-len + 4) (a.text-len + length a.sequence.now) v.ensures s.0 s.1 s.2 refl c.in-Refused-verdict.f c.in-Refused-verdict.is)
+    let i = is_inside b a.content_len a.entries_len a.text_len k.result k.ensures c.in-Fine.field-0 c.in-Fine.is in
+    let s = entry_sizes b a.content_len a.entries_len a.text_len a.sequence.now i 2 (length (take a.text_len a.text.now)) (length a.sequence.now) in
+    add-refused (add_faults n b a.content_len a.entries_len a.text_len) b q c.in-Refused-verdict.f
+    (too_large b a.content_len a.entries_len a.text_len k.result k.ensures c.in-Fine.field-0 c.in-Fine.is n (some_raw _ c.if-sequence-eq0.false) (room_in b)
+    (leaves q) v.result a.content_len (a.entries_len + 4) (a.text_len + length a.sequence.now) v.ensures s.0 s.1 s.2 refl c.in-Refused-verdict.f c.in-Refused-verdict.is)
 
 enum-told-2 : tie.Need-enum_told-in-Room
 enum-told-2 c = search rules
@@ -119,21 +119,21 @@ enum-told-2 c = search rules
 -- once there is room: the limits, and the room
 sizes : (c : tie.In-Room)
     → let a = c.args in
-    (a.content-len ≤ 1048576) × (a.text-len + length a.sequence.now ≤ 65536)
-    × (a.entries-len + 4 ≤ length a.entries.now) × (a.text-len + length a.sequence.now ≤ length a.text.now)
+    (a.content_len ≤ 1048576) × (a.text_len + length a.sequence.now ≤ 65536)
+    × (a.entries_len + 4 ≤ length a.entries.now) × (a.text_len + length a.sequence.now ≤ length a.text.now)
 sizes c =
     let a = c.args in
     let b = lent_of a.content.now a.entries.now a.text.now in
-    let u = used_of b a.content-len a.entries-len a.text-len in
+    let u = used_of b a.content_len a.entries_len a.text_len in
     let n = refuse_if (eqb (length a.sequence.now) 0) 3 in
-    let q = with_entry 2 (length (take a.text-len a.text.now)) (length a.sequence.now) a.sequence.now u in
+    let q = with_entry 2 (length (take a.text_len a.text.now)) (length a.sequence.now) a.sequence.now u in
     let k = c.check_used-checked in
     let v = c.settle-verdict in
-    let i = is_inside b a.content-len a.entries-len a.text-len k.result k.ensures c.in-Fine.field-0 c.in-Fine.is in
-    let s = entry_sizes b a.content-len a.entries-len a.text-len a.sequence.now i 2 (length (take a.text-len a.text.now)) (length a.sequence.now) in
-    let f = fits b a.content-len a.entries-len a.text-len k.result k.ensures c.in-Fine.field-0 c.in-Fine.is n (some_raw _ c.if-sequence-eq0.false) (room_in b)
-    (leaves q) v.result a.content-len (a.entries-len + 4) (a.text-len + length a.sequence.now) v.ensures s.0 s.1 s.2 refl c.in-Room.is in
-    let m = limits b a.content-len a.entries-len a.text-len k.result k.ensures c.in-Fine.field-0 c.in-Fine.is in
+    let i = is_inside b a.content_len a.entries_len a.text_len k.result k.ensures c.in-Fine.field-0 c.in-Fine.is in
+    let s = entry_sizes b a.content_len a.entries_len a.text_len a.sequence.now i 2 (length (take a.text_len a.text.now)) (length a.sequence.now) in
+    let f = fits b a.content_len a.entries_len a.text_len k.result k.ensures c.in-Fine.field-0 c.in-Fine.is n (some_raw _ c.if-sequence-eq0.false) (room_in b)
+    (leaves q) v.result a.content_len (a.entries_len + 4) (a.text_len + length a.sequence.now) v.ensures s.0 s.1 s.2 refl c.in-Room.is in
+    let m = limits b a.content_len a.entries_len a.text_len k.result k.ensures c.in-Fine.field-0 c.in-Fine.is in
     (m.0, omega (arith, f.text_limit_lem, s.2), omega (arith, f.entry_room, s.1), omega (arith, f.text_room, s.2))
 
 cast-t25 : tie.Need-overflow_cast-e
@@ -155,7 +155,7 @@ add-t24 c =
     let k = c.check_used-checked in
     omega (
       arith,
-      limits b a.content-len a.entries-len a.text-len k.result k.ensures c.in-Fine.field-0 c.in-Fine.is,
+      limits b a.content_len a.entries_len a.text_len k.result k.ensures c.in-Fine.field-0 c.in-Fine.is,
       c.well_formed,
     )
 
@@ -166,7 +166,7 @@ add-t21 c =
     let k = c.check_used-checked in
     omega (
       arith,
-      limits b a.content-len a.entries-len a.text-len k.result k.ensures c.in-Fine.field-0 c.in-Fine.is,
+      limits b a.content_len a.entries_len a.text_len k.result k.ensures c.in-Fine.field-0 c.in-Fine.is,
       c.well_formed,
     )
 
@@ -181,20 +181,20 @@ unfolding raw_added with_raw
 returns-4 c =
     let a = c.args in
     let b = lent_of a.content.now a.entries.now a.text.now in
-    let u = used_of b a.content-len a.entries-len a.text-len in
+    let u = used_of b a.content_len a.entries_len a.text_len in
     let n = refuse_if (eqb (length a.sequence.now) 0) 3 in
-    let q = with_entry 2 (length (take a.text-len a.text.now)) (length a.sequence.now) a.sequence.now u in
+    let q = with_entry 2 (length (take a.text_len a.text.now)) (length a.sequence.now) a.sequence.now u in
     let k = c.check_used-checked in
     let v = c.settle-verdict in
     let p = c.put_mark in
-    let i = is_inside b a.content-len a.entries-len a.text-len k.result k.ensures c.in-Fine.field-0 c.in-Fine.is in
-    let s = entry_sizes b a.content-len a.entries-len a.text-len a.sequence.now i 2 (length (take a.text-len a.text.now)) (length a.sequence.now) in
-    let z = accepted b a.content-len a.entries-len a.text-len k.result k.ensures c.in-Fine.field-0 c.in-Fine.is n
-    (some_raw _ c.if-sequence-eq0.false) (room_in b) (leaves q) v.result a.content-len (a.entries-len + 4)
-    (a.text-len + length a.sequence.now) v.ensures s.0 s.1 s.2 refl c.in-Room.is in
-    let w = entry_left b a.content-len a.entries-len a.text-len a.sequence.now i 2 _ _ _ _ _
-    (sym (used_t b a.content-len a.entries-len a.text-len k.result k.ensures c.in-Fine.field-0 c.in-Fine.is)) p.ensures.0 p.ensures.1 in
-    add_done (add_faults n b a.content-len a.entries-len a.text-len) b q a.content-len (a.entries-len + 4) (a.text-len + length a.sequence.now) _ _ _ z s.0 s.1 s.2
+    let i = is_inside b a.content_len a.entries_len a.text_len k.result k.ensures c.in-Fine.field-0 c.in-Fine.is in
+    let s = entry_sizes b a.content_len a.entries_len a.text_len a.sequence.now i 2 (length (take a.text_len a.text.now)) (length a.sequence.now) in
+    let z = accepted b a.content_len a.entries_len a.text_len k.result k.ensures c.in-Fine.field-0 c.in-Fine.is n
+    (some_raw _ c.if-sequence-eq0.false) (room_in b) (leaves q) v.result a.content_len (a.entries_len + 4)
+    (a.text_len + length a.sequence.now) v.ensures s.0 s.1 s.2 refl c.in-Room.is in
+    let w = entry_left b a.content_len a.entries_len a.text_len a.sequence.now i 2 _ _ _ _ _
+    (sym (used_t b a.content_len a.entries_len a.text_len k.result k.ensures c.in-Fine.field-0 c.in-Fine.is)) p.ensures.0 p.ensures.1 in
+    add_done (add_faults n b a.content_len a.entries_len a.text_len) b q a.content_len (a.entries_len + 4) (a.text_len + length a.sequence.now) _ _ _ z s.0 s.1 s.2
     w.0 w.1 w.2 refl
 
 pub raw_spec : {M : Type 1} → statement M

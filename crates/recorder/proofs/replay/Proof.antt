@@ -28,7 +28,7 @@ enum-known-checked c = search rules
 returns : tie.Need-returns-in-Refused
 returns c =
     let a = (start c.before).args in
-    check_refused (content c.before) (lent_of a.out-data.now a.out-entries.now a.out-text.now) c.check-checked.result c.check-checked.ensures.0 c.in-Refused.f c.in-Refused.is
+    check_refused (content c.before) (lent_of a.out_data.now a.out_entries.now a.out_text.now) c.check-checked.result c.check-checked.ensures.0 c.in-Refused.f c.in-Refused.is
 
 enum-known-checked-2 : tie.Need-enum_known-checked-in-Fine-1
 enum-known-checked-2 c = search rules
@@ -37,7 +37,7 @@ put-whole-requires : tie.Need-put_whole-requires
 put-whole-requires c κs =
     let a = (start c.before.before.before.before).args in
     let k = c.check-checked in (
-      passed (content c.before.before.before.before) (lent_of a.out-data.now a.out-entries.now a.out-text.now) k.result k.ensures.0 c.in-Fine.n c.in-Fine.is,
+      passed (content c.before.before.before.before) (lent_of a.out_data.now a.out_entries.now a.out_text.now) k.result k.ensures.0 c.in-Fine.n c.in-Fine.is,
       fine_count k.result c.in-Fine.n (length (text_of (items (content c.before.before.before.before)))) c.in-Fine.is k.ensures.1.0,
     )
 
@@ -54,7 +54,7 @@ returns-2 : tie.Need-returns
 returns-2 c =
     let a = (start c.before.before.before.before.before.before.before.before.before.before.before).args in
     let k = c.check-checked in
-    sizes_left (content c.before.before.before.before.before.before.before.before.before.before.before) (lent_of a.out-data.now a.out-entries.now a.out-text.now) k.result k.ensures.0 c.in-Fine.n c.in-Fine.is (lent_of _ _ _) c.put_whole.result
+    sizes_left (content c.before.before.before.before.before.before.before.before.before.before.before) (lent_of a.out_data.now a.out_entries.now a.out_text.now) k.result k.ensures.0 c.in-Fine.n c.in-Fine.is (lent_of _ _ _) c.put_whole.result
     c.put_whole.ensures
 
 pub replay_spec : {M : Type 1} → statement M

@@ -29,11 +29,11 @@ unfolding written
 returns c =
     let a = c.args in
     let b = lent_of a.content.now a.entries.now a.text.now in
-    let u = used_of b a.content-len a.entries-len a.text-len in
+    let u = used_of b a.content_len a.entries_len a.text_len in
     let q = with_data a.added.now u in
     let k = c.check_used-checked in
-    add-refused (add_faults 0 b a.content-len a.entries-len a.text-len) b q c.in-Refused.f
-    (check_refused b a.content-len a.entries-len a.text-len k.result k.ensures 0 (room_in b) (leaves q) c.in-Refused.f c.in-Refused.is)
+    add-refused (add_faults 0 b a.content_len a.entries_len a.text_len) b q c.in-Refused.f
+    (check_refused b a.content_len a.entries_len a.text_len k.result k.ensures 0 (room_in b) (leaves q) c.in-Refused.f c.in-Refused.is)
 
 enum_told : tie.Need-enum_told-1
 enum_told c = search rules
@@ -43,7 +43,7 @@ add_total c =
     let a = c.args in
     let b = lent_of a.content.now a.entries.now a.text.now in
     let k = c.check_used-checked in
-    omega (arith, limits b a.content-len a.entries-len a.text-len k.result k.ensures c.in-Fine.field-0 c.in-Fine.is, c.well_formed)
+    omega (arith, limits b a.content_len a.entries_len a.text_len k.result k.ensures c.in-Fine.field-0 c.in-Fine.is, c.well_formed)
 
 settle-requires : tie.Need-settle-verdict-requires
 settle-requires c κs = search rules
@@ -59,15 +59,15 @@ unfolding written
 returns-2 c =
     let a = c.args in
     let b = lent_of a.content.now a.entries.now a.text.now in
-    let u = used_of b a.content-len a.entries-len a.text-len in
+    let u = used_of b a.content_len a.entries_len a.text_len in
     let q = with_data a.added.now u in
     let k = c.check_used-checked in
     let v = c.settle-verdict in
-    let i = is_inside b a.content-len a.entries-len a.text-len k.result k.ensures c.in-Fine.field-0 c.in-Fine.is in
-    let s = data_sizes b a.content-len a.entries-len a.text-len a.added.now i in
-    add-refused (add_faults 0 b a.content-len a.entries-len a.text-len) b q c.in-Refused-verdict.f
-    (too_large b a.content-len a.entries-len a.text-len k.result k.ensures c.in-Fine.field-0 c.in-Fine.is 0 refl (room_in b) (leaves q) v.result (a.content-len + length a.added.now)
-    a.entries-len a.text-len v.ensures s.0 s.1 s.2 refl c.in-Refused-verdict.f c.in-Refused-verdict.is)
+    let i = is_inside b a.content_len a.entries_len a.text_len k.result k.ensures c.in-Fine.field-0 c.in-Fine.is in
+    let s = data_sizes b a.content_len a.entries_len a.text_len a.added.now i in
+    add-refused (add_faults 0 b a.content_len a.entries_len a.text_len) b q c.in-Refused-verdict.f
+    (too_large b a.content_len a.entries_len a.text_len k.result k.ensures c.in-Fine.field-0 c.in-Fine.is 0 refl (room_in b) (leaves q) v.result (a.content_len + length a.added.now)
+    a.entries_len a.text_len v.ensures s.0 s.1 s.2 refl c.in-Refused-verdict.f c.in-Refused-verdict.is)
 
 enum-told-2 : tie.Need-enum_told-in-Room
 enum-told-2 c = search rules
@@ -76,15 +76,15 @@ put-requires : tie.Need-put-requires
 put-requires c κs =
     let a = c.args in
     let b = lent_of a.content.now a.entries.now a.text.now in
-    let u = used_of b a.content-len a.entries-len a.text-len in
+    let u = used_of b a.content_len a.entries_len a.text_len in
     let q = with_data a.added.now u in
     let k = c.check_used-checked in
     let v = c.settle-verdict in
-    let i = is_inside b a.content-len a.entries-len a.text-len k.result k.ensures c.in-Fine.field-0 c.in-Fine.is in
-    let s = data_sizes b a.content-len a.entries-len a.text-len a.added.now i in
-    let f = fits b a.content-len a.entries-len a.text-len k.result k.ensures c.in-Fine.field-0 c.in-Fine.is 0 refl (room_in b) (leaves q) v.result
-    (a.content-len + length a.added.now) a.entries-len a.text-len v.ensures s.0 s.1 s.2 refl c.in-Room.is in
-    let m = limits b a.content-len a.entries-len a.text-len k.result k.ensures c.in-Fine.field-0 c.in-Fine.is in
+    let i = is_inside b a.content_len a.entries_len a.text_len k.result k.ensures c.in-Fine.field-0 c.in-Fine.is in
+    let s = data_sizes b a.content_len a.entries_len a.text_len a.added.now i in
+    let f = fits b a.content_len a.entries_len a.text_len k.result k.ensures c.in-Fine.field-0 c.in-Fine.is 0 refl (room_in b) (leaves q) v.result
+    (a.content_len + length a.added.now) a.entries_len a.text_len v.ensures s.0 s.1 s.2 refl c.in-Room.is in
+    let m = limits b a.content_len a.entries_len a.text_len k.result k.ensures c.in-Fine.field-0 c.in-Fine.is in
     (omega arith, omega arith, omega (arith, f.data_room, s.0))
 
 same-length-3 : tie.Need-shape_of-content
@@ -95,17 +95,17 @@ unfolding written
 returns-3 c =
     let a = c.args in
     let b = lent_of a.content.now a.entries.now a.text.now in
-    let u = used_of b a.content-len a.entries-len a.text-len in
+    let u = used_of b a.content_len a.entries_len a.text_len in
     let q = with_data a.added.now u in
     let k = c.check_used-checked in
     let v = c.settle-verdict in
     let p = c.put in
-    let i = is_inside b a.content-len a.entries-len a.text-len k.result k.ensures c.in-Fine.field-0 c.in-Fine.is in
-    let s = data_sizes b a.content-len a.entries-len a.text-len a.added.now i in
-    let z = accepted b a.content-len a.entries-len a.text-len k.result k.ensures c.in-Fine.field-0 c.in-Fine.is 0 refl (room_in b) (leaves q) v.result
-    (a.content-len + length a.added.now) a.entries-len a.text-len v.ensures s.0 s.1 s.2 refl c.in-Room.is in
-    let w = data_left b a.content-len a.entries-len a.text-len a.added.now i _ (p.ensures.1 ∙ whole_part _ _ _) in
-    add_done (add_faults 0 b a.content-len a.entries-len a.text-len) b q (a.content-len + length a.added.now) a.entries-len a.text-len _ _ _ z s.0 s.1 s.2 w.0
+    let i = is_inside b a.content_len a.entries_len a.text_len k.result k.ensures c.in-Fine.field-0 c.in-Fine.is in
+    let s = data_sizes b a.content_len a.entries_len a.text_len a.added.now i in
+    let z = accepted b a.content_len a.entries_len a.text_len k.result k.ensures c.in-Fine.field-0 c.in-Fine.is 0 refl (room_in b) (leaves q) v.result
+    (a.content_len + length a.added.now) a.entries_len a.text_len v.ensures s.0 s.1 s.2 refl c.in-Room.is in
+    let w = data_left b a.content_len a.entries_len a.text_len a.added.now i _ (p.ensures.1 ∙ whole_part _ _ _) in
+    add_done (add_faults 0 b a.content_len a.entries_len a.text_len) b q (a.content_len + length a.added.now) a.entries_len a.text_len _ _ _ z s.0 s.1 s.2 w.0
     w.1 w.2 refl
 
 pub write_spec : {M : Type 1} → statement M

@@ -86,21 +86,21 @@ unfolding out
 same_length c =
     let a = (start c.before.before.before.before.before.before.before.before.before.before.before).args in
     let g = long_now a.content.now a.entries.now a.text.now a.new.now (records_of a.records.now) _ _ _ _ c.loop-k.invariant.1 (start c.before.before.before.before.before.before.before.before.before.before.before).requires.1.1 in
-    c.keep.auto.0 ∙ g.data_bytes
+    c.keep.auto.bytes ∙ g.data_bytes
 
 same-length-2 : tie.Need-shape_of-numbers invariant-loop decreases-loop
 unfolding out
 same-length-2 c =
     let a = (start c.before.before.before.before.before.before.before.before.before.before.before).args in
     let g = long_now a.content.now a.entries.now a.text.now a.new.now (records_of a.records.now) _ _ _ _ c.loop-k.invariant.1 (start c.before.before.before.before.before.before.before.before.before.before.before).requires.1.1 in
-    c.keep.auto.1.0 ∙ g.entry_numbers
+    c.keep.auto.numbers ∙ g.entry_numbers
 
 same-length-3 : tie.Need-shape_of-texts invariant-loop decreases-loop
 unfolding out
 same-length-3 c =
     let a = (start c.before.before.before.before.before.before.before.before.before.before.before).args in
     let g = long_now a.content.now a.entries.now a.text.now a.new.now (records_of a.records.now) _ _ _ _ c.loop-k.invariant.1 (start c.before.before.before.before.before.before.before.before.before.before.before).requires.1.1 in
-    c.keep.auto.1.1.0 ∙ g.text
+    c.keep.auto.texts ∙ g.text
 
 returns : tie.Need-returns invariant-loop decreases-loop
 returns c =

@@ -56,7 +56,7 @@ lent s = lent_of s.args.bytes.now s.args.numbers.now s.args.texts.now
 
 -- once the content is checked
 abbrev start : tie.In-Fine → tie.Start
-start c = c.before.before.before.before.before.before.before.before.before.before.before
+start c = c.before.before.before.before.before.before.before.before.before.before
 
 abbrev size : tie.In-Fine → ℕ
 size c = c.in-Fine.n
@@ -75,7 +75,7 @@ checked c = c.before
 abbrev scanned : tie.After-settle-verdict → tie.After-check_records-s
 scanned c = c.before.before.before.before.before
 
-abbrev no-bad : (c : tie.After-settle-verdict) → (scanned c).check-records.result.bad ≡ false
+abbrev no-bad : (c : tie.After-settle-verdict) → (scanned c).check_records-s.result.bad ≡ false
 no-bad c = c.if-s.false
 
 good : (c : tie.After-settle-verdict) → single_fault (call (start (checked (scanned c)))) (ds (start (checked (scanned c)))) ≡ 0

@@ -69,15 +69,15 @@ skip-requires c κs =
 
 same_length : tie.Need-shape_of-bytes
 same_length c =
-    c.skip.auto.0 ∙ c.put_bytes-b.auto.0 ∙ (kept c.before.before.before.before.before.before.before.before.before.before.before.before.before).keep-a.auto.0
+    c.skip.auto.bytes ∙ c.put_bytes-b.auto.bytes ∙ (kept c.before.before.before.before.before.before.before.before.before.before.before.before.before).keep-a.auto.bytes
 
 same-length-2 : tie.Need-shape_of-numbers
 same-length-2 c =
-    c.skip.auto.1.0 ∙ (kept c.before.before.before.before.before.before.before.before.before.before.before.before.before).keep-a.auto.1.0
+    c.skip.auto.numbers ∙ (kept c.before.before.before.before.before.before.before.before.before.before.before.before.before).keep-a.auto.numbers
 
 same-length-3 : tie.Need-shape_of-texts
 same-length-3 c =
-    c.skip.auto.1.1.0 ∙ (kept c.before.before.before.before.before.before.before.before.before.before.before.before.before).keep-a.auto.1.1.0
+    c.skip.auto.texts ∙ (kept c.before.before.before.before.before.before.before.before.before.before.before.before.before).keep-a.auto.texts
 
 returns : tie.Need-returns
 returns c =

@@ -4,7 +4,7 @@ use borrow.Author.Rules.{rules}
 use Rattle.requests.proofs.RequestLaws.{rest_all}
 use Rattle.requests.proofs.RequestLaws.{rest, none, one_bad, one_good}
 use Rattle.requests.specs.Requests.{requests_of, all_fit_in}
-use borrow.Author.Tests.{not-true, not_false}
+use borrow.Author.Tests.{not-true, not-false}
 use lib.ListN.{length}
 use mathlib.Core.Path.{◌≡◌, sym, ap, ◌∙◌}
 use Prim.Native.Nat.{◌/◌, ◌-◌, ◌≤◌}

@@ -2,7 +2,7 @@
 use borrow.Author.Rules.{rules}
 use Rattle.requests.specs.Requests.{fits_in}
 use mathlib.Core.Path.{sym}
-use borrow.Author.Tests.{lt-leb, le-leb, not-true, not_false}
+use borrow.Author.Tests.{lt-leb, le-leb, not-true, not-false}
 use Rattle.requests.proofs.fits.Statement.{statement}
 use Rattle.requests.proofs.fits.Tie as tie
 use Rattle.requests.proofs.fits.Reads as reads

@@ -60,7 +60,7 @@ loop-holds c =
     )
 
 mul-turn : tie.Need-overflow_mul-k invariant-loop decreases-loop
-mul-turn c = omega (arith, c.loop-k-test.true, (start c.before).good)
+mul-turn c = omega (arith, c.loop-k-test.true, (start c.before).well_formed)
 
 turn-requires : tie.Need-turn-a-requires invariant-loop decreases-loop
 turn-requires c κs =
@@ -76,16 +76,16 @@ turn-requires c κs =
     )
 
 mul-put-answer : tie.Need-overflow_mul-k-in-loop-k invariant-loop decreases-loop
-mul-put-answer c = let t = before-turn (after_turn c).before in omega (arith, t.loop-test.true, (start t.before).good)
+mul-put-answer c = let t = before-turn (after_turn c).before in omega (arith, t.loop-test.true, (start t.before).well_formed)
 
 put-answer-requires : tie.Need-put_answer-requires invariant-loop decreases-loop
 put-answer-requires c κs = let t = before-turn (after_turn c).before in omega (arith, t.loop-test.true, (start t.before).requires.0.1, t.before.loop.invariant.0.long)
 
 moved-requires : tie.Need-moved-held-requires invariant-loop decreases-loop
-moved-requires c κs = let t = before-turn (after_turn c.before.before.before).before in omega (arith, t.loop-test.true, t.before.loop.invariant.0.made, (start t.before).good)
+moved-requires c κs = let t = before-turn (after_turn c.before.before.before).before in omega (arith, t.loop-test.true, t.before.loop.invariant.0.made, (start t.before).well_formed)
 
 add-k : tie.Need-overflow_add-k invariant-loop decreases-loop
-add-k c = let t = before-turn (turn-of c).before in omega (arith, t.loop-test.true, (start t.before).good)
+add-k c = let t = before-turn (turn-of c).before in omega (arith, t.loop-test.true, (start t.before).well_formed)
 
 loop-less : tie.Need-loop-k-smaller invariant-loop decreases-loop
 loop-less c = let t = before-turn (turn-of c).before in omega (arith, t.loop-test.true)
@@ -97,7 +97,7 @@ loop-again c =
     let l = t.loop-k in
     let s = start t.before in
     let w = c.put_answer in
-    let k = u.turn-a.kept.1.1.1.1.1 in
+    let k = u.turn-a.auto.1.1.1.1.1 in
     let v = l.invariant.1 in (
       again s.args.pool.now s.args.pool_numbers.now s.args.calls.now (at-start s) s.args.answers.now
           l.held l.k l.bytes l.numbers l.texts l.other-bytes l.other_numbers l.other_texts l.lines l.answers l.invariant.0

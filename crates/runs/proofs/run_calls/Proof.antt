@@ -18,12 +18,12 @@ use Rattle.call_lists.proofs.too_long.Reads as too-long-reads
 -- ── the places on the way, and what is known there
 -- what the call was given and lent
 abbrev given-of : tie.Start → Given
-given-of s = let a = s.args in given a.calls.now a.pool.now a.pool-numbers.now a.data-len a.entries-len a.text-len
+given-of s = let a = s.args in given a.calls.now a.pool.now a.pool_numbers.now a.data_len a.entries_len a.text_len
 
 abbrev lent-of : tie.Start → Buffers
 lent-of s =
     let a = s.args in
-    buffers (lent_of a.bytes.now a.numbers.now a.texts.now) (lent_of a.other-bytes.now a.other_numbers.now a.other_texts.now) a.lines.now a.answers.now
+    buffers (lent_of a.bytes.now a.numbers.now a.texts.now) (lent_of a.other_bytes.now a.other_numbers.now a.other_texts.now) a.lines.now a.answers.now
 
 -- once the input is checked
 abbrev start : tie.After-check_input-checked → tie.Start

@@ -37,7 +37,7 @@ loop-holds : tie.Need-loop-i-init invariant-loop decreases-loop
 loop-holds c = (refl, refl, refl, refl, refl, refl, refl, refl)
 
 mul_at : tie.Need-overflow_mul-at invariant-loop decreases-loop
-mul_at c = omega (arith, c.loop-i-test.true, (start c.before).good)
+mul_at c = omega (arith, c.loop-i-test.true, (start c.before).well_formed)
 
 write-all-requires : tie.Need-write_all-requires invariant-loop decreases-loop
 write-all-requires c κs = search rules
@@ -82,7 +82,7 @@ one-call-requires : tie.Need-one_call-used-requires invariant-loop decreases-loo
 one-call-requires c κs = search rules
 
 add-i : tie.Need-overflow_add-i invariant-loop decreases-loop
-add-i c = let t = tested (made c) in omega (arith, t.loop-i-test.true, (start t.before).good)
+add-i c = let t = tested (made c) in omega (arith, t.loop-i-test.true, (start t.before).well_formed)
 
 loop-less : tie.Need-loop-i-smaller invariant-loop decreases-loop
 loop-less c = omega (arith, (tested (made c)).loop-i-test.true)

@@ -36,7 +36,7 @@ loop-holds : tie.Need-loop-i-init invariant-loop decreases-loop
 loop-holds c = (refl, refl, refl, refl, refl, refl, refl, refl)
 
 mul-row-at : tie.Need-overflow_mul-i invariant-loop decreases-loop
-mul-row-at c = omega (arith, c.loop-i-test.true, (start c.before).good)
+mul-row-at c = omega (arith, c.loop-i-test.true, (start c.before).well_formed)
 
 row-at-requires : tie.Need-row_at-row-requires invariant-loop decreases-loop
 row-at-requires c κs = omega (arith, c.loop-i-test.true)
@@ -45,7 +45,7 @@ refused-list-requires : tie.Need-refused_list-requires invariant-loop decreases-
 refused-list-requires c κs = search rules
 
 add-i : tie.Need-overflow_add-i invariant-loop decreases-loop
-add-i c = let t = tested (made c) in omega (arith, t.loop-i-test.true, (start t.before).good)
+add-i c = let t = tested (made c) in omega (arith, t.loop-i-test.true, (start t.before).well_formed)
 
 loop-less : tie.Need-loop-i-smaller invariant-loop decreases-loop
 loop-less c = omega (arith, (tested (made c)).loop-i-test.true)

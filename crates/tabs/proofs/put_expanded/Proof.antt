@@ -126,14 +126,14 @@ kept c = c.before.before.before.before.before.before.before.before
 abbrev put_in : tie.After-skip-c invariant-loop decreases-loop → tie.After-put_bytes-c invariant-loop decreases-loop
 put_in c = c.before.before.before.before.before.before.before
 
-inside : (k : tie.After-keep-c invariant-loop decreases-loop) → (head k).loop.p.at < length (ds (start (head k)))
+inside : (k : tie.After-keep-c invariant-loop decreases-loop) → (head k).loop-p.p.at < length (ds (start (head k)))
 inside k = omega (arith, k.loop-p-test.true)
 
 the-turn : (k : tie.After-keep-c invariant-loop decreases-loop) → Turn (ds (start (head k))) (ns (start (head k))) (ts (start (head k)))
-    (new (start (head k))) (tab-record (head k) (many k)) (head k).loop.c (out (head k).loop.bytes (head k).loop.numbers (head k).loop.texts (head k).loop.c)
+    (new (start (head k))) (tab-record (head k) (many k)) (head k).loop-p.c (out (head k).loop-p.bytes (head k).loop-p.numbers (head k).loop-p.texts (head k).loop-p.c)
 the-turn k = turn (head k) (inside k) (many k) k.spaces_at-n.ensures.0
 
-good-tab : (k : tie.After-keep-c invariant-loop decreases-loop) → Good (head k).loop.c.at (length (ds (start (head k)))) (length (new (start (head k)))) (tab-record (head k) (many k))
+good-tab : (k : tie.After-keep-c invariant-loop decreases-loop) → Good (head k).loop-p.c.at (length (ds (start (head k)))) (length (new (start (head k)))) (tab-record (head k) (many k))
 good-tab k =
     let s = start (head k) in
     is_good (ds s) (ns s) (ts s) (new s) (tab-record (head k) (many k)) (head k).loop-p.c _ (the-turn k)
@@ -184,7 +184,7 @@ add-next-tab : tie.Need-overflow_add-p-in-loop-p invariant-loop decreases-loop
 add-next-tab c = let k = kept (put_in c.before.before.before.before.before.before.before) in omega (arith, inside k, limit (start (head k)))
 
 -- the column behind the spaces is within the bound
-column-in : (k : tie.After-keep-c invariant-loop decreases-loop) → (head k).loop.p.column + many k ≤ 64 * ((head k).loop.p.at + 1)
+column-in : (k : tie.After-keep-c invariant-loop decreases-loop) → (head k).loop-p.p.column + many k ≤ 64 * ((head k).loop-p.p.at + 1)
 column-in k =
     omega (arith, (head k).loop-p.invariant.0.bounded, (start (head k)).requires.1.0.1, k.spaces_at-n.ensures.2)
 
@@ -238,15 +238,15 @@ longer l =
 
 same_length : tie.Need-shape_of-bytes invariant-loop decreases-loop
 unfolding out
-same_length c = c.keep.auto.0 ∙ (longer (over c.before.before.before.before.before.before)).data_bytes
+same_length c = c.keep.auto.bytes ∙ (longer (over c.before.before.before.before.before.before)).data_bytes
 
 same-length-2 : tie.Need-shape_of-numbers invariant-loop decreases-loop
 unfolding out
-same-length-2 c = c.keep.auto.1.0 ∙ (longer (over c.before.before.before.before.before.before)).entry_numbers
+same-length-2 c = c.keep.auto.numbers ∙ (longer (over c.before.before.before.before.before.before)).entry_numbers
 
 same-length-3 : tie.Need-shape_of-texts invariant-loop decreases-loop
 unfolding out
-same-length-3 c = c.keep.auto.1.1.0 ∙ (longer (over c.before.before.before.before.before.before)).text
+same-length-3 c = c.keep.auto.texts ∙ (longer (over c.before.before.before.before.before.before)).text
 
 returns : tie.Need-returns invariant-loop decreases-loop
 returns c =

@@ -42,7 +42,7 @@ lent s = lent_of s.args.bytes.now s.args.numbers.now s.args.texts.now
 
 -- once the content is checked
 abbrev start : tie.In-Fine → tie.Start
-start c = c.before.before.before.before.before.before.before.before.before
+start c = c.before.before.before.before.before.before.before.before
 
 abbrev size : tie.In-Fine → ℕ
 size c = c.in-Fine.n
@@ -134,10 +134,10 @@ part-put-expanded-end c = search rules
 put-expanded-requires : tie.Need-put_expanded-c-requires
 unfolding lead_table
 put-expanded-requires c κs =
-    let k = checked (tested c.before.before.before.before.before.before.before) in
+    let k = checked (tested c.before.before.before.before.before.before) in
     let s = start k in
-    let g = good (tested c.before.before.before.before.before.before.before) in
-    let room = has_room (call s) (ds s) (ns s) (ts s) (lent s) (fine k).passed (good (tested c.before.before.before.before.before.before.before)).2 _ _ 0 refl (measured c.before.before.before.before.before.before.before).own_size-shared.ensures refl c.settle_expanded-verdict.result c.settle_expanded-verdict.ensures
+    let g = good (tested c.before.before.before.before.before.before) in
+    let room = has_room (call s) (ds s) (ns s) (ts s) (lent s) (fine k).passed (good (tested c.before.before.before.before.before.before)).2 _ _ 0 refl (measured c.before.before.before.before.before.before).own_size-shared.ensures refl c.settle_expanded-verdict.result c.settle_expanded-verdict.ensures
     c.in-Room.is in
     ((refl, refl, (fine k).whole), ((g.0, g.1), room))
 
@@ -154,9 +154,9 @@ returns-5 : tie.Need-returns
 unfolding number over
 returns-5 c =
     let w = c.put_expanded-c in
-    let k = checked (tested c.before.before.before.before.before.before.before.before.before.before.before.before.before.before) in
+    let k = checked (tested c.before.before.before.before.before.before.before.before.before.before.before.before.before) in
     let s = start k in
-    written (call s) (ds s) (ns s) (ts s) (lent s) (fine k).passed (good (tested c.before.before.before.before.before.before.before.before.before.before.before.before.before.before)).2 _ _ 0 refl (measured c.before.before.before.before.before.before.before.before.before.before.before.before.before.before).own_size-shared.ensures refl c.settle_expanded-verdict.result c.settle_expanded-verdict.ensures
+    written (call s) (ds s) (ns s) (ts s) (lent s) (fine k).passed (good (tested c.before.before.before.before.before.before.before.before.before.before.before.before.before)).2 _ _ 0 refl (measured c.before.before.before.before.before.before.before.before.before.before.before.before.before).own_size-shared.ensures refl c.settle_expanded-verdict.result c.settle_expanded-verdict.ensures
     c.in-Room.is
     0 _ _ _ _ w.result refl w.ensures refl
 

@@ -1,7 +1,7 @@
 -- A cell that is turned away takes no bytes; of any other the plan gives what is kept and what is missing to the width (`CellLaws`).
 use mathlib.Core.Path.{◌≡◌, sym, ◌∙◌}
 use mathlib.Core.Bool.{true}
-use borrow.Author.Tests.{not-true, not_false}
+use borrow.Author.Tests.{not-true, not-false}
 use Rattle.chars.specs.Chars.{well_formed_of}
 use Rattle.controls.specs.Controls.{is_clean_text}
 use Rattle.controls.proofs.ControlLaws.{clean_text, clean_formed}

@@ -7,7 +7,7 @@ use Prim.Native.Nat.{ℕ}
 use mathlib.Core.Bool.{true}
 use lib.ListN.{length, take}
 use lib.Seq.{length-take-le}
-use borrow.Author.Tests.{not-true, not_false}
+use borrow.Author.Tests.{not-true, not-false}
 use Rattle.buffer.specs.Held.{HoldsUpTo}
 use Rattle.buffer.specs.LendsOn.{LendsOn, own_arrays, acts, touches, loops, calls, called}
 use Rattle.buffer.proofs.HeldLaws.{held_self}
@@ -48,7 +48,7 @@ held : (s : tie.Start) (o : Out) → o ≡ add (end_items s.args.p (content s) (
 held s o w =
     let a = s.args in
     all_held (end_items a.p (content s) (ellipsis s)) (lent s) o refl w (finished s)
-    (end_finished a.p a.content.now a.entries.now a.text.now a.ellipsis.now a.ellipsis-entries.now a.ellipsis-text.now)
+    (end_finished a.p a.content.now a.entries.now a.text.now a.ellipsis.now a.ellipsis_entries.now a.ellipsis_text.now)
 
 -- after the first run
 first : (s : tie.Start) (o : Out) → s.args.p.cut ≡ true → o ≡ add (edit (cut_end_of s.args.p.content s.args.content.now) (items (content s))) (lent s)
@@ -67,7 +67,7 @@ unfolding out
 put-recording-requires c κs =
     let a = c.args in
     let p = c.requires in
-    let e = end_whole a.p (content c.before.before.before.before.before.before.before.before.before.before.before.before.before.before) (ellipsis c.before.before.before.before.before.before.before.before.before.before.before.before.before.before) c.if-not-p.true in
+    let e = end_whole a.p (content c.before.before.before.before.before.before.before.before.before.before.before.before.before.before) (ellipsis c.before.before.before.before.before.before.before.before.before.before.before.before.before.before) (not-true _ c.if-not-p.true) in
     (p.0, rw e at p.1.1.1)
 
 same_length : tie.Need-shape_of-bytes-then-not-p
@@ -83,7 +83,7 @@ returns : tie.Need-returns-then-not-p
 unfolding out
 returns c =
     let a = c.args in
-    let e = end_whole a.p (content c.before.before.before.before.before.before.before.before.before.before.before.before.before.before.before.before.before.before.before.before.before) (ellipsis c.before.before.before.before.before.before.before.before.before.before.before.before.before.before.before.before.before.before.before.before.before) c.if-not-p.true in
+    let e = end_whole a.p (content c.before.before.before.before.before.before.before.before.before.before.before.before.before.before.before.before.before.before.before.before.before) (ellipsis c.before.before.before.before.before.before.before.before.before.before.before.before.before.before.before.before.before.before.before.before.before) (not-true _ c.if-not-p.true) in
     let w = c.put_recording.ensures.0 ∙ ap (λ (x : List Item). add x (lent c.before.before.before.before.before.before.before.before.before.before.before.before.before.before.before.before.before.before.before.before.before)) (sym e) in
     (w, held c.before.before.before.before.before.before.before.before.before.before.before.before.before.before.before.before.before.before.before.before.before _ w)
 
@@ -92,7 +92,7 @@ unfolding out
 put-up-to-requires c κs =
     let a = c.args in
     let p = c.requires in
-    let cut = c.if-not-p.false in
+    let cut = (not-false _ c.if-not-p.false) in
     let e = end_cut a.p (content c.before.before.before.before.before.before.before.before.before.before.before.before.before.before) (ellipsis c.before.before.before.before.before.before.before.before.before.before.before.before.before.before) cut in
     (p.0, (p.1.1.0.0, fits_first _ _ _ _ e p.1.1.1))
 
@@ -101,7 +101,7 @@ unfolding out
 put-end-ellipsis-requires c κs =
     let a = c.args in
     let p = c.requires in
-    let cut = c.if-not-p.false in
+    let cut = (not-false _ c.if-not-p.false) in
     let e = end_cut a.p (content c.before.before.before.before.before.before.before.before.before.before.before.before.before.before.before.before.before.before.before.before.before.before.before.before) (ellipsis c.before.before.before.before.before.before.before.before.before.before.before.before.before.before.before.before.before.before.before.before.before.before.before.before) cut in
     let w = c.put_up_to-c.ensures.0 in
     let f = first c.before.before.before.before.before.before.before.before.before.before.before.before.before.before.before.before.before.before.before.before.before.before.before.before _ cut w in
@@ -121,7 +121,7 @@ unfolding out
 returns-2 c =
     let a = c.args in
     let p = c.requires in
-    let e = end_cut a.p (content c.before.before.before.before.before.before.before.before.before.before.before.before.before.before.before.before.before.before.before.before.before.before.before.before.before.before.before.before.before.before.before) (ellipsis c.before.before.before.before.before.before.before.before.before.before.before.before.before.before.before.before.before.before.before.before.before.before.before.before.before.before.before.before.before.before.before) (c.if-not-p.false) in
+    let e = end_cut a.p (content c.before.before.before.before.before.before.before.before.before.before.before.before.before.before.before.before.before.before.before.before.before.before.before.before.before.before.before.before.before.before.before) (ellipsis c.before.before.before.before.before.before.before.before.before.before.before.before.before.before.before.before.before.before.before.before.before.before.before.before.before.before.before.before.before.before.before) ((not-false _ c.if-not-p.false)) in
     let w = then _ _ _ _ _ _ e p.1.1.1 c.put_up_to-c.ensures.0 c.put_end_ellipsis.ensures.0 in
     (w, held c.before.before.before.before.before.before.before.before.before.before.before.before.before.before.before.before.before.before.before.before.before.before.before.before.before.before.before.before.before.before.before _ w)
 

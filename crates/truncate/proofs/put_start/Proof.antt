@@ -6,7 +6,7 @@ use mathlib.Core.List.{List, [], ◌∷◌}
 use Prim.Native.Nat.{ℕ, ◌-◌}
 use mathlib.Core.Bool.{true}
 use lib.ListN.{length, drop, length-drop}
-use borrow.Author.Tests.{not-true, not_false}
+use borrow.Author.Tests.{not-true, not-false}
 use Rattle.buffer.specs.Held.{HoldsUpTo}
 use Rattle.buffer.specs.LendsOn.{LendsOn, own_arrays, acts, touches, loops, calls, called}
 use Rattle.buffer.proofs.HeldLaws.{held_self}
@@ -46,7 +46,7 @@ held : (s : tie.Start) (o : Out) → o ≡ add (start_items s.args.p (content s)
 held s o w =
     let a = s.args in
     all_held (start_items a.p (content s) (ellipsis s)) (lent s) o refl w (finished s)
-    (start_finished a.p a.content.now a.entries.now a.text.now a.ellipsis.now a.ellipsis-entries.now a.ellipsis-text.now)
+    (start_finished a.p a.content.now a.entries.now a.text.now a.ellipsis.now a.ellipsis_entries.now a.ellipsis_text.now)
 
 -- after the first run
 first : (s : tie.Start) (o : Out) → s.args.p.cut ≡ true → o ≡ add (edit (cut_start_of s.args.p.ellipsis) (items (ellipsis s))) (lent s)
@@ -54,7 +54,7 @@ first : (s : tie.Start) (o : Out) → s.args.p.cut ≡ true → o ≡ add (edit 
 first s o cut w =
     let a = s.args in
     let is = edit (cut_start_of a.p.ellipsis) (items (ellipsis s)) in
-    let run = from_run a.p.ellipsis a.ellipsis.now a.ellipsis-entries.now a.ellipsis-text.now in
+    let run = from_run a.p.ellipsis a.ellipsis.now a.ellipsis_entries.now a.ellipsis_text.now in
     let runs = start_runs a.p a.content.now a.ellipsis.now cut in
     let place = (all_held is (lent s) o refl w (drop a.p.ellipsis a.ellipsis.now) run).0 ∙ length-drop a.p.ellipsis a.ellipsis.now in
     (place, first_held is (lent s) o refl w (drop a.p.ellipsis a.ellipsis.now) (drop a.p.content a.content.now) (finished s) run runs)
@@ -65,7 +65,7 @@ unfolding out
 put-from-requires c κs =
     let a = c.args in
     let p = c.requires in
-    let e = start_whole a.p (content c.before.before.before.before.before.before.before.before.before.before.before.before.before.before) (ellipsis c.before.before.before.before.before.before.before.before.before.before.before.before.before.before) c.if-not-p.true in
+    let e = start_whole a.p (content c.before.before.before.before.before.before.before.before.before.before.before.before.before.before) (ellipsis c.before.before.before.before.before.before.before.before.before.before.before.before.before.before) (not-true _ c.if-not-p.true) in
     (p.0, (p.1.1.0.0, rw e at p.1.1.1))
 
 same_length : tie.Need-shape_of-bytes-then-not-p
@@ -81,7 +81,7 @@ returns : tie.Need-returns-then-not-p
 unfolding out
 returns c =
     let a = c.args in
-    let e = start_whole a.p (content c.before.before.before.before.before.before.before.before.before.before.before.before.before.before.before.before.before.before.before.before.before) (ellipsis c.before.before.before.before.before.before.before.before.before.before.before.before.before.before.before.before.before.before.before.before.before) c.if-not-p.true in
+    let e = start_whole a.p (content c.before.before.before.before.before.before.before.before.before.before.before.before.before.before.before.before.before.before.before.before.before) (ellipsis c.before.before.before.before.before.before.before.before.before.before.before.before.before.before.before.before.before.before.before.before.before) (not-true _ c.if-not-p.true) in
     let w = c.put_from.ensures.0 ∙ ap (λ (x : List Item). add x (lent c.before.before.before.before.before.before.before.before.before.before.before.before.before.before.before.before.before.before.before.before.before)) (sym e) in
     (w, held c.before.before.before.before.before.before.before.before.before.before.before.before.before.before.before.before.before.before.before.before.before _ w)
 
@@ -90,7 +90,7 @@ unfolding out
 put-from-requires-2 c κs =
     let a = c.args in
     let p = c.requires in
-    let cut = c.if-not-p.false in
+    let cut = (not-false _ c.if-not-p.false) in
     let e = start_cut a.p (content c.before.before.before.before.before.before.before.before.before.before.before.before.before.before) (ellipsis c.before.before.before.before.before.before.before.before.before.before.before.before.before.before) cut in
     (p.1.0, (p.1.1.0.1, fits_first _ _ _ _ e p.1.1.1))
 
@@ -99,7 +99,7 @@ unfolding out
 put-start-content-requires c κs =
     let a = c.args in
     let p = c.requires in
-    let cut = c.if-not-p.false in
+    let cut = (not-false _ c.if-not-p.false) in
     let e = start_cut a.p (content c.before.before.before.before.before.before.before.before.before.before.before.before.before.before.before.before.before.before.before.before.before.before.before.before) (ellipsis c.before.before.before.before.before.before.before.before.before.before.before.before.before.before.before.before.before.before.before.before.before.before.before.before) cut in
     let w = c.put_from-c.ensures.0 in
     let f = first c.before.before.before.before.before.before.before.before.before.before.before.before.before.before.before.before.before.before.before.before.before.before.before.before _ cut w in
@@ -119,7 +119,7 @@ unfolding out
 returns-2 c =
     let a = c.args in
     let p = c.requires in
-    let e = start_cut a.p (content c.before.before.before.before.before.before.before.before.before.before.before.before.before.before.before.before.before.before.before.before.before.before.before.before.before.before.before.before.before.before.before) (ellipsis c.before.before.before.before.before.before.before.before.before.before.before.before.before.before.before.before.before.before.before.before.before.before.before.before.before.before.before.before.before.before.before) (c.if-not-p.false) in
+    let e = start_cut a.p (content c.before.before.before.before.before.before.before.before.before.before.before.before.before.before.before.before.before.before.before.before.before.before.before.before.before.before.before.before.before.before.before) (ellipsis c.before.before.before.before.before.before.before.before.before.before.before.before.before.before.before.before.before.before.before.before.before.before.before.before.before.before.before.before.before.before.before) ((not-false _ c.if-not-p.false)) in
     let w = then _ _ _ _ _ _ e p.1.1.1 c.put_from-c.ensures.0 c.put_start_content.ensures.0 in
     (w, held c.before.before.before.before.before.before.before.before.before.before.before.before.before.before.before.before.before.before.before.before.before.before.before.before.before.before.before.before.before.before.before _ w)
 

@@ -34,13 +34,13 @@ given s =
     let a = s.args in
     record {
       kind = truncated_start;
-      width = a.max-width;
+      width = a.max_width;
       ds = a.content.now;
       ns = a.entries.now;
       ts = a.text.now;
       fs = a.ellipsis.now;
-      gs = a.ellipsis-entries.now;
-      us = a.ellipsis-text.now;
+      gs = a.ellipsis_entries.now;
+      us = a.ellipsis_text.now;
       od = a.bytes.now;
       oe = a.numbers.now;
       ot = a.texts.now;
@@ -48,7 +48,7 @@ given s =
 
 -- once both recordings are checked
 abbrev start : tie.In-Fine → tie.Start
-start c = c.before.before.before.before.before.before.before.before.before.before.before.before
+start c = c.before.before.before.before.before.before.before.before.before.before.before
 
 abbrev sizes : tie.In-Fine → TextSizes
 sizes c = c.in-Fine.n
@@ -77,7 +77,7 @@ abbrev planned : tie.After-settle-verdict → tie.After-plus_if-2
 planned c = (sized c).before
 
 measured : (c : tie.After-settle-verdict)
-    → let n = planned c in Measured (call n) n.plus-if2.result (result n) ((length (call n).ds - (plan n).content) + (length (call n).fs - (plan n).ellipsis)) c.plus_if-3.result (sized c).text-size.result
+    → let n = planned c in Measured (call n) n.plus_if-2.result (result n) ((length (call n).ds - (plan n).content) + (length (call n).fs - (plan n).ellipsis)) c.plus_if-3.result (sized c).text_size-shared.result
 measured c =
     let n = planned c in
     let m = n.measure_start-p in

@@ -5,7 +5,7 @@ use mathlib.Core.Path.{◌≡◌, refl, sym, ◌∙◌}
 use mathlib.Core.Bool.{true}
 use mathlib.Core.List.{List}
 use lib.ListN.{length, drop}
-use borrow.Author.Tests.{not-true, not_false}
+use borrow.Author.Tests.{not-true, not-false}
 use Rattle.recording.specs.Check.{fault_of, Counted}
 use Rattle.layout.specs.Unindent.{begins_with}
 use Rattle.unindent.proofs.Laws.{moves}

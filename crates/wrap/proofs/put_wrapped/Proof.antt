@@ -4,7 +4,7 @@ use Rattle.wrap_lines.proofs.WrapLaws as lists
 use Rattle.wrap.proofs.PlanLaws as laws
 use Rattle.writer.proofs.Carry.{bytes_wrote}
 use Rattle.writer.specs.Write.{out, blank}
-use borrow.Author.Tests.{not-true, not_false}
+use borrow.Author.Tests.{not-true, not-false}
 use lib.ListN.{length}
 use mathlib.Core.Path.{refl, ◌∙◌}
 use mathlib.Core.List.{[], ◌∷◌}
@@ -76,13 +76,13 @@ put-newline-requires c κs =
     let n = (found c.before.before.before.before.before.before.before.before.before).next_line-l in
     let l = c.put_line-c.ensures in
     let f = laws.room_newline _ _ _ _ _ _ _ _ _ (found c.before.before.before.before.before.before.before.before.before).loop-l.invariant.0 (start (found c.before.before.before.before.before.before.before.before.before)).requires.1.1.0 n.result n.ensures.0 _ _ l.0 l.1.0 l.1.1.0 l.1.1.1
-    (c.if-not-l.false) in
+    ((not-false _ c.if-not-l.false)) in
     omega (arith, f.data_bytes)
 
 loop-less : tie.Need-loop-l-smaller invariant-loop decreases-loop
 loop-less c =
     let n = (found c.before.before.before.before.before.before.before.before.before.before.before.before).next_line-l in
-    omega (arith, n.ensures.1.0.2, (n.ensures.1.0.3 (c.if-not-l.false)).0)
+    omega (arith, n.ensures.1.0.2, (n.ensures.1.0.3 ((not-false _ c.if-not-l.false))).0)
 
 loop-again : tie.Need-loop-l-preserved invariant-loop decreases-loop
 loop-again c =
@@ -91,11 +91,11 @@ loop-again c =
     let l = c.put_line-c.ensures in
     let w = c.put_newline-c.ensures in
     let s = (listed c.before.before.before.before.before.before.before.before.before.before.before.before).set_line-k in
-    let m = c.if-not-l.false in
+    let m = (not-false _ c.if-not-l.false) in
     let v = bytes_wrote _ _ _ _ (0x0A ∷ []) _ _ w.1 w.0.2 w.0.3 w.0.4 in (
       laws.step _ _ _ _ _ _ _ _ _ S.0 (start (found c.before.before.before.before.before.before.before.before.before.before.before.before)).requires.1.1.0 n.result n.ensures.0 _ _ l.0 l.1.0 l.1.1.0 l.1.1.1 m _ _ v w.0.0 w.0.1
           (n.ensures.1.0.3 m).1 n.ensures.1.0.2,
-      lists.next _ _ _ _ _ _ _ S.1 n.result n.ensures.0 n.ensures.1.1.0 _ _ s.ensures.0 s.ensures.1 s.kept.0 m n.ensures.1.0.2,
+      lists.next _ _ _ _ _ _ _ S.1 n.result n.ensures.0 n.ensures.1.1.0 _ _ s.ensures.0 s.ensures.1 s.auto.0 m n.ensures.1.0.2,
     )
 
 skip-requires : tie.Need-skip-last-requires invariant-loop decreases-loop
@@ -103,7 +103,7 @@ skip-requires c κs =
     let n = (found c.before.before.before.before.before.before.before.before.before.before.before).next_line-l in
     let l = c.put_line-c.ensures in
     let f = laws.room_behind _ _ _ _ _ _ _ _ _ (found c.before.before.before.before.before.before.before.before.before.before.before).loop-l.invariant.0 (start (found c.before.before.before.before.before.before.before.before.before.before.before)).requires.1.1.0 n.result n.ensures.0 _ _ l.0 l.1.0 l.1.1.0 l.1.1.1
-    c.if-not-l.true in
+    (not-true _ c.if-not-l.true) in
     (l.1.1.0, ((omega (arith, l.1.1.1, n.ensures.1.0.1), omega arith), f))
 
 same_length : tie.Need-shape_of-bytes invariant-loop decreases-loop
@@ -134,10 +134,10 @@ returns c =
     let n = (found c.before.before.before.before.before.before.before.before.before.before.before.before.before.before.before.before.before.before).next_line-l in
     let l = c.put_line-c.ensures in
     let s = (listed c.before.before.before.before.before.before.before.before.before.before.before.before.before.before.before.before.before.before).set_line-k in
-    let m = c.if-not-l.true in (
+    let m = (not-true _ c.if-not-l.true) in (
       laws.finish _ _ _ _ _ _ _ _ _ S.0 (start (found c.before.before.before.before.before.before.before.before.before.before.before.before.before.before.before.before.before.before)).requires.1.1.0 n.result n.ensures.0 _ _ l.0 l.1.0 l.1.1.0 l.1.1.1 m _
           c.skip-last.ensures.0,
-      lists.last _ _ _ _ _ _ _ S.1 n.result n.ensures.0 n.ensures.1.1.0 _ s.result s.ensures.0 s.ensures.1 s.kept.0 m,
+      lists.last _ _ _ _ _ _ _ S.1 n.result n.ensures.0 n.ensures.1.1.0 _ s.result s.ensures.0 s.ensures.1 s.auto.0 m,
     )
 
 pub put_wrapped_spec : {M : Type 1} → statement M

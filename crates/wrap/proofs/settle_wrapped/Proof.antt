@@ -38,13 +38,13 @@ returns : tie.Need-returns-in-Room
 unfolding settled_fault
 returns c =
     let a = c.args in
-    let ls = wrap_lines_of a.width a.break-words a.content.now in
+    let ls = wrap_lines_of a.width a.break_words a.content.now in
     let h = sym c.settle-largest.ensures ∙ ap settled_fault c.in-Room.is in
     sym (smaller_fits _ _ _ _ _ _ _ h c.most_bytes.ensures
     (omega (
       arith,
       numbers_length a.content.now ls,
-      lines_few a.width a.break-words a.content.now c.requires.1,
+      lines_few a.width a.break_words a.content.now c.requires.1,
       c.numbers_of.ensures,
     )))
 
@@ -72,7 +72,7 @@ returns-2 c =
     let a = c.args in
     let e = c.count_lines-found.ensures.0 in
     let d = ap (λ (x : Lines). x.bytes + (x.count - 1)) e in
-    let l = c.numbers_of-2.ensures ∙ ap (λ (x : Lines). x.count * line_size) e ∙ sym (numbers_length a.content.now (wrap_lines_of a.width a.break-words a.content.now)) in
+    let l = c.numbers_of-2.ensures ∙ ap (λ (x : Lines). x.count * line_size) e ∙ sym (numbers_length a.content.now (wrap_lines_of a.width a.break_words a.content.now)) in
     c.settle.ensures ∙ (λ i. sizes_fault (d i) a.e a.t (l i) (room_of_state a.bytes a.numbers a.texts a.lines))
 
 pub settle_wrapped_spec : {M : Type 1} → statement M

@@ -3,7 +3,7 @@ use native.Mathlib.Omega.{arith}
 use borrow.Author.Rules.{rules}
 use Rattle.wrap_lines.proofs.WrapLaws as laws
 use Rattle.wrap_lines.specs.WrapBytes.{lines_of}
-use borrow.Author.Tests.{not-true, not_false}
+use borrow.Author.Tests.{not-true, not-false}
 use lib.ListN.{length}
 use Prim.Native.Nat.{◌-◌}
 use Rattle.wrap_lines.proofs.count_lines.Statement.{statement}
@@ -41,12 +41,12 @@ add-bytes c =
 loop-less : tie.Need-loop-l-smaller invariant-loop decreases-loop
 loop-less c =
     let l = c.next_line-l in
-    omega (arith, l.ensures.1.0.2, (l.ensures.1.0.3 (c.if-not-l.false)).0)
+    omega (arith, l.ensures.1.0.2, (l.ensures.1.0.3 ((not-false _ c.if-not-l.false))).0)
 
 loop-again : tie.Need-loop-l-preserved invariant-loop decreases-loop
 loop-again c =
     let l = c.next_line-l in
-    let m = c.if-not-l.false in
+    let m = (not-false _ c.if-not-l.false) in
     let p = l.ensures.1.0.3 m in
     laws.count_on _ _ _ _ _ _ c.loop-l.invariant l.result l.ensures.0 m l.ensures.1.0.2 p.0 l.ensures.1.0.0 p.1
 
@@ -55,7 +55,7 @@ unfolding lines_of
 returns c =
     let l = c.next_line-l in
     let S = c.loop-l.invariant in
-    let k = laws.count_last _ _ _ _ _ _ S l.result l.ensures.0 c.if-not-l.true in
+    let k = laws.count_last _ _ _ _ _ _ S l.result l.ensures.0 (not-true _ c.if-not-l.true) in
     (λ i. record { count = k.0 i; bytes = k.1 i }, (omega arith, omega (arith, S.few, S.within), omega (arith, S.shown, l.ensures.1.0.0, l.ensures.1.0.1)))
 
 pub count_lines_spec : {M : Type 1} → statement M

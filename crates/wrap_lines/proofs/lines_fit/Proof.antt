@@ -27,11 +27,11 @@ numbers-of-requires c κs = search rules
 returns : tie.Need-returns-then-numbers_of-room
 returns c =
     let a = c.args in
-    sym (le-leb (length (line_numbers a.«data».now (wrap_lines_of a.width a.break-words a.«data».now))) a.room
+    sym (le-leb (length (line_numbers a.«data».now (wrap_lines_of a.width a.break_words a.«data».now))) a.room
     (omega (
       arith,
-      numbers_length a.«data».now (wrap_lines_of a.width a.break-words a.«data».now),
-      lines_few a.width a.break-words a.«data».now c.requires.1,
+      numbers_length a.«data».now (wrap_lines_of a.width a.break_words a.«data».now),
+      lines_few a.width a.break_words a.«data».now c.requires.1,
       c.numbers_of.ensures,
       c.if-numbers_of-room.true,
     )))
@@ -47,7 +47,7 @@ unfolding lines_of
 returns-2 c =
     let a = c.args in
     let e = ap (λ (x : Lines). x.count * line_size) c.count_lines-found.ensures.0 in
-    ap (λ (n : ℕ). leb n a.room) (c.numbers_of-2.ensures ∙ e ∙ sym (numbers_length a.«data».now (wrap_lines_of a.width a.break-words a.«data».now)))
+    ap (λ (n : ℕ). leb n a.room) (c.numbers_of-2.ensures ∙ e ∙ sym (numbers_length a.«data».now (wrap_lines_of a.width a.break_words a.«data».now)))
 
 pub lines_fit_spec : {M : Type 1} → statement M
 lines_fit_spec =

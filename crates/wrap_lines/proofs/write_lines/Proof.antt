@@ -1,7 +1,7 @@
 -- The numbers written, and those of the lines from `at` on, are the numbers of all lines (`Written`).
 use native.Mathlib.Omega.{arith}
 use Rattle.wrap_lines.proofs.WrapLaws as laws
-use borrow.Author.Tests.{not-true, not_false}
+use borrow.Author.Tests.{not-true, not-false}
 use lib.ListN.{length}
 use mathlib.Core.Path.{◌∙◌}
 use Prim.Native.Nat.{◌-◌}
@@ -54,8 +54,8 @@ set-line-requires c κs =
 
 loop-less : tie.Need-loop-l-smaller invariant-loop decreases-loop
 loop-less c =
-    let l = (found (set c.before).before).next-line in
-    omega (arith, l.ensures.1.0.2, (l.ensures.1.0.3 (c.if-not-l.false)).0)
+    let l = (found (set c.before).before).next_line-l in
+    omega (arith, l.ensures.1.0.2, (l.ensures.1.0.3 ((not-false _ c.if-not-l.false))).0)
 
 loop-again : tie.Need-loop-l-preserved invariant-loop decreases-loop
 loop-again c =
@@ -63,13 +63,13 @@ loop-again c =
     let f = found a.before in
     let l = f.next_line-l in
     let s = a.set_line-k in
-    laws.next _ _ _ _ _ _ _ f.loop-l.invariant l.result l.ensures.0 l.ensures.1.1.0 _ _ s.ensures.0 s.ensures.1 s.kept.0 (c.if-not-l.false)
+    laws.next _ _ _ _ _ _ _ f.loop-l.invariant l.result l.ensures.0 l.ensures.1.1.0 _ _ s.ensures.0 s.ensures.1 s.auto.lines ((not-false _ c.if-not-l.false))
     l.ensures.1.0.2
 
 same_length : tie.Need-shape_of-lines invariant-loop decreases-loop
 same_length c =
     let a = set c.before in
-    a.set_line-k.kept.0 ∙ (found a.before).loop-l.invariant.filled.long
+    a.set_line-k.auto.lines ∙ (found a.before).loop-l.invariant.filled.long
 
 returns : tie.Need-returns invariant-loop decreases-loop
 returns c =
@@ -78,7 +78,7 @@ returns c =
     let S = f.loop-l.invariant in
     let l = f.next_line-l in
     let s = a.set_line-k in
-    laws.last _ _ _ _ _ _ _ S l.result l.ensures.0 l.ensures.1.1.0 _ s.result s.ensures.0 s.ensures.1 s.kept.0 c.if-not-l.true
+    laws.last _ _ _ _ _ _ _ S l.result l.ensures.0 l.ensures.1.1.0 _ s.result s.ensures.0 s.ensures.1 s.auto.lines (not-true _ c.if-not-l.true)
 
 pub write_lines_spec : {M : Type 1} → statement M
 write_lines_spec =
