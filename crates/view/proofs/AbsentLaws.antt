@@ -1,6 +1,6 @@
 -- Where no push has the label, the floor reads what the office reads, entry for entry (`absent_label`). The idea: no byte is under it, so every character stays, and no raw sequence is dropped.
 use Prim.Native.Nat.{ℕ, zero, suc}
-use mathlib.Core.Bool.{Bool, false, ◌||◌, or_false, or_assoc, or_comm}
+use mathlib.Core.Bool.{Bool, false, ◌||◌, or-false, or_assoc, or_comm}
 use mathlib.Core.Path.{◌≡◌, refl, sym, ap, ◌∙◌}
 use mathlib.Core.List.{List, [], ◌∷◌, ◌++◌, tail, reverse, reverse-cons}
 use lib.ListN.{length, take, drop}
@@ -26,7 +26,7 @@ module _ (l : Bytes) where
   pub among_reverse : (s : List Bytes) → among l (reverse s) ≡ among l s
   among_reverse [] = refl
   among_reverse (k ∷ s) =
-      rw (reverse-cons k s, among_append (reverse s) (k ∷ []), among_reverse s, or_false (same l k)) (or_comm (among l s) (same l k))
+      rw (reverse-cons k s, among_append (reverse s) (k ∷ []), among_reverse s, or-false (same l k)) (or_comm (among l s) (same l k))
 
   pub among_tail : (s : List Bytes) → among l s ≡ false → among l (tail s) ≡ false
   among_tail [] h = refl

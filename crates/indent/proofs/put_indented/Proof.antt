@@ -87,19 +87,19 @@ same_length : tie.Need-shape_of-bytes invariant-loop decreases-loop
 unfolding out
 same_length c =
     let l = (ended c.before.before.before.before.before.before).before in
-    c.keep.auto.0 ∙ (long_now _ _ _ _ _ _ _ _ l.loop.invariant (start l).requires.1).data_bytes
+    c.keep.auto.bytes ∙ (long_now _ _ _ _ _ _ _ _ l.loop-p.invariant (start l).requires.1).data_bytes
 
 same-length-2 : tie.Need-shape_of-numbers invariant-loop decreases-loop
 unfolding out
 same-length-2 c =
     let l = (ended c.before.before.before.before.before.before).before in
-    c.keep.auto.1.0 ∙ (long_now _ _ _ _ _ _ _ _ l.loop.invariant (start l).requires.1).entry_numbers
+    c.keep.auto.numbers ∙ (long_now _ _ _ _ _ _ _ _ l.loop-p.invariant (start l).requires.1).entry_numbers
 
 same-length-3 : tie.Need-shape_of-texts invariant-loop decreases-loop
 unfolding out
 same-length-3 c =
     let l = (ended c.before.before.before.before.before.before).before in
-    c.keep.auto.1.1.0 ∙ (long_now _ _ _ _ _ _ _ _ l.loop.invariant (start l).requires.1).text
+    c.keep.auto.texts ∙ (long_now _ _ _ _ _ _ _ _ l.loop-p.invariant (start l).requires.1).text
 
 returns : tie.Need-returns invariant-loop decreases-loop
 returns c =

@@ -49,7 +49,7 @@ given s =
 
 -- once both recordings are checked
 abbrev start : tie.In-Fine → tie.Start
-start c = c.before.before.before.before.before.before.before.before.before.before.before.before
+start c = c.before.before.before.before.before.before.before.before.before.before.before
 
 abbrev sizes : tie.In-Fine → TextSizes
 sizes c = c.in-Fine.n

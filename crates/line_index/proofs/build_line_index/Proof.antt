@@ -79,7 +79,7 @@ write-index-requires : tie.Need-write_index-count-requires
 write-index-requires c κs = (short c.before.before.before.before, fits c.before)
 
 same_length : tie.Need-shape_of-index
-same_length c = c.write_index-count.auto.1.0
+same_length c = c.write_index-count.auto.index
 
 returns-4 : tie.Need-returns
 returns-4 c =

@@ -56,7 +56,7 @@ new k = length (starts_from (earlier k) (drop (earlier k) (bytes k)))
 
 -- the check, seen from where the earlier part has been tested
 abbrev checked : tie.Else-not-is_index → tie.After-check-checked
-checked c = c.before.before.before.before.before.before.before.before
+checked c = c.before.before.before.before.before.before.before
 
 fine : (c : tie.Else-not-is_index) → recording_fault (content (checked c)) ≡ 0
 fine c = clean c.before.before.before.before.before.before
@@ -126,7 +126,7 @@ same_length c = search rules
 returns-4 : tie.Need-returns-then-not-is_index
 returns-4 c =
     let t = c.is_index in
-    calls.extend_wrong (content c.before.before.before.before.before.before.before.before) (list c.before.before.before.before.before.before.before.before) (earlier c.before.before.before.before.before.before.before.before) (used c.before.before.before.before.before.before.before.before) (clean c.before.before.before.before.before.before) c.if-index-used.false
+    calls.extend_wrong (content c.before.before.before.before.before.before.before) (list c.before.before.before.before.before.before.before) (earlier c.before.before.before.before.before.before.before) (used c.before.before.before.before.before.before.before.before) (clean c.before.before.before.before.before.before) c.if-index-used.false
     c.if-content-earlier.false
     (calls.fronts_same (bytes c.before.before.before.before.before.before.before.before) (list c.before.before.before.before.before.before.before.before) (earlier c.before.before.before.before.before.before.before.before) (used c.before.before.before.before.before.before.before.before) t.result t.ensures ∙ c.if-not-is_index.true)
 
@@ -154,7 +154,7 @@ write-starts-requires c κs =
     )
 
 same-length-3 : tie.Need-shape_of-index
-same-length-3 c = c.write_starts-count.auto.1.1.0
+same-length-3 c = c.write_starts-count.auto.index
 
 returns-6 : tie.Need-returns
 returns-6 c =

@@ -68,9 +68,9 @@ loop-again c =
     let ways
     = ⊎_elim
     (λ w. fill_stored all rest a.index.now c.loop-at.index a.k c.loop-at.n c.loop-at.invariant.2 c.requires.1 (c.loop-at.at + 1) next c.if-s-at-eq10.index c.if-s-at-eq10.n
-    (starts_newline c.loop-at.at a.to a.s.now (omega arith) c.requires.0.1 w.0.true) w.1 w.2)
+    (starts_newline c.loop-at.at a.to a.s.now (omega arith) c.requires.0.1 w.if-s-at-eq10.true) w.index-is w.n-is)
     (λ w. fill_kept all rest a.index.now c.loop-at.index a.k c.loop-at.n c.loop-at.invariant.2 next c.if-s-at-eq10.index c.if-s-at-eq10.n
-    (starts_other c.loop-at.at a.to a.s.now (omega arith) c.requires.0.1 w.0.left) w.1 w.2)
+    (starts_other c.loop-at.at a.to a.s.now (omega arith) c.requires.0.1 w.if-s-at-eq10.false) w.index-is w.n-is)
     c.if-s-at-eq10.branch-raw in
     (omega (arith, c.loop-at.invariant.0), omega arith, ways)
 

@@ -19,7 +19,7 @@ write-starts-requires c κs =
 
 same_length : tie.Need-shape_of-index
 same_length c =
-    c.write_starts.auto.1.1.0 ∙ length-set c.args.index.now 0 0
+    c.write_starts.auto.index ∙ length-set c.args.index.now 0 0
 
 returns : tie.Need-returns
 returns c =

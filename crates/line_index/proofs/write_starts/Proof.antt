@@ -67,9 +67,9 @@ loop-again c =
     let ways
     = ⊎_elim
     (λ w. fill_more all rest c.args.index.now c.loop-at.index c.args.first c.loop-at.k S (omega (arith, c.requires.1)) (starts_from at (part at (at + 16) s)) next c.if-has_break.index c.if-has_break.k
-    (starts_part at (at + 16) s (omega arith) (omega arith)) (w.5 ∙ w.2.ensures.0) (ap length w.5 ∙ w.2.auto.1.1.1.0) (w.6 ∙ w.2.ensures.1))
+    (starts_part at (at + 16) s (omega arith) (omega arith)) (w.index-is ∙ w.put_starts-k.ensures.0) (ap length w.index-is ∙ w.put_starts-k.auto.index) (w.k-is ∙ w.put_starts-k.ensures.1))
     (λ w. fill_kept all rest c.args.index.now c.loop-at.index c.args.first c.loop-at.k S next c.if-has_break.index c.if-has_break.k
-    (starts_block 16 at s (ltb-false (to_break (drop at s)) 16 (sym c.has_break.ensures ∙ w.0.left))) w.1 w.2)
+    (starts_block 16 at s (ltb-false (to_break (drop at s)) 16 (sym c.has_break.ensures ∙ w.if-has_break.false))) w.index-is w.k-is)
     c.if-has_break.branch-raw in
     (omega (arith, c.loop-at.invariant.0), omega arith, ways)
 
@@ -80,7 +80,7 @@ put-starts-requires-2 c κs =
 
 same_length : tie.Need-shape_of-index invariant-loop decreases-loop
 same_length c =
-    c.put_starts.auto.1.1.1.0 ∙ c.loop-at.invariant.2.long
+    c.put_starts.auto.index ∙ c.loop-at.invariant.2.long
 
 returns : tie.Need-returns invariant-loop decreases-loop
 returns c =
@@ -90,7 +90,7 @@ returns c =
     let none = sym (append-nil (starts_from at (part at (length s) s))) in
     let e = sym (starts_rest at s c.loop-at.invariant.1) ∙ none in
     let h : c.args.first ≤ length c.args.index.now = omega (arith, c.requires.1) in
-    let S = fill_more _ (starts_from at (drop at s)) _ _ _ _ c.loop-at.invariant.2 h (starts_from at (part at (length s) s)) [] _ _ e r.ensures.0 r.auto.1.1.1.0 r.ensures.1 in
+    let S = fill_more _ (starts_from at (drop at s)) _ _ _ _ c.loop-at.invariant.2 h (starts_from at (part at (length s) s)) [] _ _ e r.ensures.0 r.auto.index r.ensures.1 in
     fill_end _ [] _ _ _ _ S refl
 
 pub write_starts_spec : {M : Type 1} → statement M

@@ -225,7 +225,7 @@ add-settle c = omega (arith, (within (well (fine c))).1)
 add-settle-2 : tie.Need-overflow_add-text_len
 add-settle-2 c =
     let s = searched c.before in
-    omega (arith, (within (well (fine c.before))).2, (found c.before).1, new_short (label s) (used s).text (entries_of (used s).entry_numbers), s.good)
+    omega (arith, (within (well (fine c.before))).2, (found c.before).1, new_short (label s) (used s).text (entries_of (used s).entry_numbers), s.well_formed)
 
 settle-requires : tie.Need-settle-verdict-requires
 settle-requires c κs = search rules

@@ -54,7 +54,7 @@ set-line-requires c κs =
 
 loop-less : tie.Need-loop-l-smaller invariant-loop decreases-loop
 loop-less c =
-    let l = (found (set c.before).before).next-line in
+    let l = (found (set c.before).before).next_line-l in
     omega (arith, l.ensures.1.0.2, (l.ensures.1.0.3 ((not-false _ c.if-not-l.false))).0)
 
 loop-again : tie.Need-loop-l-preserved invariant-loop decreases-loop
@@ -63,13 +63,13 @@ loop-again c =
     let f = found a.before in
     let l = f.next_line-l in
     let s = a.set_line-k in
-    laws.next _ _ _ _ _ _ _ f.loop-l.invariant l.result l.ensures.0 l.ensures.1.1.0 _ _ s.ensures.0 s.ensures.1 s.auto.0 ((not-false _ c.if-not-l.false))
+    laws.next _ _ _ _ _ _ _ f.loop-l.invariant l.result l.ensures.0 l.ensures.1.1.0 _ _ s.ensures.0 s.ensures.1 s.auto.lines ((not-false _ c.if-not-l.false))
     l.ensures.1.0.2
 
 same_length : tie.Need-shape_of-lines invariant-loop decreases-loop
 same_length c =
     let a = set c.before in
-    a.set_line-k.auto.0 ∙ (found a.before).loop-l.invariant.filled.long
+    a.set_line-k.auto.lines ∙ (found a.before).loop-l.invariant.filled.long
 
 returns : tie.Need-returns invariant-loop decreases-loop
 returns c =
@@ -78,7 +78,7 @@ returns c =
     let S = f.loop-l.invariant in
     let l = f.next_line-l in
     let s = a.set_line-k in
-    laws.last _ _ _ _ _ _ _ S l.result l.ensures.0 l.ensures.1.1.0 _ s.result s.ensures.0 s.ensures.1 s.auto.0 (not-true _ c.if-not-l.true)
+    laws.last _ _ _ _ _ _ _ S l.result l.ensures.0 l.ensures.1.1.0 _ s.result s.ensures.0 s.ensures.1 s.auto.lines (not-true _ c.if-not-l.true)
 
 pub write_lines_spec : {M : Type 1} → statement M
 write_lines_spec =
