@@ -5,7 +5,7 @@ use mathlib.Core.Path.{sym, ap, ◌∙◌}
 use Prim.Native.Nat.{◌-◌}
 use lib.ListN.{length}
 use Rattle.sheet.specs.Sheet.{up_to, after, is_break_text, break_of_text, is_data_text, data_of}
-use borrow.Author.Tests.{not-true, not-false}
+use borrow.Author.Tests.{not-true, not_false}
 use Rattle.rows.proofs.RowLaws.{held, same_row, row_open, row_bad, width_none, width_some, bad_width, bad_break, bad_data, all_good, good_fields, third_shorter}
 use Rattle.rows.proofs.one_row.Statement.{statement}
 use Rattle.rows.proofs.one_row.Tie as tie

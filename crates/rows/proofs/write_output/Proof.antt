@@ -4,7 +4,7 @@ use borrow.Author.Rules.{rules}
 use mathlib.Core.Path.{◌≡◌, sym, ◌∙◌}
 use Prim.Native.Nat.{◌+◌, ◌-◌, ◌<◌}
 use lib.ListN.{length, take, drop}
-use borrow.Author.Tests.{not-true, not-false}
+use borrow.Author.Tests.{not-true, not_false}
 use Rattle.sheet.specs.Sheet.{sheet_lines}
 use Rattle.rows.specs.Rows.{bad_row, rows_from, sheet_heading, rows_heading}
 use Rattle.rows.proofs.RowLaws.{false_true}
