@@ -17,13 +17,13 @@ use Rattle.call_lists.proofs.put_answer.Reads as put-answer-reads
 use Rattle.runs.proofs.turn.Reads as turn-reads
 
 abbrev invariant-loop : tie.invariant-loop-k
-invariant-loop calls pool nums bytes₀ numbers₀ texts₀ other-bytes₀ other-numbers₀ other-texts₀ lines₀ answers₀ held₀ k₀ bytes numbers texts other-bytes other_numbers other_texts lines answers held k =
-    Running pool nums calls (state held₀ (lent_of bytes₀ numbers₀ texts₀) (lent_of other-bytes₀ other-numbers₀ other-texts₀) lines₀ []) answers₀
-    held k (lent_of bytes numbers texts) (lent_of other-bytes other_numbers other_texts) lines answers
-    × Same bytes₀ numbers₀ texts₀ other-bytes₀ other-numbers₀ other-texts₀ lines₀ bytes numbers texts other-bytes other_numbers other_texts lines
+invariant-loop calls pool nums bytes₀ numbers₀ texts₀ other_bytes₀ other_numbers₀ other_texts₀ lines₀ answers₀ held₀ k₀ bytes numbers texts other_bytes other_numbers other_texts lines answers held k =
+    Running pool nums calls (state held₀ (lent_of bytes₀ numbers₀ texts₀) (lent_of other_bytes₀ other_numbers₀ other_texts₀) lines₀ []) answers₀
+    held k (lent_of bytes numbers texts) (lent_of other_bytes other_numbers other_texts) lines answers
+    × Same bytes₀ numbers₀ texts₀ other_bytes₀ other_numbers₀ other_texts₀ lines₀ bytes numbers texts other_bytes other_numbers other_texts lines
 
 abbrev decreases-loop : tie.decreases-loop-k
-decreases-loop calls pool nums bytes₀ numbers₀ texts₀ other-bytes₀ other-numbers₀ other-texts₀ lines₀ answers₀ held₀ k₀ bytes numbers texts other-bytes other_numbers other_texts lines answers held k =
+decreases-loop calls pool nums bytes₀ numbers₀ texts₀ other_bytes₀ other_numbers₀ other_texts₀ lines₀ answers₀ held₀ k₀ bytes numbers texts other_bytes other_numbers other_texts lines answers held k =
     length calls / 8 - k
 
 -- ── what the call was given
@@ -31,7 +31,7 @@ abbrev first : tie.Start invariant-loop decreases-loop → Lent
 first s = lent_of s.args.bytes.now s.args.numbers.now s.args.texts.now
 
 abbrev other : tie.Start invariant-loop decreases-loop → Lent
-other s = lent_of s.args.other_bytes-1.now s.args.other_numbers.now s.args.other_texts.now
+other s = lent_of s.args.other_bytes.now s.args.other_numbers.now s.args.other_texts.now
 
 abbrev at-start : tie.Start invariant-loop decreases-loop → State
 at-start s = state s.args.s (first s) (other s) s.args.lines.now []
@@ -56,7 +56,7 @@ loop-holds c =
     let p = c.requires in (
       starts c.args.pool.now c.args.pool_numbers.now c.args.calls.now c.args.s (first c.before.before.before.before.before.before.before.before.before.before.before) (other c.before.before.before.before.before.before.before.before.before.before.before) c.args.lines.now c.args.answers.now
           p.1.0 p.1.1 p.0.0,
-      record { bytes = refl; numbers = refl; texts = refl; other-bytes = refl; other_numbers = refl; other_texts = refl; lines = refl },
+      record { bytes = refl; numbers = refl; texts = refl; other_bytes = refl; other_numbers = refl; other_texts = refl; lines = refl },
     )
 
 mul-turn : tie.Need-overflow_mul-k invariant-loop decreases-loop
@@ -70,7 +70,7 @@ turn-requires c κs =
       omega (arith, t.loop-k-test.true),
       (
         head_fits s.args.pool.now s.args.pool_numbers.now s.args.calls.now (at-start s) s.args.answers.now
-            l.held l.k l.bytes l.numbers l.texts l.other_bytes-1 l.other_numbers l.other_texts l.lines l.answers l.invariant.0 t.loop-k-test.true,
+            l.held l.k l.bytes l.numbers l.texts l.other_bytes l.other_numbers l.other_texts l.lines l.answers l.invariant.0 t.loop-k-test.true,
         l.invariant.0.sound,
       ),
     )
@@ -97,19 +97,19 @@ loop-again c =
     let l = t.loop-k in
     let s = start t.before in
     let w = c.put_answer in
-    let k = u.turn-a.auto.bytes in
+    let k = u.turn-a.auto in
     let v = l.invariant.1 in (
       again s.args.pool.now s.args.pool_numbers.now s.args.calls.now (at-start s) s.args.answers.now
-          l.held l.k l.bytes l.numbers l.texts l.other_bytes-1 l.other_numbers l.other_texts l.lines l.answers l.invariant.0
+          l.held l.k l.bytes l.numbers l.texts l.other_bytes l.other_numbers l.other_texts l.lines l.answers l.invariant.0
           s.requires.0.1 t.loop-k-test.true u.turn-a.result _ _ _ _ _ _ _ _ u.turn-a.ensures w.ensures w.auto.answers c.moved-held.result c.moved-held.ensures,
       record {
-        bytes = k.0 ∙ v.bytes;
-        numbers = k.1.0 ∙ v.numbers;
-        texts = k.1.1.0 ∙ v.texts;
-        other-bytes = k.1.1.1.0 ∙ v.other_bytes-1;
-        other_numbers = k.1.1.1.1.0 ∙ v.other_numbers;
-        other_texts = k.1.1.1.1.1.0 ∙ v.other_texts;
-        lines = k.1.1.1.1.1.1.0 ∙ v.lines;
+        bytes = k.bytes ∙ v.bytes;
+        numbers = k.numbers ∙ v.numbers;
+        texts = k.texts ∙ v.texts;
+        other_bytes = k.other_bytes ∙ v.other_bytes;
+        other_numbers = k.other_numbers ∙ v.other_numbers;
+        other_texts = k.other_texts ∙ v.other_texts;
+        lines = k.lines ∙ v.lines;
       },
     )
 
@@ -123,7 +123,7 @@ same-length-3 : tie.Need-shape_of-texts invariant-loop decreases-loop
 same-length-3 c = c.loop-k.invariant.1.texts
 
 same-length-4 : tie.Need-shape_of-other_bytes invariant-loop decreases-loop
-same-length-4 c = c.loop-k.invariant.1.other_bytes-1
+same-length-4 c = c.loop-k.invariant.1.other_bytes
 
 same-length-5 : tie.Need-shape_of-other_numbers invariant-loop decreases-loop
 same-length-5 c = c.loop-k.invariant.1.other_numbers
@@ -142,7 +142,7 @@ returns c =
     let l = c.loop-k in
     let s = start c.before in
     ran s.args.pool.now s.args.pool_numbers.now s.args.calls.now (at-start s) s.args.answers.now
-    l.held l.k l.bytes l.numbers l.texts l.other_bytes-1 l.other_numbers l.other_texts l.lines l.answers l.invariant.0 s.requires.0.1 c.loop-k-test.false
+    l.held l.k l.bytes l.numbers l.texts l.other_bytes l.other_numbers l.other_texts l.lines l.answers l.invariant.0 s.requires.0.1 c.loop-k-test.false
 
 pub run_all_spec : {M : Type 1} → statement M
 run_all_spec =
