@@ -14,7 +14,6 @@ use Rattle.rows.proofs.write_output.Tie as tie
 use Rattle.rows.proofs.write_output.Reads as reads
 use Rattle.rows.proofs.write_output.Lts as lts
 use Rattle.buffer.proofs.put.Reads as put_reads
-use Rattle.check.proofs.same.Reads as same_Reads
 use Rattle.rows.proofs.data_buffer.Reads as data-buffer-reads
 use Rattle.rows.proofs.line_list.Reads as line-list-reads
 use Rattle.rows.proofs.put_bad.Reads as put-bad-reads
