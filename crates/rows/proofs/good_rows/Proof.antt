@@ -75,7 +75,7 @@ slice-aggregate-put-lines c =
     let pre = c.requires in
     let w = c.wrap_bytes-a in
     let ls = wrap_lines_of x.width x.breaks x.d.now in
-    let e = numbers c.before.before in
+    let e = numbers c.before in
     let h = line_list_lem x.width x.breaks x.d.now x.lines.now w.ensures.1 pre.0 pre.1 _ _ e (ap (λ (b : Lent). b.lines) w.ensures.0.1) in
     e ∙ ap length (sym h)
 
@@ -85,9 +85,9 @@ put-lines-requires c κs =
     let pre = c.requires in
     let w = c.wrap_bytes-a in
     let ls = wrap_lines_of x.width x.breaks x.d.now in
-    let e = numbers c.before.before in
+    let e = numbers c.before in
     let h = line_list_lem x.width x.breaks x.d.now x.lines.now w.ensures.1 pre.0 pre.1 _ _ e (ap (λ (b : Lent). b.lines) w.ensures.0.1) in
-    let f = few c.before.before.before.before.before.before in
+    let f = few c.before.before.before.before.before in
     (omega (arith, ap length h, numbers_length x.d.now ls, f, pre), omega (arith, ap length h, numbers_length x.d.now ls, f, pre))
 
 same_length : tie.Need-shape_of-lines
@@ -102,11 +102,11 @@ returns c =
     let pre = c.requires in
     let w = c.wrap_bytes-a in
     let ls = wrap_lines_of x.width x.breaks x.d.now in
-    let e = numbers (c.before.before.before.before.before) in
+    let e = numbers (c.before.before.before.before) in
     let h = line_list_lem x.width x.breaks x.d.now x.lines.now w.ensures.1 pre.0 pre.1 _ _ e (ap (λ (b : Lent). b.lines) w.ensures.0.1) in
     let p = c.put_lines in
     let r = ap (number_rows x.row 0) h ∙ rows_lines x.d.now x.row 0 ls in
-    (same_row x.at x.out.now _ _ p.result _ r p.ensures.0.0 p.ensures.0.1, omega (arith, p.ensures.1, ap length h, numbers_length x.d.now ls, few (c.before.before.before.before.before.before.before.before.before)))
+    (same_row x.at x.out.now _ _ p.result _ r p.ensures.0.0 p.ensures.0.1, omega (arith, p.ensures.1, ap length h, numbers_length x.d.now ls, few (c.before.before.before.before.before.before.before.before)))
 
 pub good_rows_spec : {M : Type 1} → statement M
 good_rows_spec =

@@ -154,7 +154,7 @@ slice-reshare-prefix-good-rows c =
     let J = c.is_data.ensures ∙ ap is_data_text H in
     let j = sym J ∙ c.if-not-is_data.false in
     let third = third_shorter t j in
-    omega (arith, ap length H, third.0, c.unhex-n.ensures.0.1, c.unhex-n.auto.1.0)
+    omega (arith, ap length H, third.0, c.unhex-n.ensures.0.1, c.unhex-n.auto.out)
 
 slice-aggregate-good-rows : tie.Need-slice_bounds-good_rows-end-2
 slice-aggregate-good-rows c =

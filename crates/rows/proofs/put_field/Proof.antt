@@ -19,7 +19,7 @@ put-decimal-requires c κs = omega (arith, c.requires, decimal_short c.args.n)
 slice-write-out : tie.Need-bounds-out-e
 slice-write-out c =
     let p = c.put_decimal-e in
-    omega (arith, c.requires, p.ensures.0, p.auto.0, decimal_short c.args.n)
+    omega (arith, c.requires, p.ensures.0, p.auto.out, decimal_short c.args.n)
 
 add-result : tie.Need-overflow_add-result
 add-result c =
@@ -36,8 +36,8 @@ returns c =
     let digits = decimal x.n in
     let last : List ℕ = x.c ∷ [] in
     let short = decimal_short x.n in
-    let stored = one_store p.new.0 p.result x.c (omega (arith, c.requires, p.ensures.0, p.auto.0, short)) in (
-      (omega (arith, p.ensures.0, length-append digits last), then_put x.at digits last x.out.now p.new.0 _ p.result (omega (arith, c.requires)) p.ensures.1 p.ensures.0 stored),
+    let stored = one_store p.new.out p.result x.c (omega (arith, c.requires, p.ensures.0, p.auto.out, short)) in (
+      (omega (arith, p.ensures.0, length-append digits last), then_put x.at digits last x.out.now p.new.out _ p.result (omega (arith, c.requires)) p.ensures.1 p.ensures.0 stored),
       omega (arith, p.ensures.0, short),
     )
 

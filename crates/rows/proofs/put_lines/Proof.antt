@@ -98,7 +98,7 @@ loop-less c = search rules
 loop-again : tie.Need-loop-k-preserved invariant-loop decreases-loop
 loop-again c =
     let p = c.put_row-end in
-    step _ _ _ _ _ _ _ _ c.loop-k.invariant (omega arith) c.loop-k-test.true _ _ p.ensures.0.0 p.ensures.0.1 p.ensures.1 p.auto.0
+    step _ _ _ _ _ _ _ _ c.loop-k.invariant (omega arith) c.loop-k-test.true _ _ p.ensures.0.0 p.ensures.0.1 p.ensures.1 p.auto.out
 
 same_length : tie.Need-shape_of-out invariant-loop decreases-loop
 same_length c = search rules

@@ -45,10 +45,10 @@ returns c =
     let t₃ = field x.first 0x20 in
     let t₄ = field x.end 0x20 in
     let t₅ = field x.width 0x0A in
-    let g₄ = then_put f₃.result t₄ t₅ _ _ _ f₄.result (omega (arith, f₁.ensures.1, f₂.ensures.1, f₃.ensures.1, f₁.auto.0, f₂.auto.0, f₃.auto.0))
+    let g₄ = then_put f₃.result t₄ t₅ _ _ _ f₄.result (omega (arith, f₁.ensures.1, f₂.ensures.1, f₃.ensures.1, f₁.auto.out, f₂.auto.out, f₃.auto.out))
     f₄.ensures.0.1 f₄.ensures.0.0 f₅.ensures.0.1 in
-    let g₃ = then_put f₂.result t₃ (t₄ ++ t₅) _ _ _ f₃.result (omega (arith, f₁.ensures.1, f₂.ensures.1, f₁.auto.0, f₂.auto.0)) f₃.ensures.0.1 f₃.ensures.0.0 g₄ in
-    let g₂ = then_put f₁.result t₂ (t₃ ++ (t₄ ++ t₅)) _ _ _ f₂.result (omega (arith, f₁.ensures.1, f₁.auto.0)) f₂.ensures.0.1 f₂.ensures.0.0 g₃ in
+    let g₃ = then_put f₂.result t₃ (t₄ ++ t₅) _ _ _ f₃.result (omega (arith, f₁.ensures.1, f₂.ensures.1, f₁.auto.out, f₂.auto.out)) f₃.ensures.0.1 f₃.ensures.0.0 g₄ in
+    let g₂ = then_put f₁.result t₂ (t₃ ++ (t₄ ++ t₅)) _ _ _ f₂.result (omega (arith, f₁.ensures.1, f₁.auto.out)) f₂.ensures.0.1 f₂.ensures.0.0 g₃ in
     let g₁ = then_put x.at t₁ (t₂ ++ (t₃ ++ (t₄ ++ t₅))) x.out.now _ _ f₁.result (omega arith) f₁.ensures.0.1 f₁.ensures.0.0 g₂ in (
       (
         omega (

@@ -118,8 +118,8 @@ loop-again c =
     let f = c.find-e in
     let o = c.one_row-at in
     step _ _ _ _ _ _ _ _ _ _ _ _ c.loop-p.invariant (omega arith) c.loop-p-test.true
-    f.result f.ensures.0 f.ensures.1.0 f.ensures.1.1 _ _ _ _ o.ensures.0.0 o.ensures.0.1 o.ensures.1 o.auto.1.1.1.0
-    o.auto.1.1.1.1.0 o.auto.1.1.1.1.1.0
+    f.result f.ensures.0 f.ensures.1.0 f.ensures.1.1 _ _ _ _ o.ensures.0.0 o.ensures.0.1 o.ensures.1 o.auto.«data»
+    o.auto.lines o.auto.out
 
 same_length : tie.Need-shape_of-data invariant-loop decreases-loop
 same_length c = search rules
