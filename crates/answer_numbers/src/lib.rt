@@ -1,5 +1,7 @@
 // The numbers in which answers cross to C. An answer is five: the refusal or 0, the lengths of data, entry numbers and text that were left, and the call's number.
 // A reply is three: the refusal or 0, and the two numbers that were asked for.
+#![tactic(auto)]
+
 ghost use Rattle.std.specs.Prelude.{◌≡◌};
 ghost use Rattle.recording.specs.Outcome.{answer_of, reply_of};
 ghost use Rattle.answer_numbers.specs.Five.{five, three};

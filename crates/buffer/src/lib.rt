@@ -1,5 +1,7 @@
 // Writing into lent buffers: what is written stands from an offset on, and all around it is untouched.
 // Each piece goes to the copying leaf, the kit's `bytes::copy`, by `&mut out[at..]`: the rest of the buffer from its current end. A byte that comes many times is stored.
+#![tactic(auto)]
+
 ghost use Rattle.std.specs.Prelude.{◌≡◌, ◌+◌, ◌-◌, ◌≤◌, length, replicate};
 ghost use Rattle.buffer.specs.Place.{over_at, part};
 ghost use Rattle.buffer.specs.Held.{RunHeld};

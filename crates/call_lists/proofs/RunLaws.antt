@@ -74,7 +74,7 @@ pub record Same (d e t d' e' t' l u v w u' v' w' m : List ℕ) : Type 0 where
   pub bytes : length u ≡ length d
   pub numbers : length v ≡ length e
   pub texts : length w ≡ length t
-  pub other-bytes : length u' ≡ length d'
+  pub other_bytes : length u' ≡ length d'
   pub other_numbers : length v' ≡ length e'
   pub other_texts : length w' ≡ length t'
   pub lines : length m ≡ length l

@@ -1,5 +1,7 @@
 // A list of layout calls on two sets of lent buffers: the definitions of what it leaves and answers, their laws, and what is done before, between and after its calls. `runs` makes them.
 // A call's content is the result of the last call not refused: it stands in one set, and the next call writes into the other. At the end the result stands in the first set.
+#![tactic(auto)]
+
 ghost use Rattle.std.specs.Prelude.{◌≡◌, [], ◌∷◌, ◌+◌, ◌≤◌, ◌<◌, length, take};
 ghost use Rattle.buffer.specs.Place.{over, over_at};
 ghost use Rattle.recording.specs.Outcome.{answer_of};

@@ -3,6 +3,8 @@
 // A call on recordings takes its content, then what else it reads, its numbers, and last the lent buffers; none may overlap another.
 // `res` gets five numbers: the refusal or 0, the lengths of data, entry numbers and text that were left, and the call's number.
 // A question leaves nothing: its `res` gets three, the refusal or 0 and the two numbers asked for.
+#![tactic(auto)]
+
 ghost use Rattle.std.specs.Prelude.{◌≡◌, length};
 ghost use Rattle.chars.specs.Chars.{text_width_of, well_formed_of};
 ghost use Rattle.chars.specs.Cut.{truncate_end_pos_of, truncate_end_width, truncate_start_pos_of, truncate_start_width, zero_width_len_of};

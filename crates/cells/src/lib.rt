@@ -1,6 +1,8 @@
 // A whole page of cells in one call (document 02, Q-9): the parts of one data buffer, each cut at its end to one width, with one ellipsis.
 // The ellipsis is measured once. A refused call touches nothing: the joined length is settled before the first byte is written.
 // Where the longest result that there can be has room, the cells are read once: each is measured and written at once.
+#![tactic(auto)]
+
 ghost use Rattle.std.specs.Prelude.{◌≡◌, false, [], ◌∷◌, ◌+◌, ◌-◌, ◌*◌, ◌≤◌, length};
 ghost use Rattle.chars.specs.Leads.{lead_table};
 ghost use Rattle.buffer.specs.Place.{over, over_at, part};

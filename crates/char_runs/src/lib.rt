@@ -1,5 +1,7 @@
 // Stretches of whole characters of a text: where the last one ends at or before a place, and how wide those up to a place are.
 // A stretch starts where a character starts. `t` is the table of lead bytes, made once by the public call (`chars`).
+#![tactic(auto)]
+
 ghost use Rattle.std.specs.Prelude.{◌≡◌, true, ◌+◌, ◌-◌, ◌*◌, ◌≤◌, ◌<◌, length, drop};
 ghost use Rattle.chars.specs.Leads.{lead_table};
 ghost use Rattle.chars.specs.Utf8.{within};

@@ -4,6 +4,8 @@
 // Calls that ask nothing of their caller: `display_width`, `cut_end`, `cut_start`, `leading_zero_width`, `trim_start_zero_width_chars`.
 // A const array is built anew at each mention of it. So such a call makes the lead table once, `let t = LEADS;`, and lends it down: that is the parameter t.
 // Functions with a parameter t are public for the crates above, whose calls make the table once for all the texts that they read; t must be that table.
+#![tactic(auto)]
+
 ghost use Rattle.std.specs.Prelude.{◌≡◌, true, cond, ◌+◌, ◌-◌, ◌*◌, ◌/◌, ◌%◌, ◌≤◌, ◌<◌, length, drop, get_or};
 ghost use mathlib.Core.List.{◌∷◌, [], tail};
 ghost use Rattle.chars.specs.Utf8.{row_of, within};

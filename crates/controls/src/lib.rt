@@ -1,5 +1,7 @@
 // Whether a text is clean, well-formed UTF-8 without control characters: `is_clean_text`.
 // A call that asks nothing of its caller: `is_clean`. The parameter t is the lead table, which `chars` speaks of.
+#![tactic(auto)]
+
 ghost use Rattle.std.specs.Prelude.{true, ◌≡◌, ◌≤◌, ◌<◌, length, drop};
 ghost use Rattle.chars.specs.Utf8.{within};
 ghost use Rattle.chars.specs.Leads.{lead_table};

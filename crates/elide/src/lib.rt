@@ -1,5 +1,7 @@
 // Plain text: `complete_newline`, `elide_start` and `elide_end` (document 01, module 6).
 // A call checks, measures, then writes: every refusal is settled before the first byte is written.
+#![tactic(auto)]
+
 ghost use Rattle.std.specs.Prelude.{◌≡◌, true, ◌++◌, ◌∷◌, [], ◌+◌, ◌-◌, ◌*◌, ◌≤◌, ◌<◌, length, drop};
 ghost use Rattle.chars.specs.Leads.{lead_table};
 ghost use Rattle.chars.specs.Chars.{well_formed_of};

@@ -1,6 +1,8 @@
 // The floor's data run by run (document 02, Q-6). A run has no entry inside: its bytes are copied, or stars come in their stead.
 // Only characters under the label are read one by one: what stands outside it is copied whole, up to the character that the next entry may divide.
 // `content`, `entries` and `text` are the recording that is read; `t` is the table of lead bytes, made once by the public call (`chars`).
+#![tactic(auto)]
+
 ghost use Rattle.std.specs.Prelude.{◌≡◌, true, ℕ, ◌+◌, ◌≤◌, ◌<◌, length};
 ghost use Rattle.chars.specs.Leads.{lead_table};
 ghost use Rattle.writer.specs.Write.{left};

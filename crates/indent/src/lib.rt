@@ -1,6 +1,8 @@
 // Indenting: `write_indented` (document 01, module 3), the prefix, a recording, before every line that is not empty.
 // It keeps one promise, `Leaves` (layout), for the job `indent`.
 // `bytes`, `numbers` and `texts` are the lent buffers; `content`, `entries` and `text` the recording that is indented.
+#![tactic(auto)]
+
 ghost use Rattle.std.specs.Prelude.{◌≡◌, true, false, ◌+◌, ◌-◌, ◌*◌, ◌≤◌, ◌<◌, length, drop};
 ghost use Rattle.newlines.specs.Newlines.{to_break};
 ghost use Rattle.recording.specs.Recording.{recording, items};

@@ -1,6 +1,8 @@
 // One line of wrapped data: where the line that starts at `at` ends, how wide it is, and where the next one starts.
 // `next_line` promises that the lines from `at` on are the one it found and those from its `next` on (`rest_lines` of `specs/Rest.antt`).
 // Each character is read at most about three times: a head that does not fit is left at the character that shows it, and read again as the first of the next line.
+#![tactic(auto)]
+
 ghost use Rattle.std.specs.Prelude.{◌≡◌, true, false, ◌||◌, ◌∷◌, ◌+◌, ◌-◌, ◌*◌, ◌≤◌, ◌<◌, leb, length, drop};
 ghost use Rattle.chars.specs.Leads.{lead_table};
 ghost use Rattle.chars.specs.Chars.{chars};

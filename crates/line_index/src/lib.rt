@@ -1,6 +1,8 @@
 // A line index beside the data (document 02, Q-7): a lent list of line starts, 0 and the place after each 0A.
 // The four calls answer and leave what the outcomes and replies of `specs/Index.antt` say, refusals included. None of them requires anything.
 // A refused call touches nothing: the list is asked and the room is settled before the first number is written.
+#![tactic(auto)]
+
 ghost use Rattle.std.specs.Prelude.{◌≡◌, ◌+◌, ◌≤◌, ◌<◌, leb, length, drop, get_or};
 ghost use Rattle.buffer.specs.Place.{over, over_at, part};
 ghost use Rattle.recording.specs.Lists.{same};

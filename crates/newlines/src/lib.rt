@@ -1,4 +1,6 @@
 // The bytes 0A of a text: whether a block of it has one, and how many there are.
+#![tactic(auto)]
+
 ghost use Rattle.std.specs.Prelude.{◌≡◌, ◌+◌, ◌-◌, ◌≤◌, ltb, length, take, drop};
 ghost use Rattle.newlines.specs.Newlines.{to_break, newlines};
 

@@ -3,7 +3,7 @@
 -- From this what is open behind an entry (`push_told`, `pop_told`, `none_told`, `raw_told`), and what dropping raw sequences leaves of it (`kept_told`, `dropped_told`).
 use Prim.Native.Nat.{ℕ, zero, suc, ◌+◌, ◌-◌, ◌≤◌}
 use native.Mathlib.Omega.{arith}
-use mathlib.Core.Bool.{Bool, true, false, cond, ◌||◌, not, or_true, false≢true}
+use mathlib.Core.Bool.{Bool, true, false, cond, ◌||◌, not, or-true, false≢true}
 use mathlib.Core.Path.{◌≡◌, refl, sym, ap, ◌∙◌}
 use mathlib.Core.List.{List, [], ◌∷◌, ◌++◌, tail}
 use lib.Dec.{eqb}
@@ -38,7 +38,7 @@ module _ (l : Bytes) where
           → (u || among l s) ≡ not (eqb (cond t (cond u (suc (length s)) 0) (since_of l s)) 0)
       go true e true h = rw (ne_eqb (suc (length s)) 0 (λ z. omega (arith, z)))
       go true e false h = h ∙ ap not e
-      go false e u h = rw (h, e) (or_true u)
+      go false e u h = rw (h, e) (or-true u)
 
   pop_since : (s : List Bytes) → since_of l (tail s) ≡ since_pop (length s) (since_of l s)
   pop_since [] = refl

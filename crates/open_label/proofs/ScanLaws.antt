@@ -2,7 +2,7 @@
 -- The idea of the loop: what is counted and what the entries left give is the whole (`Scanning`), with the labels that are open there.
 use Prim.Native.Nat.{ℕ, zero, suc, ◌+◌, ◌-◌, ◌*◌, ◌≤◌}
 use native.Mathlib.Omega.{arith}
-use mathlib.Core.Bool.{Bool, true, false, cond, not, ◌&&◌, ◌||◌, or_false, or_self, or_assoc, false≢true}
+use mathlib.Core.Bool.{Bool, true, false, cond, not, ◌&&◌, ◌||◌, or-false, or_self, or_assoc, false≢true}
 use mathlib.Core.Path.{◌≡◌, refl, sym, ap, ◌∙◌}
 use mathlib.Core.List.{List, [], ◌∷◌, ◌++◌}
 use lib.Dec.{eqb}
@@ -106,7 +106,7 @@ opens_entry : (l : Bytes) (x : Item) (f : Bool) (s : List Bytes) (is : List Item
     → ((f || among l (open_after s (x ∷ []))) || opens l is) ≡ (f || opens l (x ∷ is))
 opens_entry l (byte b) f s is e h = absurd e
 opens_entry l (push k) true s is e h = refl
-opens_entry l (push k) false s is e h = rw (h, or_false (same l k))
+opens_entry l (push k) false s is e h = rw (h, or-false (same l k))
 opens_entry l pop true s is e h = refl
 opens_entry l pop false s is e h = rw (among_tail l s h)
 opens_entry l (raw t) true s is e h = refl
@@ -150,7 +150,7 @@ scan_first l ds ts es o n v d s f e t =
       valid = v;
       stack = [];
       told = (d, s);
-      seen = or_false n.found;
+      seen = or-false n.found;
       balance = refl;
       found = ap (λ (u : Bool). u || opens l (marks ts es)) f;
       entries = omega (arith, e);
@@ -218,7 +218,7 @@ module _ (l ds ns ts : List ℕ) (es : List Entry) (o : Open) (n : Kept) (k : �
   pub last_told : ScanTold l (recording ds ns ts) (Fine n)
   unfolding ScanTold
   last_told = (
-    sym (or_false n.found) ∙ ap (λ (x : List Entry). n.found || opens l (marks ts x)) (sym none) ∙ s.found ∙ sym (opens_marks l ds ns ts),
+    sym (or-false n.found) ∙ ap (λ (x : List Entry). n.found || opens l (marks ts x)) (sym none) ∙ s.found ∙ sym (opens_marks l ds ns ts),
     omega (arith, s.entries, ap (λ (x : List Entry). entry_count (drop_raws l s.stack (marks ts x))) none, count_marks l ds ns ts),
     omega (arith, s.text, ap (λ (x : List Entry). length (text_of (drop_raws l s.stack (marks ts x)))) none, ap length (text_marks l ds ns ts)),
   )

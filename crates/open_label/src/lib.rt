@@ -1,5 +1,7 @@
 // Whether a reader's label is open at a place, without a stack: how many labels are open, and the depth that the outermost push of this label made.
 // The label is open as long as that push is, and the pop that finds the depth at `since` closes it.
+#![tactic(auto)]
+
 ghost use Rattle.std.specs.Prelude.{◌≡◌, false, not, ◌&&◌, ◌||◌, ltb, eqb, ◌+◌, ◌-◌, ◌≤◌, ◌<◌, length, take, drop};
 ghost use Rattle.recording.specs.Recording.{recording};
 ghost use Rattle.recording.specs.Coloured.{balanced};

@@ -1,6 +1,8 @@
 // Padding: `write_padded_start`, `write_padded_end`, `write_padded_centered` (document 01, module 3).
 // Each keeps one promise, `Leaves` (layout), for its job. All three are `write_padded` with a side.
 // `bytes`, `numbers` and `texts` are the lent buffers; `content`, `entries` and `text` the recording that is padded.
+#![tactic(auto)]
+
 ghost use Rattle.std.specs.Prelude.{◌≡◌, ◌+◌, ◌≤◌, length};
 ghost use Rattle.chars.specs.Leads.{lead_table};
 ghost use Rattle.buffer.specs.Place.{over_at, part};

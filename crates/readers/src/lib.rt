@@ -4,6 +4,8 @@
 // Between two runs the entries at that place are written, but for raw sequences under the label.
 // Only characters under the label are read one by one: what stands outside it is copied whole, up to the character that the next entry may divide.
 // `bytes`, `numbers` and `texts` are the lent buffers; `content`, `entries` and `text` the recording that is read.
+#![tactic(auto)]
+
 ghost use Rattle.std.specs.Prelude.{◌≡◌, true, false, [], ◌∷◌, ◌+◌, ◌≤◌, ◌<◌, length, take, drop};
 ghost use Rattle.buffer.specs.Place.{over_at};
 ghost use Rattle.chars.specs.Leads.{lead_table};

@@ -1,6 +1,8 @@
 // Module 1 of document 01, the recorder: append data, push a label, pop it, append a raw sequence, replay. None of the calls requires anything.
 // Each keeps the promise (`Promised`) of its outcome in `specs/Recorder.antt`; refused calls write nothing.
 // `put_whole` is no call of the module: `replay` ends in it, and calls of other crates that have checked a recording do too.
+#![tactic(auto)]
+
 ghost use Rattle.std.specs.Prelude.{◌≡◌, ◌+◌, ◌≤◌, [], ◌∷◌, length};
 ghost use Rattle.buffer.specs.Place.{over_at};
 ghost use Rattle.recording.specs.Recording.{recording, numbers_of_ranges, items, text_of};

@@ -1,4 +1,6 @@
 // The check of a recording: refusals 1 to 6. The types that it answers with, and what they tell (`specs/Check.antt`), are `recording`'s.
+#![tactic(auto)]
+
 ghost use Rattle.std.specs.Prelude.{◌≡◌, ◌%◌, ◌≤◌, length};
 ghost use Rattle.recording.specs.Recording.{recording, entries_of, items, text_of};
 ghost use Rattle.recording.specs.Refusals.{bad_shape_of, entry_fault, entries_fault, recording_fault};

@@ -2,6 +2,8 @@
 // `write_replaced` over a list of structs stands in crate `replace_records`: one definition, two front doors.
 // All records are scanned first, for refusal 8 and for the size of the result, and written only then. The scan hands each record's four numbers, with a state by value, to `check_numbers`.
 // What the call answers and leaves is the `outcome` of the job `replace` in `layout/specs/Layout.antt`; the records behind the numbers are `records_of` of `specs/Records.antt`.
+#![tactic(auto)]
+
 ghost use Rattle.std.specs.Prelude.{◌≡◌, ◌+◌, ◌≤◌, false, ◌∷◌, length, drop};
 ghost use Rattle.recording.specs.Recording.{recording, items};
 ghost use Rattle.recording.specs.Edit.{edit};

@@ -1,56 +1,62 @@
 // Printing for the programs that are run: numbers, lists of them, bytes and answers, each with a space before it.
 // Proved to be safe and no more: what a program prints is held to its file `stdout`.
+#![tactic(auto)]
+
 use recording::{Answer, number_of};
+use std::io;
 
-pub fn number(n: u64) {
-    io::write_all(1, b" ");
-    io::print_decimal(1, n);
+pub fn number(rt: &impl Print, n: u64) -> io::Result<()> {
+    print!(rt; " {n}")
 }
 
-pub fn numbers(s: &[u32]) {
-    let mut i = 0;
-    while i < s.len() {
-        number(s[i] as u64);
-        i += 1;
+pub fn numbers(rt: &impl Print, s: &[u32]) -> io::Result<()> {
+    for n in s {
+        number(rt, u64::from(*n))?;
     }
+    Ok(())
 }
 
-fn byte(b: u8) {
+fn byte(rt: &impl Print, b: u8) -> io::Result<()> {
     if b == 10 {
-        io::write_all(1, b"$");
-        return;
+        return rt.write_all(b"$");
     }
     let one = [b];
-    io::write_all(1, &one);
+    rt.write_all(&one)
 }
 
 // Bytes as they are, with 0A shown as `$`.
-pub fn text(s: &[u8]) {
-    io::write_all(1, b" ");
-    let mut i = 0;
-    while i < s.len() {
-        byte(s[i]);
-        i += 1;
+pub fn text(rt: &impl Print, s: &[u8]) -> io::Result<()> {
+    rt.write_all(b" ")?;
+    for b in s {
+        byte(rt, *b)?;
     }
+    Ok(())
 }
 
-fn five(refusal: u64, data: u64, entries: u64, text: u64, n: u64) {
-    number(refusal);
-    number(data);
-    number(entries);
-    number(text);
-    number(n);
+fn five(
+    rt: &impl Print,
+    refusal: u64,
+    data: u64,
+    entries: u64,
+    text: u64,
+    n: u64,
+) -> io::Result<()> {
+    number(rt, refusal)?;
+    number(rt, data)?;
+    number(rt, entries)?;
+    number(rt, text)?;
+    number(rt, n)
 }
 
 // The five numbers that a call returns: a refusal with zeros, or 0, the three lengths and the call's number.
-pub fn answer(a: Answer) {
+pub fn answer(rt: &impl Print, a: Answer) -> io::Result<()> {
     match a {
-        Answer::Refused(f) => five(number_of(f), 0, 0, 0, 0),
+        Answer::Refused(f) => five(rt, number_of(f), 0, 0, 0, 0),
         Answer::Done {
             data,
             entries,
             text,
             number: n,
-        } => five(0, data as u64, entries as u64, text as u64, n),
+        } => five(rt, 0, data as u64, entries as u64, text as u64, n),
     }
 }

@@ -1,5 +1,7 @@
 // One layout call given as eight numbers: read, held against the pools that its ranges are of, and made.
 // What a call by its kind leaves is what the call of that name leaves, so `make_call` has the promise of a layout call.
+#![tactic(auto)]
+
 ghost use Rattle.std.specs.Prelude.{◌≡◌, true, ◌+◌, ◌/◌, ◌≤◌, length, drop};
 ghost use Rattle.recording.specs.Recording.{recording};
 ghost use Rattle.layout.specs.Lent.{lent_lined, Leaves};

@@ -1,19 +1,23 @@
 // What `wraplist` prints for a sheet (document 01, module 7), in one lent buffer: `write_output` leaves `output` of `specs/Rows.antt`, whatever the sheet's bytes are.
 // Each byte of a sheet gives at most 28 bytes, so a buffer of 1,835,061 bytes always does. Its type says that length, so that nothing is asked of the caller.
-// `run` is the program: it reads a sheet, prints that, and tells what went wrong. No contract can say what is read or written; the buffer for the sheet and the number of bytes used of it are proved.
-ghost use Rattle.std.specs.Prelude.{◌≡◌, ◌+◌, ◌-◌, ◌*◌, ◌/◌, ◌≤◌, ◌<◌, length, take, drop};
+// `run` is the program: it reads a sheet, prints that, and tells what went wrong. No contract can say what is read from a file or written to one; the buffer for the sheet and the number of bytes used of it are proved.
+// Of a reader and a writer whose bytes are known it is proved too what is read (`read_sheet`) and written (`print_output`).
+#![tactic(auto)]
+
+ghost use Rattle.std.specs.Prelude.{◌≡◌, ◌+◌, ◌-◌, ◌*◌, ◌/◌, ◌≤◌, ◌<◌, ◌↔◌, IsTrue, false, length, take, drop};
+ghost use Rattle.std.specs.Io.KnownBytes.{Appends, Consumes, IsAtEnd};
 ghost use Rattle.buffer.specs.Place.{over, over_at};
-ghost use Rattle.io.specs.Counts.{IsPrefixLen};
 ghost use Rattle.recording.specs.Outcome.{answer_of};
 ghost use Rattle.sheet.specs.Sheet.{sheet_line, sheet_lines};
 ghost use Rattle.sheet.specs.Decimal.{field};
-ghost use Rattle.rows.specs.Rows.{row_text, bad_row, number_rows, wrap_rows, rows_of, rows_from, read_limit, output};
+ghost use Rattle.rows.specs.Rows.{row_text, bad_row, number_rows, wrap_rows, rows_of, rows_from, sheet_heading, read_limit, output};
 
 use recording::Answer;
 use sheet::{
     NONE, after_space, break_of, decimal_in, find, first_field, is_break, is_data, put_decimal,
     unhex,
 };
+use std::io::{Read, Write};
 use wrap_lines::{numbers_of, wrap_bytes};
 
 // Puts the decimal digits of n, and c after them.
@@ -184,6 +188,13 @@ fn line_list() -> [u32; 12003]
     [0; 12003]
 }
 
+// Whether a line is the heading that a sheet has.
+fn is_heading(line: &[u8]) -> bool
+    ensures { IsTrue result ↔ line.now ≡ sheet_heading }
+{
+    line == b"width break bytes".as_slice()
+}
+
 // What is printed for a sheet, in out; returns its length.
 pub fn write_output(sheet: &[u8], out: &mut [u8; 1835061]) -> usize
     ensures value { (result ≡ length (output sheet.now)) × (out.new ≡ over (output sheet.now) out.old) }
@@ -197,7 +208,7 @@ pub fn write_output(sheet: &[u8], out: &mut [u8; 1835061]) -> usize
     if e == sheet.len() {
         return put_bad(out, n, 0);
     }
-    if !check::same(&sheet[0..e], b"width break bytes") {
+    if !is_heading(&sheet[0..e]) {
         return put_bad(out, n, 0);
     }
     let mut data = data_buffer();
@@ -211,10 +222,12 @@ fn output_buffer() -> [u8; 1835061] {
 }
 
 // Prints the output of a sheet. False if it could not all be written.
-fn print_output(output: i32, sheet: &[u8]) -> bool {
+fn print_output<W: Write>(to: &mut W, sheet: &[u8]) -> bool
+    ensures { IsTrue result → Appends (W.contents to.old) (W.contents to.new) (output sheet.now) }
+{
     let mut out = output_buffer();
     let k = write_output(sheet, &mut out);
-    io::write_all(output, &out[..k])
+    to.write_all(&out[..k]).is_ok()
 }
 
 // As long as what is read at most: one byte over a sheet's limit, so that a sheet that is too long is seen without reading all of it.
@@ -232,26 +245,31 @@ struct Reading {
 }
 
 // Reads until the buffer is full, the input ends or a read fails. A read may give fewer bytes than there is room for.
-fn read_sheet(input: i32, sheet: &mut [u8]) -> Reading
-    ensures { IsPrefixLen result.len sheet.new }
+// Of a reader whose bytes are known, as one over memory: the buffer's front is what it gave, and short of a full buffer or a failure it gave all.
+fn read_sheet<R: Read>(input: &mut R, sheet: &mut [u8]) -> Reading
+    ensures counted { (result.len ≤ length sheet.new) × (result.len ≡ length (take result.len sheet.new)) }
+    ensures bytes { Consumes (R.remaining input.old) (R.remaining input.new) (take result.len sheet.new) }
+    ensures end { result.failed ≡ false → result.len < length sheet.new → IsAtEnd (R.remaining input.new) }
 {
     let mut n = 0;
     while n < sheet.len() {
-        let got = libc::read(input, &mut sheet[n..]);
-        if got < 0 {
-            return Reading {
-                len: n,
-                failed: true,
-            };
+        match input.read(&mut sheet[n..]) {
+            Ok(more) => {
+                if more == 0 {
+                    return Reading {
+                        len: n,
+                        failed: false,
+                    };
+                }
+                n += more;
+            }
+            Err(_) => {
+                return Reading {
+                    len: n,
+                    failed: true,
+                };
+            }
         }
-        let more = io::count(got, &sheet[n..]);
-        if more == 0 {
-            return Reading {
-                len: n,
-                failed: false,
-            };
-        }
-        n += more;
     }
     Reading {
         len: n,
@@ -260,33 +278,37 @@ fn read_sheet(input: i32, sheet: &mut [u8]) -> Reading
 }
 
 // Prints the output of the sheet that is read. A sheet that cannot be read has none.
-fn answer(input: i32, output: i32, errors: i32) {
+fn answer<R: Read, W: Write, E: Write>(input: &mut R, output: &mut W, errors: &mut E) {
     let mut sheet = sheet_buffer();
     let r = read_sheet(input, &mut sheet);
     if r.failed {
-        io::write_all(errors, b"wraplist: cannot read the sheet\n");
+        let _ = errors.write_all(b"wraplist: cannot read the sheet\n");
         return;
     }
     if !print_output(output, &sheet[..r.len]) {
-        io::write_all(errors, b"wraplist: cannot write the rows\n");
+        let _ = errors.write_all(b"wraplist: cannot write the rows\n");
     }
 }
 
-fn help(output: i32) {
-    io::write_all(
-        output,
+fn help<W: Write>(output: &mut W) {
+    let _ = output.write_all(
         b"wraplist reads a sheet of wrapping tasks from standard input and prints where their lines start and end, and how wide they are.\n",
     );
-    io::write_all(
-        output,
+    let _ = output.write_all(
         b"A sheet: the line 'width break bytes', then on each line a width, 1 to break long words or else 0, and hexadecimal bytes or -.\n",
     );
 }
 
-// The program, with the files that it reads and writes: `--help` tells what it does.
+// The program, with what it reads from and writes to: `--help` tells what it does.
 // No contract can say what is read from a file or written to one: what is printed is what `write_output` promises of the bytes that `read_sheet` has counted.
-pub fn run(argument: &[u8], input: i32, output: i32, errors: i32) {
-    if check::same(argument, b"--help") {
+// That a message or the help cannot be written is told nowhere.
+pub fn run<R: Read, W: Write, E: Write>(
+    argument: &[u8],
+    input: &mut R,
+    output: &mut W,
+    errors: &mut E,
+) {
+    if argument == b"--help".as_slice() {
         help(output);
         return;
     }

@@ -1,6 +1,8 @@
 // Runs a list of layout calls, of any kind and refused ones among them, back and forth between two sets of lent buffers.
 // A call's content is the result of the last call not refused: it stands in one set, and the next call writes into the other. At the end the result stands in the first set.
 // The contracts follow from those of the calls alone, so what `run_calls` leaves is `run` of `layout/specs/Layout.antt`, and demand 3 holds of it.
+#![tactic(auto)]
+
 ghost use Rattle.std.specs.Prelude.{◌≡◌, true, [], ◌+◌, ◌*◌, ◌/◌, ◌≤◌, length, take, drop};
 ghost use Rattle.layout.specs.Lent.{lent_of};
 ghost use Rattle.requests.specs.Requests.{request_in, requests_of, job_in, fits_in, all_fit_in};

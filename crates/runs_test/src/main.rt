@@ -1,11 +1,14 @@
 // Runs lists of layout calls: lists that are refused, with the buffers as they were; one list of all kinds, refused calls among them, by one call; and its calls one by one.
 // What is proved of a program is that it is safe; what it should print stands in the file `stdout`: the five numbers, the two sets of buffers, the line list and the list of answers.
+#![tactic(auto)]
+
 ghost use Rattle.std.specs.Prelude.{◌+◌, ◌≤◌, length};
 
 use buffer::put;
 use call_lists::put_numbers;
 use recording::Answer;
 use runs::run_calls;
+use std::io;
 
 // A list that is refused: its range among the calls, how much data is used, and how much of the other text and of the list of answers is lent.
 #[derive(Clone, Copy)]
@@ -42,26 +45,31 @@ fn used_after(u: Used, a: Answer) -> Used {
     }
 }
 
-fn show_set(name: &[u8], bytes: &[u8], numbers: &[u32], texts: &[u8]) {
-    io::write_all(1, name);
-    report::text(bytes);
-    report::numbers(numbers);
-    report::text(texts);
-    io::write_all(1, b"\n");
+fn show_set(
+    rt: &impl Print,
+    name: &[u8],
+    bytes: &[u8],
+    numbers: &[u32],
+    texts: &[u8],
+) -> io::Result<()> {
+    rt.write_all(name)?;
+    report::text(rt, bytes)?;
+    report::numbers(rt, numbers)?;
+    report::text(rt, texts)?;
+    rt.write_all(b"\n")
 }
 
-fn show_answers(answers: &[u64]) {
-    io::write_all(1, b"  answers");
-    let mut i = 0;
-    while i < answers.len() {
-        report::number(answers[i]);
-        i += 1;
+fn show_answers(rt: &impl Print, answers: &[u64]) -> io::Result<()> {
+    rt.write_all(b"  answers")?;
+    for a in answers {
+        report::number(rt, *a)?;
     }
-    io::write_all(1, b"\n");
+    rt.write_all(b"\n")
 }
 
 // Every place that was lent.
 fn show(
+    rt: &impl Print,
     bytes: &[u8],
     numbers: &[u32],
     texts: &[u8],
@@ -70,13 +78,13 @@ fn show(
     other_texts: &[u8],
     lines: &[u32],
     answers: &[u64],
-) {
-    show_set(b"  first", bytes, numbers, texts);
-    show_set(b"  other", other_bytes, other_numbers, other_texts);
-    io::write_all(1, b"  lines");
-    report::numbers(lines);
-    io::write_all(1, b"\n");
-    show_answers(answers);
+) -> io::Result<()> {
+    show_set(rt, b"  first", bytes, numbers, texts)?;
+    show_set(rt, b"  other", other_bytes, other_numbers, other_texts)?;
+    rt.write_all(b"  lines")?;
+    report::numbers(rt, lines)?;
+    rt.write_all(b"\n")?;
+    show_answers(rt, answers)
 }
 
 // The first content: "oak 12 ft b" with "oak" labelled and a raw sequence before "12".
@@ -112,23 +120,24 @@ fn least(a: usize, b: usize) -> usize
 }
 
 // Five numbers of `rows`, printed and read.
-fn row_at(rows: &[u32], i: usize) -> Row
+fn row_at(rt: &impl Print, rows: &[u32], i: usize) -> io::Result<Row>
     requires { i + 5 ≤ length rows.now }
 {
-    io::write_all(1, b"list");
-    report::numbers(&rows[i..i + 5]);
-    io::write_all(1, b":");
-    Row {
+    rt.write_all(b"list")?;
+    report::numbers(rt, &rows[i..i + 5])?;
+    rt.write_all(b":")?;
+    Ok(Row {
         from: rows[i],
         to: rows[i + 1],
         data: rows[i + 2],
         texts: rows[i + 3],
         answers: rows[i + 4],
-    }
+    })
 }
 
 // Runs a list that is refused, and prints its answer.
 fn refused_list(
+    rt: &impl Print,
     row: Row,
     bad: &[u32],
     pool: &[u8],
@@ -141,7 +150,7 @@ fn refused_list(
     other_texts: &mut [u8],
     lines: &mut [u32],
     answers: &mut [u64],
-) {
+) -> io::Result<()> {
     let to = least(row.to as usize, bad.len());
     let from = least(row.from as usize, to);
     let texts_lent = least(row.texts as usize, other_texts.len());
@@ -162,15 +171,12 @@ fn refused_list(
         lines,
         &mut answers[0..answers_lent],
     );
-    report::answer(a);
-    io::write_all(
-        1,
-        b"
-",
-    );
+    report::answer(rt, a)?;
+    rt.write_all(b"\n")
 }
 
 fn refused_lists(
+    rt: &impl Print,
     rows: &[u32],
     bad: &[u32],
     pool: &[u8],
@@ -183,11 +189,11 @@ fn refused_lists(
     other_texts: &mut [u8],
     lines: &mut [u32],
     answers: &mut [u64],
-) {
-    let mut i = 0;
-    while i < rows.len() / 5 {
-        let row = row_at(rows, 5 * i);
+) -> io::Result<()> {
+    for i in 0..rows.len() / 5 {
+        let row = row_at(rt, rows, 5 * i)?;
         refused_list(
+            rt,
             row,
             bad,
             pool,
@@ -200,13 +206,14 @@ fn refused_lists(
             other_texts,
             lines,
             answers,
-        );
-        i += 1;
+        )?;
     }
+    Ok(())
 }
 
 // One call, as a list of one.
 fn one_call(
+    rt: &impl Print,
     used: Used,
     calls: &[u32],
     pool: &[u8],
@@ -219,7 +226,7 @@ fn one_call(
     other_texts: &mut [u8],
     lines: &mut [u32],
     answers: &mut [u64],
-) -> Used {
+) -> io::Result<Used> {
     let a = run_calls(
         calls,
         pool,
@@ -236,21 +243,16 @@ fn one_call(
         lines,
         answers,
     );
-    report::answer(a);
-    show_set(
-        b"
-  first",
-        bytes,
-        numbers,
-        texts,
-    );
+    report::answer(rt, a)?;
+    show_set(rt, b"\n  first", bytes, numbers, texts)?;
     let n = least(2, answers.len());
-    show_answers(&answers[0..n]);
-    used_after(used, a)
+    show_answers(rt, &answers[0..n])?;
+    Ok(used_after(used, a))
 }
 
 // The calls one by one, each on what the one before left.
 fn each(
+    rt: &impl Print,
     first: Used,
     calls: &[u32],
     pool: &[u8],
@@ -263,15 +265,15 @@ fn each(
     other_texts: &mut [u8],
     lines: &mut [u32],
     answers: &mut [u64],
-) {
+) -> io::Result<()> {
     let mut used = first;
-    let mut i = 0;
-    while i < calls.len() / 8 {
+    for i in 0..calls.len() / 8 {
         let at = 8 * i;
-        io::write_all(1, b"call");
-        report::numbers(&calls[at..at + 2]);
-        io::write_all(1, b":");
+        rt.write_all(b"call")?;
+        report::numbers(rt, &calls[at..at + 2])?;
+        rt.write_all(b":")?;
         used = one_call(
+            rt,
             used,
             &calls[at..at + 8],
             pool,
@@ -284,13 +286,14 @@ fn each(
             other_texts,
             lines,
             answers,
-        );
-        i += 1;
+        )?;
     }
+    Ok(())
 }
 
 // All calls at once, and every lent place after them.
 fn at_once(
+    rt: &impl Print,
     used: Used,
     calls: &[u32],
     pool: &[u8],
@@ -303,7 +306,7 @@ fn at_once(
     other_texts: &mut [u8],
     lines: &mut [u32],
     answers: &mut [u64],
-) {
+) -> io::Result<()> {
     let a = run_calls(
         calls,
         pool,
@@ -320,14 +323,11 @@ fn at_once(
         lines,
         answers,
     );
-    io::write_all(1, b"at once:");
-    report::answer(a);
-    io::write_all(
-        1,
-        b"
-",
-    );
+    rt.write_all(b"at once:")?;
+    report::answer(rt, a)?;
+    rt.write_all(b"\n")?;
     show(
+        rt,
         bytes,
         numbers,
         texts,
@@ -336,11 +336,12 @@ fn at_once(
         other_texts,
         lines,
         answers,
-    );
+    )
 }
 
 // All lists, one after another, in the same buffers.
 fn lists(
+    rt: &impl Print,
     pool: &[u8],
     bytes: &mut [u8],
     numbers: &mut [u32],
@@ -350,7 +351,7 @@ fn lists(
     other_texts: &mut [u8],
     lines: &mut [u32],
     answers: &mut [u64],
-) {
+) -> io::Result<()> {
     let pool_numbers = [
         // The entries of =>.
         0, 0, 0, 1, 2, 1, 0, 0,
@@ -413,6 +414,7 @@ fn lists(
     ];
     let used = start(bytes, numbers, texts);
     at_once(
+        rt,
         used,
         &calls,
         pool,
@@ -425,9 +427,10 @@ fn lists(
         other_texts,
         lines,
         answers,
-    );
+    )?;
     let again = start(bytes, numbers, texts);
     each(
+        rt,
         again,
         &calls,
         pool,
@@ -440,11 +443,12 @@ fn lists(
         other_texts,
         lines,
         answers,
-    );
+    )
 }
 
 // Lists that are refused, and the buffers as they were. The calls, in this order: one that is good, one of an unknown kind, and ranges that run backwards or beyond their pool.
 fn refusals(
+    rt: &impl Print,
     pool: &[u8],
     bytes: &mut [u8],
     numbers: &mut [u32],
@@ -454,7 +458,7 @@ fn refusals(
     other_texts: &mut [u8],
     lines: &mut [u32],
     answers: &mut [u64],
-) {
+) -> io::Result<()> {
     let pool_numbers = [0; 63];
     let bad = [
         // A good call.
@@ -474,6 +478,7 @@ fn refusals(
     ];
     start(bytes, numbers, texts);
     refused_lists(
+        rt,
         &rows,
         &bad,
         pool,
@@ -486,8 +491,9 @@ fn refusals(
         other_texts,
         lines,
         answers,
-    );
+    )?;
     show(
+        rt,
         bytes,
         numbers,
         texts,
@@ -496,10 +502,11 @@ fn refusals(
         other_texts,
         lines,
         answers,
-    );
+    )
 }
 
 fn both(
+    rt: &impl Print,
     bytes: &mut [u8],
     numbers: &mut [u32],
     texts: &mut [u8],
@@ -508,9 +515,10 @@ fn both(
     other_texts: &mut [u8],
     lines: &mut [u32],
     answers: &mut [u64],
-) {
+) -> io::Result<()> {
     let pool = b"=>a~^^c\xe6\x9c\xa8-+blue| greenoakX\x09.> g";
     refusals(
+        rt,
         pool,
         bytes,
         numbers,
@@ -520,8 +528,9 @@ fn both(
         other_texts,
         lines,
         answers,
-    );
+    )?;
     lists(
+        rt,
         pool,
         bytes,
         numbers,
@@ -531,10 +540,10 @@ fn both(
         other_texts,
         lines,
         answers,
-    );
+    )
 }
 
-fn main() {
+fn main(rt: HostRuntime) -> io::Result<()> {
     let mut bytes = [95; 64];
     let mut numbers = [9; 96];
     let mut texts = [95; 24];
@@ -544,6 +553,7 @@ fn main() {
     let mut lines = [9; 16];
     let mut answers = [9; 42];
     both(
+        &rt,
         &mut bytes,
         &mut numbers,
         &mut texts,
@@ -552,5 +562,5 @@ fn main() {
         &mut other_texts,
         &mut lines,
         &mut answers,
-    );
+    )
 }

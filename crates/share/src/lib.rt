@@ -1,4 +1,6 @@
 // Labels that are stored a single time: where the text of a label that is pushed goes, behind entries that are there.
+#![tactic(auto)]
+
 ghost use Rattle.std.specs.Prelude.{◌≡◌, ◌+◌, ◌%◌, ◌≤◌, length, take, [], ◌∷◌, true, ◌&&◌, leb};
 ghost use Rattle.buffer.specs.Place.{over_at};
 ghost use Rattle.recording.specs.Lists.{same};

@@ -1,6 +1,8 @@
 // Reading the sheet of `wraplist`: lines, fields, decimals and hexadecimal bytes. And decimals are written.
 // What a function answers is said by a definition of `specs/Sheet.antt` or `specs/Decimal.antt`.
 // `find`, `unhex` and `put_decimal` ask something of their caller; they are public for the crates that read and write sheets of lines and show it.
+#![tactic(auto)]
+
 ghost use Rattle.std.specs.Prelude.{◌≡◌, cond, ◌+◌, ◌-◌, ◌*◌, ◌/◌, ◌≤◌, ◌<◌, length, drop};
 ghost use Rattle.buffer.specs.Place.{over, over_at};
 ghost use Rattle.sheet.specs.Sheet.{up_to, after, small_digits, value_from, no_leading_zero_in, decimal_or, is_break_text, break_of_text, is_hex_byte, nibble as nibble_of, all_hex_of, is_dash_text, is_pairs_text, is_data_text, data_of};

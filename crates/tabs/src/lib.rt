@@ -3,6 +3,8 @@
 // A tab is one replacement: the 09 goes and some of 64 spaces come in. So the laws of writing are those of replacement records.
 // Its step stands here and is not `replace::write_step`: with a second caller that one would no longer be inlined, and replacing would take up to half as long again.
 // `bytes`, `numbers` and `texts` are the lent buffers; `content`, `entries` and `text` the recording whose tabs are expanded.
+#![tactic(auto)]
+
 ghost use Rattle.std.specs.Prelude.{◌≡◌, ◌+◌, ◌*◌, ◌≤◌, ◌<◌, length, drop, get_or};
 ghost use Rattle.chars.specs.Leads.{lead_table};
 ghost use Rattle.chars.specs.Chars.{chars};

@@ -1,6 +1,8 @@
 // The tally sheet (document 02, Q-10): a line of names and lines of values, laid out in columns, and a last row with the number of value lines and the sum of the column `boards`.
 // Written from the promises of the crates below alone: no table of characters, no step of an edit is named here.
 // Two passes over the input. The first turns away and measures, and writes nothing, so a refused call touches nothing; the second writes each cell straight into the rest of the lent buffer.
+#![tactic(auto)]
+
 ghost use Rattle.std.specs.Prelude.{true, false, cond, ◌≡◌, [], ◌∷◌, ◌+◌, ◌≤◌, ◌<◌, ltb, length, drop};
 ghost use Rattle.chars.specs.Chars.{well_formed_of};
 ghost use Rattle.buffer.specs.Place.{over_at};

@@ -3,6 +3,8 @@
 // What is kept of content and ellipsis is a run each, and goes once, straight to its final place: after each run the data buffer holds the finished result up to there,
 // and beyond it what it held before (`HoldsUpTo`).
 // `bytes`, `numbers` and `texts` are the lent buffers; `content`, `entries` and `text` the recording that is cut.
+#![tactic(auto)]
+
 ghost use Rattle.std.specs.Prelude.{◌≡◌, true, ◌+◌, ◌-◌, ◌≤◌, length, take, drop};
 ghost use Rattle.buffer.specs.Held.{HoldsUpTo, RunHeld};
 ghost use Rattle.recording.specs.Recording.{recording, items};

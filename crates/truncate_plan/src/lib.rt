@@ -1,4 +1,6 @@
 // What a truncating call keeps of a content and of an ellipsis: it measures them, and writes nothing.
+#![tactic(auto)]
+
 ghost use Rattle.std.specs.Prelude.{◌≡◌, ◌+◌, ◌-◌, ◌≤◌, length, drop};
 ghost use Rattle.chars.specs.Leads.{lead_table};
 ghost use Rattle.chars.specs.Cut.{zero_width_len_of};

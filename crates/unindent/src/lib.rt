@@ -1,6 +1,8 @@
 // Taking the indent off: `write_unindented` (document 02, Q-3), the prefix's bytes taken out of every line that is not empty.
 // It keeps one promise, `Leaves` (layout), for the job `unindent`. The lines are found as in indenting.
 // `bytes`, `numbers` and `texts` are the lent buffers; `content`, `entries` and `text` the recording whose indent goes.
+#![tactic(auto)]
+
 ghost use Rattle.std.specs.Prelude.{◌≡◌, true, false, ◌≤◌, ◌<◌, length, drop};
 ghost use Rattle.recording.specs.Recording.{recording, items};
 ghost use Rattle.recording.specs.Edit.{edit, edit_data};

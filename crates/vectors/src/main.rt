@@ -5,7 +5,9 @@
 // A line: a call's name, then fields `key=value` with one space between them. Which keys there are and how a value is written: the head of the file `stdin`.
 // `!` before the name marks a line that is wrong on purpose. A name or a key that is not in the tables here (in `main` and `value_in`) makes a line differ.
 // The calls go through the C names, so that the boundary is replayed too; three are the library's own, which C has not: `char_width`, `read_char`, `trim_start_zero_width_chars`.
-ghost use Rattle.std.specs.Prelude.{◌≡◌, ◌<◌, ◌≤◌, length};
+#![tactic(auto)]
+
+ghost use Rattle.std.specs.Prelude.{◌≡◌, ◌<◌, ◌≤◌, IfOk, length};
 ghost use Rattle.chars.specs.Leads.{lead_table};
 
 use capi::{
@@ -16,12 +18,14 @@ use capi::{
     ruszvedok_well_formed, ruszvedok_wrap_bytes, ruszvedok_write, ruszvedok_write_for_floor,
     ruszvedok_write_for_office, ruszvedok_write_indented, ruszvedok_write_padded_centered,
     ruszvedok_write_padded_end, ruszvedok_write_padded_start, ruszvedok_write_replaced,
-    ruszvedok_write_tabs_expanded, ruszvedok_write_truncated_cells,
-    ruszvedok_write_truncated_end, ruszvedok_write_truncated_start, ruszvedok_write_unindented,
-    ruszvedok_write_wrapped, ruszvedok_zero_width_len,
+    ruszvedok_write_tabs_expanded, ruszvedok_write_truncated_cells, ruszvedok_write_truncated_end,
+    ruszvedok_write_truncated_start, ruszvedok_write_unindented, ruszvedok_write_wrapped,
+    ruszvedok_zero_width_len,
 };
 use chars::{LEADS, char_width, read_char, seen_at, trim_start_zero_width_chars};
 use sheet::find;
+use std::io;
+use std::io::Read;
 
 // How many calls there are in the table of names in `main`, and how many rows are printed: one more, of the lines that are wrong on purpose.
 const CALLS: usize = 34;
@@ -136,7 +140,7 @@ fn behind(f: &[u8], name: &[u8]) -> usize
     if f[n] != 0x3D {
         return 0;
     }
-    if !check::same(&f[0..n], name) {
+    if &f[0..n] != name {
         return 0;
     }
     n + 1
@@ -185,7 +189,7 @@ fn place_in(list: &[u8], word: &[u8]) -> usize {
     let mut k = 0;
     while at < list.len() {
         let e = find(list, at, 0x20);
-        if check::same(&list[at..e], word) {
+        if &list[at..e] == word {
             return k;
         }
         at = e + 1;
@@ -256,13 +260,13 @@ fn hexadecimal(s: &[u8]) -> u64 {
 
 // The number that a word says.
 fn number(word: &[u8]) -> u64 {
-    if check::same(word, b"push") {
+    if word == b"push".as_slice() {
         return 0;
     }
-    if check::same(word, b"pop") {
+    if word == b"pop".as_slice() {
         return 1;
     }
-    if check::same(word, b"raw") {
+    if word == b"raw".as_slice() {
         return 2;
     }
     if word.len() < 3 {
@@ -292,7 +296,7 @@ fn low(n: u64) -> u8 {
 // ── lists
 
 // Where in a list the next element stands: the part it is in starts at `from` and was gone through `round` times.
-#[derive(Drop)]
+#[derive(Clone, Copy)]
 struct Place {
     at: usize,
     from: usize,
@@ -362,7 +366,7 @@ fn turned(s: &[u8], p: Place) -> Place
 {
     let a = past_quote(s, p.at, p.quoted);
     let e = find(s, a, 0x2B);
-    let round = std::num::wrapping_add_u64(p.round, 1);
+    let round = p.round.wrapping_add(1);
     if round < times(&s[a..e]) {
         return Place {
             at: p.from,
@@ -392,7 +396,7 @@ fn settled(s: &[u8], p: Place) -> Place
 }
 
 // An element and where the next one may stand.
-#[derive(Drop)]
+#[derive(Clone, Copy)]
 struct Element {
     value: u64,
     next: usize,
@@ -505,7 +509,7 @@ fn element_at(s: &[u8], at: usize, quoted: bool) -> Element
 }
 
 // The next element of a list, if there is one, and the place after it.
-#[derive(Drop)]
+#[derive(Clone, Copy)]
 struct Next {
     some: bool,
     value: u64,
@@ -1001,7 +1005,7 @@ fn layout_call(
 }
 
 // What a line asks of a layout call besides recordings: how long the lent buffers are, the width or tab stop, and whether words are broken.
-#[derive(Drop)]
+#[derive(Clone, Copy)]
 struct Asked {
     bytes: usize,
     numbers: usize,
@@ -1328,7 +1332,7 @@ fn adding_call(
 }
 
 // How much of the content's buffers is used.
-#[derive(Drop)]
+#[derive(Clone, Copy)]
 struct Used {
     data: usize,
     entries: usize,
@@ -1514,14 +1518,12 @@ fn keys_known(line: &[u8], start: usize) -> bool
 // One more at k.
 fn count(counts: &mut [u64; ROWS], k: usize) {
     if k < ROWS {
-        counts[k] = std::num::wrapping_add_u64(counts[k], 1);
+        counts[k] = counts[k].wrapping_add(1);
     }
 }
 
-fn tell(number: u64) {
-    io::write_all(1, b"line ");
-    io::print_decimal(1, number);
-    io::write_all(1, b" differs\n");
+fn tell(rt: &impl Print, number: u64) -> io::Result<()> {
+    println!(rt; "line {number} differs")
 }
 
 // Whether a line does as it should: agrees, or not if it is wrong on purpose.
@@ -1539,88 +1541,113 @@ fn as_expected(line: &[u8], name_end: usize, call: usize, wrong: bool) -> bool
 
 // Counts a line at its call, or behind all calls where it is wrong on purpose.
 fn replay_call(
+    rt: &impl Print,
     names: &[u8],
     line: &[u8],
     wrong: bool,
     number: u64,
     total: &mut [u64; ROWS],
     agreed: &mut [u64; ROWS],
-) {
+) -> io::Result<()> {
     let e = field_end(line, 0);
     let call = place_in(names, &line[0..e]);
     let k = if wrong { CALLS } else { call };
     count(total, k);
     if as_expected(line, e, call, wrong) {
         count(agreed, k);
-    } else {
-        tell(number);
+        return Ok(());
     }
+    tell(rt, number)
 }
 
 fn replay_line(
+    rt: &impl Print,
     names: &[u8],
     line: &[u8],
     number: u64,
     total: &mut [u64; ROWS],
     agreed: &mut [u64; ROWS],
-) {
+) -> io::Result<()> {
     if line.len() == 0 {
-        return;
+        return Ok(());
     }
     match line[0] {
-        0x23 => {}
-        0x21 => replay_call(names, &line[1..], true, number, total, agreed),
-        _ => replay_call(names, line, false, number, total, agreed),
+        0x23 => Ok(()),
+        0x21 => replay_call(rt, names, &line[1..], true, number, total, agreed),
+        _ => replay_call(rt, names, line, false, number, total, agreed),
     }
 }
 
-fn replay_lines(names: &[u8], list: &[u8], total: &mut [u64; ROWS], agreed: &mut [u64; ROWS]) {
+fn replay_lines(
+    rt: &impl Print,
+    names: &[u8],
+    list: &[u8],
+    total: &mut [u64; ROWS],
+    agreed: &mut [u64; ROWS],
+) -> io::Result<()> {
     let mut p = 0;
     let mut number: u64 = 0;
     while p < list.len() {
         let e = find(list, p, 0x0A);
         number += 1;
-        replay_line(names, &list[p..e], number, total, agreed);
+        replay_line(rt, names, &list[p..e], number, total, agreed)?;
         p = e + 1;
     }
+    Ok(())
 }
 
-fn row(name: &[u8], total: u64, agreed: u64) {
-    io::write_all(1, name);
-    io::write_all(1, b" ");
-    io::print_decimal(1, total);
-    io::write_all(1, b" ");
-    io::print_decimal(1, agreed);
-    io::write_all(1, b"\n");
+fn row(rt: &impl Print, name: &[u8], total: u64, agreed: u64) -> io::Result<()> {
+    rt.write_all(name)?;
+    println!(rt; " {total} {agreed}")
 }
 
-fn rows(names: &[u8], total: &[u64; ROWS], agreed: &[u64; ROWS]) {
-    let mut k = 0;
-    while k < ROWS {
-        row(part(names, 0x20, k), total[k], agreed[k]);
-        k += 1;
+fn rows(
+    rt: &impl Print,
+    names: &[u8],
+    total: &[u64; ROWS],
+    agreed: &[u64; ROWS],
+) -> io::Result<()> {
+    for k in 0..ROWS {
+        row(rt, part(names, 0x20, k), total[k], agreed[k])?;
     }
+    Ok(())
 }
 
 fn list_buffer() -> [u8; 1048576] {
     [0; 1048576]
 }
 
-fn run(names: &[u8], list: &[u8]) {
-    let mut total: [u64; ROWS] = [0; ROWS];
-    let mut agreed: [u64; ROWS] = [0; ROWS];
-    replay_lines(names, list, &mut total, &mut agreed);
-    rows(names, &total, &agreed);
+// Reads until the buffer is full or the input ends, and returns how many bytes stand at its start.
+fn read_full<R: Read>(input: &mut R, buf: &mut [u8]) -> io::Result<usize>
+    ensures { IfOk result (λ n. n ≤ length buf.new) }
+{
+    let mut n = 0;
+    while n < buf.len() {
+        let more = input.read(&mut buf[n..])?;
+        if more == 0 {
+            break;
+        }
+        n += more;
+    }
+    Ok(n)
 }
 
-fn main() {
+fn run(rt: &impl Print, names: &[u8], list: &[u8]) -> io::Result<()> {
+    let mut total: [u64; ROWS] = [0; ROWS];
+    let mut agreed: [u64; ROWS] = [0; ROWS];
+    replay_lines(rt, names, list, &mut total, &mut agreed)?;
+    rows(rt, names, &total, &agreed)
+}
+
+fn main(rt: HostRuntime) -> io::Result<()> {
     let mut list = list_buffer();
-    let n = io::read_full(0, &mut list);
+    let n = read_full(&mut rt.stdin(), &mut list)?;
     run(
+        &rt,
         b"text_width well_formed truncate_end_pos truncate_start_pos zero_width_len replay write_truncated_start write_truncated_end write_padded_start write_padded_end \
         write_padded_centered write_indented wrap_bytes write_wrapped write_replaced elide_start elide_end complete_newline write push_label pop_label raw \
         char_width read_char trim_start_zero_width_chars write_tabs_expanded write_unindented write_for_office write_for_floor \
         build_line_index extend_line_index line_at place_of write_truncated_cells wrong",
         &list[..n],
-    );
+    )
 }

@@ -1,5 +1,7 @@
 // Whether a text is well-formed UTF-8: `well_formed_of`, of crate `chars`. A block of bytes at once says that it is (`specs/Blocks.antt`); where one does not, the reader of characters decides.
 // A call that asks nothing of its caller: `is_well_formed`. The parameter t is the lead table, which `chars` speaks of.
+#![tactic(auto)]
+
 ghost use Rattle.std.specs.Prelude.{◌≡◌, true, false, cond, ◌+◌, ◌≤◌, ◌<◌, length, drop, get_or};
 ghost use Rattle.chars.specs.Leads.{lead_table};
 ghost use Rattle.chars.specs.Chars.{chars, all_ok, well_formed_of};

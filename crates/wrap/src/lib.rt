@@ -2,6 +2,8 @@
 // The call checks the content, asks whether the result fits, and only then writes. No entry is dropped.
 // An added 0A comes after the entries at the finished line's end, so it has the labels of the content byte there.
 // `bytes`, `numbers` and `texts` are the lent buffers; `content`, `entries` and `text` the recording that is wrapped.
+#![tactic(auto)]
+
 ghost use Rattle.std.specs.Prelude.{◌≡◌, ◌+◌, ◌-◌, ◌≤◌, [], ◌∷◌, length};
 ghost use Rattle.chars.specs.Leads.{lead_table};
 ghost use Rattle.buffer.specs.Place.{over, over_at};

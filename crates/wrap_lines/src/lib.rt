@@ -1,6 +1,8 @@
 // Wrapping data bytes: the lines, first byte, end and display width of each, in a lent line list.
 // `wrap_bytes` answers and leaves what `wrap_bytes_outcome` of `specs/WrapBytes.antt` says, refusals included.
 // A refused call touches nothing: the lines are counted first, unless the list takes as many as the data can have.
+#![tactic(auto)]
+
 ghost use Rattle.std.specs.Prelude.{◌≡◌, [], ◌∷◌, ◌+◌, ◌*◌, ◌≤◌, leb, length};
 ghost use Rattle.chars.specs.Leads.{lead_table};
 ghost use Rattle.buffer.specs.Place.{over, over_at};

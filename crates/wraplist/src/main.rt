@@ -1,8 +1,16 @@
 // Reads a sheet of wrapping tasks from standard input and prints their lines (document 01, module 7). All that it does is `run` of `rows`.
-use libc::{STDERR_FILENO, STDIN_FILENO, STDOUT_FILENO};
+#![tactic(auto)]
 
-fn main() {
-    let mut argument = io::buffer();
-    let n = os::arg(1, &mut argument);
-    rows::run(&argument[..n], STDIN_FILENO, STDOUT_FILENO, STDERR_FILENO);
+use std::env::Env;
+
+// An argument that is not there, or is longer than the buffer, is taken as an empty one.
+fn main(rt: HostRuntime) {
+    let mut argument = [0; 4096];
+    let n = rt.arg(1, &mut argument).unwrap_or(0);
+    rows::run(
+        &argument[..n],
+        &mut rt.stdin(),
+        &mut rt.stdout(),
+        &mut rt.stderr(),
+    );
 }

@@ -3,6 +3,8 @@
 // `bytes`, `numbers` and `texts` are the lent buffers; `content`, `entries` and `text` the recording that is read.
 // Every step has one equation: the buffers at exit are those at entry with some items put at the ends (`add`).
 // The data goes run by run, each straight to its final place: after it the buffer holds the finished result up to there, and beyond it what it held before (`RunHeld`).
+#![tactic(auto)]
+
 ghost use Rattle.std.specs.Prelude.{◌≡◌, true, false, ◌+◌, ◌-◌, ◌≤◌, ◌<◌, [], ◌∷◌, length, take, drop};
 ghost use Rattle.share.specs.Placed.{placed_from};
 ghost use Rattle.buffer.specs.Place.{over_at, part};

@@ -44,7 +44,7 @@ total-small : (c : tie.After-struct_known-1 invariant-loop decreases-loop) → (
 total-small c =
     let l = (found c).before.before.before in
     let s = l.before.before.before.before in
-    omega (arith, l.before.loop-k.invariant.small, above l, within l, l.loop-test.true, few _ _ s.requires.1.1.0, s.requires.1.1.1)
+    omega (arith, l.before.loop-k.invariant.small, above l, within l, l.loop-k-test.true, few _ _ s.requires.1.1.0, s.requires.1.1.1)
 
 loop-holds : tie.Need-loop-k-init invariant-loop decreases-loop
 loop-holds c =

@@ -114,7 +114,7 @@ cast-set-cell c =
 cast-set-cell-2 : tie.Need-overflow_cast-p invariant-loop decreases-loop
 cast-set-cell-2 c =
     let f = (put c).before.before in
-    omega (arith, f.measure_cell-p.ensures.1.2, (start (turn f)).fits)
+    omega (arith, f.measure_cell-p.ensures.1.2, (start (turn f)).ranges.max_width.fits)
 
 set-cell-requires : tie.Need-set_cell-requires invariant-loop decreases-loop
 set-cell-requires c κs =
@@ -137,7 +137,7 @@ loop-again c =
     let p = put c.before.before.before in
     let l = turn p.before.before in
     write_next _ _ _ _ _ _ _ _ _ _ _ l.loop-k.invariant l.loop-k-test.true p.measure_cell-p.result (cell l) (end l) refl refl (planned p.before.before) _ _ _ p.put_cell-at.ensures.0 p.put_cell-at.ensures.1
-    p.put_cell-at.auto.bytes c.set_cell.ensures c.set_cell.auto.0
+    p.put_cell-at.auto.bytes c.set_cell.ensures c.set_cell.auto.cells
 
 same_length : tie.Need-shape_of-bytes invariant-loop decreases-loop
 same_length c = c.loop-k.invariant.bytes.long

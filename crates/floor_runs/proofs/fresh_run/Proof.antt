@@ -55,7 +55,7 @@ shared-slice-read-if3 c =
 add-copied-to : tie.Need-overflow_add-at
 add-copied-to c =
     let s = start c.before.before.before in
-    omega (arith, s.requires.1.0, s.fits.end)
+    omega (arith, s.requires.1.0, s.ranges.end.fits)
 
 copied-to-requires-2 : tie.Need-copied_to-requires-then-content-at-eq10
 copied-to-requires-2 c κs = search rules

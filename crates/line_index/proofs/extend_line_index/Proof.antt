@@ -126,9 +126,9 @@ same_length c = search rules
 returns-4 : tie.Need-returns-then-not-is_index
 returns-4 c =
     let t = c.is_index in
-    calls.extend_wrong (content c.before.before.before.before.before.before.before) (list c.before.before.before.before.before.before.before) (earlier c.before.before.before.before.before.before.before) (used c.before.before.before.before.before.before.before.before) (clean c.before.before.before.before.before.before) c.if-index-used.false
+    calls.extend_wrong (content c.before.before.before.before.before.before.before) (list c.before.before.before.before.before.before.before) (earlier c.before.before.before.before.before.before.before) (used c.before.before.before.before.before.before.before) (clean c.before.before.before.before.before.before) c.if-index-used.false
     c.if-content-earlier.false
-    (calls.fronts_same (bytes c.before.before.before.before.before.before.before.before) (list c.before.before.before.before.before.before.before.before) (earlier c.before.before.before.before.before.before.before.before) (used c.before.before.before.before.before.before.before.before) t.result t.ensures ∙ c.if-not-is_index.true)
+    (calls.fronts_same (bytes c.before.before.before.before.before.before.before) (list c.before.before.before.before.before.before.before) (earlier c.before.before.before.before.before.before.before) (used c.before.before.before.before.before.before.before) t.result t.ensures ∙ c.if-not-is_index.true)
 
 sub-starts-fit : tie.Need-overflow_sub-index
 sub-starts-fit c = search rules

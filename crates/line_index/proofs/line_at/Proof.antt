@@ -77,7 +77,7 @@ end-of-requires c κs =
 returns-4 : tie.Need-returns
 returns-4 c =
     calls.line_found (content c.before.before.before.before.before.before) (start c.before.before.before.before.before.before).args.index.now (start c.before.before.before.before.before.before).args.n (clean c.before.before.before.before.before) (index c.before.before.before)
-    c.if-index-n.false _ c.end_of_lem.ensures
+    c.if-index-n.false _ c.end_of.ensures
 
 pub line_at_spec : {M : Type 1} → statement M
 line_at_spec =

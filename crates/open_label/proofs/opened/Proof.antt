@@ -33,20 +33,18 @@ is-label-requires : tie.Need-is_label-requires
 is-label-requires c κs = search rules
 
 returns-2 : tie.Need-returns-then-is_label
-returns-2 c =
-    (
-      push_told _ _ _ _ _ c.if-e-eq0.true refl
-          (push_first (own c.before.before.before.before.before.before.before.before.before.before.before) c.args.o.depth c.args.o.since c.if-o-ne0.false (sym c.is_label.ensures ∙ c.if-is_label.true)),
-      omega arith,
-    )
+returns-2 c = (
+  push_told _ _ _ _ _ c.if-e-eq0.true refl
+      (push_first (own c.before.before.before.before.before.before.before.before.before.before.before) c.args.o.depth c.args.o.since c.if-o-ne0.false (sym c.is_label.ensures ∙ c.if-is_label.true)),
+  omega arith,
+)
 
 returns-3 : tie.Need-returns-then-e-eq0
-returns-3 c =
-    (
-      push_told _ _ _ _ _ c.if-e-eq0.true refl
-          (push-other (own c.before.before.before.before.before.before.before.before.before.before.before) c.args.o.depth c.args.o.since c.if-o-ne0.false (sym c.is_label.ensures ∙ c.if-is_label.false)),
-      omega arith,
-    )
+returns-3 c = (
+  push_told _ _ _ _ _ c.if-e-eq0.true refl
+      (push-other (own c.before.before.before.before.before.before.before.before.before.before.before) c.args.o.depth c.args.o.since c.if-o-ne0.false (sym c.is_label.ensures ∙ c.if-is_label.false)),
+  omega arith,
+)
 
 returns-4 : tie.Need-returns-then-e-ne1
 returns-4 c =

@@ -40,10 +40,10 @@ start c = c.before.before.before.before.before.before.before.before.before.befor
 
 -- once a turn's run is written: the head of the turn, and where the run was found
 abbrev head : tie.After-put_run-c invariant-loop decreases-loop → tie.At-loop-w invariant-loop decreases-loop
-head c = c.before.before.before.before.before.before
+head c = c.before.before.before.before.before.before.before
 
 abbrev found : tie.After-put_run-c invariant-loop decreases-loop → tie.After-next_run-run invariant-loop decreases-loop
-found c = c.before.before.before
+found c = c.before.before.before.before
 
 abbrev opening : tie.At-loop-w invariant-loop decreases-loop → tie.After-put_entries-w invariant-loop decreases-loop
 opening l = l.before.before.before.before.before
@@ -84,12 +84,12 @@ next-run-requires c κs =
 
 put-run-requires : tie.Need-put_run-c-requires invariant-loop decreases-loop
 put-run-requires c κs =
-    let s = start c.before.before.before.before.before in
+    let s = start c.before.before.before.before.before.before in
     let a = s.args in
     let r = c.next_run-run.ensures in (
       omega (arith, r.0.further),
       r.0.before,
-      run_room a.label.now a.content.now a.entries.now a.text.now a.bytes.now a.numbers.now a.texts.now s.requires.1 c.loop-w.w c.loop-w.run _ _ _ (now c.before.before.before.before.before)
+      run_room a.label.now a.content.now a.entries.now a.text.now a.bytes.now a.numbers.now a.texts.now s.requires.1 c.loop-w.w c.loop-w.run _ _ _ (now c.before.before.before.before.before.before)
           c.next_run-run.result r.0 r.1,
     )
 

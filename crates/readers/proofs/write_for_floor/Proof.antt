@@ -54,7 +54,7 @@ returns-2 : tie.Need-returns-then-not-floor
 returns-2 c =
     let a = (start c.before.before.before.before.before.before.before.before.before.before.before.before.before.before).args in
     let r = c.admit-admitted in
-    absent_kept a.label.now (content c.before.before.before.before.before.before.before.before.before.before.before.before.before.before) r.result r.ensures.0 c.in-Fine.z c.in-Fine.is r.ensures.1 c.if-not-floor.true
+    absent_kept a.label.now (content c.before.before.before.before.before.before.before.before.before.before.before.before.before.before) r.result r.ensures.0 c.in-Fine.z c.in-Fine.is r.ensures.1 (not-true _ c.if-not-floor.true)
     (lent_of a.bytes.now a.numbers.now a.texts.now) (lent_of _ _ _) c.put_whole.result c.put_whole.ensures
 
 put-starred-requires : tie.Need-put_starred-requires

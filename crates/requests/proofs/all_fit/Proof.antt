@@ -38,7 +38,7 @@ fits-requires c κs = search rules
 
 returns : tie.Need-returns-then-not-fits invariant-loop decreases-loop
 returns c =
-    let w = c.fits2 in
+    let w = c.fits in
     let q = c.request_at in
     let l = c.loop-k in
     let n = length c.args.calls.now / 8 in
@@ -53,7 +53,7 @@ loop-less c = search rules
 
 loop-again : tie.Need-loop-k-preserved invariant-loop decreases-loop
 loop-again c =
-    let w = c.fits2 in
+    let w = c.fits in
     let q = c.request_at in
     let l = c.loop-k in
     let n = length c.args.calls.now / 8 in (

@@ -19,100 +19,97 @@ use Rattle.wrap_lines.proofs.numbers_of.Reads as numbers-of-reads
 use Rattle.wrap_lines.proofs.wrap_bytes.Reads as wrap-bytes-reads
 
 -- the count is that of the definition, and small
-few : (c : tie.After-wrap-bytes) → length
-    (wrap_lines_of c.before.before.before.before.before.args.width c.before.before.before.before.before.args.breaks
-    c.before.before.before.before.before.args.d.now) ≤ length c.before.before.before.before.before.args.d.now + 1
-few c = c.wrap-bytes.ensures.1 (omega (arith, c.before.before.before.before.before.requires.0))
+few : (c : tie.After-wrap_bytes-a) → length
+    (wrap_lines_of c.args.width c.args.breaks
+    c.args.d.now) ≤ length c.args.d.now + 1
+few c = c.wrap_bytes-a.ensures.1 (omega (arith, c.requires.0))
 
-count : (c : tie.After-lines-in) → c.lines-in.result ≡ length
-    (wrap_lines_of c.before.before.before.before.before.before.before.before.args.width c.before.before.before.before.before.before.before.before.args.breaks
-    c.before.before.before.before.before.before.before.before.args.d.now)
+count : (c : tie.After-lines_in) → c.lines_in.result ≡ length
+    (wrap_lines_of c.args.width c.args.breaks
+    c.args.d.now)
 count c =
-    let x = c.before.before.before.before.before.before.before.before.args in
-    let pre = c.before.before.before.before.before.before.before.before.requires in
-    let w = c.before.before.before.wrap-bytes in
-    c.lines-in.ensures ∙ line_count_lem x.width x.breaks x.d.now x.lines.now w.ensures.1 pre.0 pre.1 w.result w.ensures.0.0
+    let x = c.args in
+    let pre = c.requires in
+    let w = c.wrap_bytes-a in
+    c.lines_in.ensures ∙ line_count_lem x.width x.breaks x.d.now x.lines.now w.ensures.1 pre.0 pre.1 w.result w.ensures.0.0
 
 -- so are the numbers
-numbers : (c : tie.After-numbers-of) → c.numbers_of.result ≡ length
-    (line_numbers c.before.before.before.before.before.before.before.before.before.args.d.now
-    (wrap_lines_of c.before.before.before.before.before.before.before.before.before.args.width
-    c.before.before.before.before.before.before.before.before.before.args.breaks c.before.before.before.before.before.before.before.before.before.args.d.now))
+numbers : (c : tie.After-numbers_of-n) → c.numbers_of-n.result ≡ length
+    (line_numbers c.args.d.now
+    (wrap_lines_of c.args.width
+    c.args.breaks c.args.d.now))
 numbers c = omega (
   arith,
-  numbers_length c.before.before.before.before.before.before.before.before.before.args.d.now
-      (wrap_lines_of c.before.before.before.before.before.before.before.before.before.args.width
-      c.before.before.before.before.before.before.before.before.before.args.breaks
-      c.before.before.before.before.before.before.before.before.before.args.d.now),
+  numbers_length c.args.d.now
+      (wrap_lines_of c.args.width
+      c.args.breaks
+      c.args.d.now),
   count c.before,
-  c.numbers_of.ensures,
+  c.numbers_of-n.ensures,
 )
 
-wrap-bytes-requires : tie.Need-wrap-bytes-requires
+wrap-bytes-requires : tie.Need-wrap_bytes-a-requires
 wrap-bytes-requires c κs = search rules
 
-lines-in-requires : tie.Need-lines-in-requires
+lines-in-requires : tie.Need-lines_in-requires
 lines-in-requires c κs = search rules
 
-numbers-of-requires : tie.Need-numbers-of-requires
-numbers-of-requires c κs = omega (arith, count c, few c.before.before.before, c.before.before.before.before.before.before.before.before.requires.0)
+numbers-of-requires : tie.Need-numbers_of-n-requires
+numbers-of-requires c κs = omega (arith, count c, few c.before.before.before, c.requires.0)
 
-slice-reshare-prefix-put-lines : tie.Need-slice-reshare-prefix-put-lines
+slice-reshare-prefix-put-lines : tie.Need-slice_bounds-put_lines-end
 slice-reshare-prefix-put-lines c =
-    let x = c.before.before.before.before.before.before.before.before.before.before.args in
+    let x = c.args in
     omega (
       arith,
       numbers c.before,
       numbers_length x.d.now (wrap_lines_of x.width x.breaks x.d.now),
       few c.before.before.before.before.before,
-      c.before.before.before.before.before.wrap-bytes.auto,
-      c.before.before.before.before.before.before.before.before.before.before.requires,
+      c.wrap_bytes-a.auto,
+      c.requires,
     )
 
-slice-aggregate-put-lines : tie.Need-slice-aggregate-put-lines
+slice-aggregate-put-lines : tie.Need-slice_bounds-put_lines-end-2
 slice-aggregate-put-lines c =
-    let x = c.before.before.before.before.before.before.before.before.before.before.before.args in
-    let pre = c.before.before.before.before.before.before.before.before.before.before.before.requires in
-    let w = c.before.before.before.before.before.before.wrap-bytes in
+    let x = c.args in
+    let pre = c.requires in
+    let w = c.wrap_bytes-a in
     let ls = wrap_lines_of x.width x.breaks x.d.now in
-    let e = numbers c.before.before in
+    let e = numbers c.before in
     let h = line_list_lem x.width x.breaks x.d.now x.lines.now w.ensures.1 pre.0 pre.1 _ _ e (ap (λ (b : Lent). b.lines) w.ensures.0.1) in
     e ∙ ap length (sym h)
 
-put-lines-requires : tie.Need-put-lines-requires
+put-lines-requires : tie.Need-put_lines-requires
 put-lines-requires c κs =
-    let x = c.before.before.before.before.before.before.before.before.before.before.before.args in
-    let pre = c.before.before.before.before.before.before.before.before.before.before.before.requires in
-    let w = c.before.before.before.before.before.before.wrap-bytes in
+    let x = c.args in
+    let pre = c.requires in
+    let w = c.wrap_bytes-a in
     let ls = wrap_lines_of x.width x.breaks x.d.now in
-    let e = numbers c.before.before in
+    let e = numbers c.before in
     let h = line_list_lem x.width x.breaks x.d.now x.lines.now w.ensures.1 pre.0 pre.1 _ _ e (ap (λ (b : Lent). b.lines) w.ensures.0.1) in
-    let f = few c.before.before.before.before.before.before in
+    let f = few c.before.before.before.before.before in
     (omega (arith, ap length h, numbers_length x.d.now ls, f, pre), omega (arith, ap length h, numbers_length x.d.now ls, f, pre))
 
-same_length : tie.Need-same-length
+same_length : tie.Need-shape_of-lines
 same_length c = search rules
 
-same-length-2 : tie.Need-same-length-2
+same-length-2 : tie.Need-shape_of-out
 same-length-2 c = search rules
 
 returns : tie.Need-returns
 returns c =
-    let at_5 = c.before.before.before.before.before in
-    let at-wrap-bytes = at_5.before.before.before.before in
-    let start = at-wrap-bytes.before.before.before.before.before in
-    let x = start.args in
-    let pre = start.requires in
-    let w = at-wrap-bytes.wrap-bytes in
+    let x = c.args in
+    let pre = c.requires in
+    let w = c.wrap_bytes-a in
     let ls = wrap_lines_of x.width x.breaks x.d.now in
-    let e = numbers (at_5) in
+    let e = numbers (c.before.before.before.before) in
     let h = line_list_lem x.width x.breaks x.d.now x.lines.now w.ensures.1 pre.0 pre.1 _ _ e (ap (λ (b : Lent). b.lines) w.ensures.0.1) in
-    let p = c.before.before.put-lines in
+    let p = c.put_lines in
     let r = ap (number_rows x.row 0) h ∙ rows_lines x.d.now x.row 0 ls in
-    (same_row x.at x.out.now _ _ p.result _ r p.ensures.0.0 p.ensures.0.1, omega (arith, p.ensures.1, ap length h, numbers_length x.d.now ls, few (at-wrap-bytes)))
+    (same_row x.at x.out.now _ _ p.result _ r p.ensures.0.0 p.ensures.0.1, omega (arith, p.ensures.1, ap length h, numbers_length x.d.now ls, few (c.before.before.before.before.before.before.before.before)))
 
-pub good-rows-spec : {M : Type 1} → statement M
-good-rows-spec =
+pub good_rows_spec : {M : Type 1} → statement M
+good_rows_spec =
     tie.close
     (tie.spec
     wrap-bytes-requires

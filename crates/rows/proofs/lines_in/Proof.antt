@@ -6,19 +6,19 @@ use Rattle.rows.proofs.lines_in.Tie as tie
 use Rattle.rows.proofs.lines_in.Reads as reads
 use Rattle.rows.proofs.lines_in.Lts as lts
 
-enum_told : tie.Need-enum-told
+enum_told : tie.Need-enum_told-1
 enum_told c = search rules
 
-enum-known-a : tie.Need-enum-known-a
+enum-known-a : tie.Need-enum_known-a
 enum-known-a c = search rules
 
-returns : tie.Need-returns
+returns : tie.Need-returns-in-Refused
 unfolding answer_of
 returns c = search rules
 
-returns-2 : tie.Need-returns-2
+returns-2 : tie.Need-returns-in-Done
 unfolding answer_of
-returns-2 c = rw c.before.a.given.1
+returns-2 c = rw c.in-Done.is
 
-pub lines-in-spec : {M : Type 1} → statement M
-lines-in-spec = tie.close (tie.spec enum_told enum-known-a returns returns-2)
+pub lines_in_spec : {M : Type 1} → statement M
+lines_in_spec = tie.close (tie.spec enum_told enum-known-a returns returns-2)

@@ -14,24 +14,21 @@ use Rattle.rows.proofs.put_bad.Lts as lts
 use Rattle.buffer.proofs.put.Reads as put_reads
 use Rattle.rows.proofs.put_field.Reads as put-field-reads
 
-put-field-requires : tie.Need-put-field-requires
+put-field-requires : tie.Need-put_field-e-requires
 put-field-requires c κs = search rules
-
-slice-aggregate-put : tie.Need-slice-aggregate-put
-slice-aggregate-put c = search rules
 
 put-requires : tie.Need-put-requires
 put-requires c κs = search rules
 
-same_length : tie.Need-same-length
+same_length : tie.Need-shape_of-out
 same_length c = search rules
 
 returns : tie.Need-returns
 unfolding bad_row
 returns c =
-    let x = c.before.before.before.before.before.before.before.before.before.before.args in
-    let f = c.before.before.before.before.before.before.before.put-field in
-    let p = c.before.before.put in
+    let x = c.args in
+    let f = c.put_field-e in
+    let p = c.put in
     let t : List ℕ = 0x21 ∷ 0x20 ∷ 0x30 ∷ 0x20 ∷ 0x30 ∷ 0x0A ∷ [] in (
       (
         omega (arith, f.ensures.0.0, p.ensures.0, length-append (field x.row 0x20) t),
@@ -41,6 +38,6 @@ returns c =
       omega (arith, f.ensures.1, p.ensures.0),
     )
 
-pub put-bad-spec : {M : Type 1} → statement M
-put-bad-spec =
-    tie.close (tie.spec put-field-requires slice-aggregate-put put-requires same_length returns)
+pub put_bad_spec : {M : Type 1} → statement M
+put_bad_spec =
+    tie.close (tie.spec put-field-requires put-requires same_length returns)

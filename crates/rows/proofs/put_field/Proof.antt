@@ -13,35 +13,34 @@ use Rattle.rows.proofs.put_field.Reads as reads
 use Rattle.rows.proofs.put_field.Lts as lts
 use Rattle.sheet.proofs.put_decimal.Reads as put-decimal-reads
 
-put-decimal-requires : tie.Need-put-decimal-requires
-put-decimal-requires c κs = omega (arith, c.before.before.requires, decimal_short c.before.before.args.n)
+put-decimal-requires : tie.Need-put_decimal-e-requires
+put-decimal-requires c κs = omega (arith, c.requires, decimal_short c.args.n)
 
-slice-write-out : tie.Need-slice-write-out
+slice-write-out : tie.Need-bounds-out-e
 slice-write-out c =
-    let p = c.before.before.put-decimal in
-    omega (arith, c.before.before.before.before.before.requires, p.ensures.0, p.auto.0, decimal_short c.before.before.before.before.before.args.n)
+    let p = c.put_decimal-e in
+    omega (arith, c.requires, p.ensures.0, p.auto.out, decimal_short c.args.n)
 
-add-result : tie.Need-overflow-add-result
+add-result : tie.Need-overflow_add-result
 add-result c =
-    let p = c.before.before.put-decimal in
-    omega (arith, c.before.before.before.before.before.requires, p.ensures.0, decimal_short c.before.before.before.before.before.args.n)
+    let p = c.put_decimal-e in
+    omega (arith, c.requires, p.ensures.0, decimal_short c.args.n)
 
-same_length : tie.Need-same-length
+same_length : tie.Need-shape_of-out
 same_length c = search rules
 
 returns : tie.Need-returns
 returns c =
-    let p = c.before.before.put-decimal in
-    let start = c.before.before.before.before.before in
-    let x = start.args in
+    let p = c.put_decimal-e in
+    let x = c.args in
     let digits = decimal x.n in
     let last : List ℕ = x.c ∷ [] in
     let short = decimal_short x.n in
-    let stored = one_store p.new.0 p.result x.c (omega (arith, start.requires, p.ensures.0, p.auto.0, short)) in (
-      (omega (arith, p.ensures.0, length-append digits last), then_put x.at digits last x.out.now p.new.0 _ p.result (omega (arith, start.requires)) p.ensures.1 p.ensures.0 stored),
+    let stored = one_store p.new.out p.result x.c (omega (arith, c.requires, p.ensures.0, p.auto.out, short)) in (
+      (omega (arith, p.ensures.0, length-append digits last), then_put x.at digits last x.out.now p.new.out _ p.result (omega (arith, c.requires)) p.ensures.1 p.ensures.0 stored),
       omega (arith, p.ensures.0, short),
     )
 
-pub put-field-spec : {M : Type 1} → statement M
-put-field-spec =
+pub put_field_spec : {M : Type 1} → statement M
+put_field_spec =
     tie.close (tie.spec put-decimal-requires slice-write-out add-result same_length returns)

@@ -47,73 +47,71 @@ module _ (out₀ : List ℕ) (at row : ℕ) (ns out : List ℕ) (end k line : �
   all : length ns ≤ k + 2 → s.done ≡ number_rows row 0 ns
   all h = sym (append-nil s.done) ∙ ap (λ (l : List ℕ). s.done ++ l) (sym (rows_none row line (drop k ns) (omega (arith, length-drop k ns)))) ∙ s.rest
 
-abbrev invariant-loop : tie.invariant-loop
+abbrev invariant-loop : tie.invariant-loop-k
 invariant-loop out₀ at row lines end₀ k₀ line₀ out end k line = So-far out₀ at row lines out end k line
 
-abbrev decreases-loop : tie.decreases-loop
+abbrev decreases-loop : tie.decreases-loop-k
 decreases-loop out₀ at row lines end₀ k₀ line₀ out end k line = length lines - k
 
-loop-holds : tie.Need-loop-init invariant-loop decreases-loop
+loop-holds : tie.Need-loop-k-init invariant-loop decreases-loop
 loop-holds c = record { done = []; holds = sym (over_none _ _); here = omega arith; rest = refl; within = omega arith; count = omega arith; room = omega arith; long = refl }
 
-add-loop : tie.Need-overflow-add-loop invariant-loop decreases-loop
+add-loop : tie.Need-overflow_add-k invariant-loop decreases-loop
 add-loop c = search rules
 
-mul-put-row : tie.Need-overflow-mul-put-row invariant-loop decreases-loop
+mul-put-row : tie.Need-offset_bounds-lines-k invariant-loop decreases-loop
 mul-put-row c = search rules
 
-shared-slice-read-put-row : tie.Need-shared-slice-read-put-row invariant-loop decreases-loop
+shared-slice-read-put-row : tie.Need-bounds-lines-k invariant-loop decreases-loop
 shared-slice-read-put-row c = search rules
 
-add-put-row : tie.Need-overflow-add-put-row invariant-loop decreases-loop
+add-put-row : tie.Need-overflow_add-k-in-loop-k invariant-loop decreases-loop
 add-put-row c = search rules
 
-mul-put-row-2 : tie.Need-overflow-mul-put-row-2 invariant-loop decreases-loop
+mul-put-row-2 : tie.Need-offset_bounds-lines-k-in-loop-k invariant-loop decreases-loop
 mul-put-row-2 c = search rules
 
-shared-slice-read-put-row-2 : tie.Need-shared-slice-read-put-row-2 invariant-loop decreases-loop
+shared-slice-read-put-row-2 : tie.Need-bounds-lines-k-in-loop-k invariant-loop decreases-loop
 shared-slice-read-put-row-2 c = search rules
 
-add-put-row-2 : tie.Need-overflow-add-put-row-2 invariant-loop decreases-loop
+add-put-row-2 : tie.Need-overflow_add-k-in-loop-k-2 invariant-loop decreases-loop
 add-put-row-2 c = search rules
 
-mul-put-row-3 : tie.Need-overflow-mul-put-row-3 invariant-loop decreases-loop
+mul-put-row-3 : tie.Need-offset_bounds-lines-k-in-loop-k-2 invariant-loop decreases-loop
 mul-put-row-3 c = search rules
 
-shared-slice-read-put-row-3 : tie.Need-shared-slice-read-put-row-3 invariant-loop decreases-loop
+shared-slice-read-put-row-3 : tie.Need-bounds-lines-k-in-loop-k-2 invariant-loop decreases-loop
 shared-slice-read-put-row-3 c = search rules
 
-put-row-requires : tie.Need-put-row-requires invariant-loop decreases-loop
+put-row-requires : tie.Need-put_row-end-requires invariant-loop decreases-loop
 put-row-requires c κs = search rules
 
-add-line : tie.Need-overflow-add-line invariant-loop decreases-loop
+add-line : tie.Need-overflow_add-line invariant-loop decreases-loop
 add-line c = search rules
 
-add-k : tie.Need-overflow-add-k invariant-loop decreases-loop
+add-k : tie.Need-overflow_add-k-in-loop-k-3 invariant-loop decreases-loop
 add-k c = search rules
 
-loop-less : tie.Need-loop-smaller invariant-loop decreases-loop
+loop-less : tie.Need-loop-k-smaller invariant-loop decreases-loop
 loop-less c = search rules
 
-loop-again : tie.Need-loop-preserved invariant-loop decreases-loop
+loop-again : tie.Need-loop-k-preserved invariant-loop decreases-loop
 loop-again c =
-    let t = c.before.before.before.before.before.before.before in
-    let p = c.before.before.put-row in
-    step _ _ _ _ _ _ _ _ t.before.loop.invariant (omega arith) t.loop-test.true _ _ p.ensures.0.0 p.ensures.0.1 p.ensures.1 p.auto.0
+    let p = c.put_row-end in
+    step _ _ _ _ _ _ _ _ c.loop-k.invariant (omega arith) c.loop-k-test.true _ _ p.ensures.0.0 p.ensures.0.1 p.ensures.1 p.auto.out
 
-same_length : tie.Need-same-length invariant-loop decreases-loop
+same_length : tie.Need-shape_of-out invariant-loop decreases-loop
 same_length c = search rules
 
 returns : tie.Need-returns invariant-loop decreases-loop
 returns c =
-    let l = c.before in
-    let x = l.before.before.before.args in
-    let i = l.loop.invariant in
-    let e = all _ _ _ _ _ _ _ _ i (omega arith) c.loop-test.false in
+    let x = c.args in
+    let i = c.loop-k.invariant in
+    let e = all _ _ _ _ _ _ _ _ i (omega arith) c.loop-k-test.false in
     ((i.here ∙ ap (λ (d : List ℕ). x.at + length d) e, i.holds ∙ ap (λ (d : List ℕ). over_at x.at d x.out.now) e), omega (arith, i.room, i.within, i.count))
 
-pub put-lines-spec : {M : Type 1} → statement M
-put-lines-spec =
+pub put_lines_spec : {M : Type 1} → statement M
+put_lines_spec =
     tie.close
     (tie.spec
     invariant-loop

@@ -59,13 +59,13 @@ module _ (s : List ℕ) (from : ℕ) (data₀ lines₀ out₀ : List ℕ) (start
   all : length s ≤ p → i.done ≡ rows_from 0 (sheet_lines (drop from s))
   all h = sym (append-nil i.done) ∙ ap (λ (z : List ℕ). i.done ++ rows_from row (sheet_lines z)) (sym (rest_none s p h)) ∙ i.rest
 
-abbrev invariant-loop : tie.invariant-loop
+abbrev invariant-loop : tie.invariant-loop-p
 invariant-loop sheet from data₀ lines₀ out₀ start p₀ row₀ at₀ «data» lines out p row at = So-far sheet from data₀ lines₀ out₀ start «data» lines out p row at
 
-abbrev decreases-loop : tie.decreases-loop
+abbrev decreases-loop : tie.decreases-loop-p
 decreases-loop sheet from data₀ lines₀ out₀ start p₀ row₀ at₀ «data» lines out p row at = length sheet + 1 - p
 
-loop-holds : tie.Need-loop-init invariant-loop decreases-loop
+loop-holds : tie.Need-loop-p-init invariant-loop decreases-loop
 loop-holds c = record {
   done = [];
   holds = sym (over_none _ _);
@@ -79,69 +79,66 @@ loop-holds c = record {
   long = refl;
 }
 
-find-requires : tie.Need-find-requires invariant-loop decreases-loop
+find-requires : tie.Need-find-e-requires invariant-loop decreases-loop
 find-requires c κs = search rules
 
-sub-one-row : tie.Need-overflow-sub-one-row invariant-loop decreases-loop
+sub-one-row : tie.Need-slice_bounds-one_row-count invariant-loop decreases-loop
 sub-one-row c = search rules
 
-part-one-row-start : tie.Need-slice-bounds-one-row-start invariant-loop decreases-loop
+part-one-row-start : tie.Need-slice_bounds-one_row-start invariant-loop decreases-loop
 part-one-row-start c = search rules
 
-part-one-row-end : tie.Need-slice-bounds-one-row-end invariant-loop decreases-loop
+part-one-row-end : tie.Need-slice_bounds-one_row-end invariant-loop decreases-loop
 part-one-row-end c = search rules
 
-one-row-requires : tie.Need-one-row-requires invariant-loop decreases-loop
+one-row-requires : tie.Need-one_row-at-requires invariant-loop decreases-loop
 one-row-requires c κs =
-    let l = c.before.before.before.before.before.before in
-    let x = l.before.before.before.before.before.args in
-    let i = l.loop.invariant in
-    let f = c.before.before.before.before.find in
-    let n = length_part l.loop.p f.result x.sheet.now f.ensures.1.1 in
+    let x = c.args in
+    let i = c.loop-p.invariant in
+    let f = c.find-e in
+    let n = length_part c.loop-p.p f.result x.sheet.now f.ensures.1.1 in
     (omega (arith, i.data-long), omega (arith, i.lines_long), omega (arith, n, i.room, i.long, f.ensures.1.0, f.ensures.1.1))
 
-add_row : tie.Need-overflow-add-row invariant-loop decreases-loop
+add_row : tie.Need-overflow_add-row invariant-loop decreases-loop
 add_row c = omega (
   arith,
-  c.before.before.before.before.before.before.before.before.before.before.before.before.before.loop.invariant.count,
-  c.before.before.before.before.before.before.before.before.before.before.before.before.before.loop.invariant.within,
+  c.loop-p.invariant.count,
+  c.loop-p.invariant.within,
 )
 
-add-p : tie.Need-overflow-add-p invariant-loop decreases-loop
+add-p : tie.Need-overflow_add-p invariant-loop decreases-loop
 add-p c = search rules
 
-loop-less : tie.Need-loop-smaller invariant-loop decreases-loop
+loop-less : tie.Need-loop-p-smaller invariant-loop decreases-loop
 loop-less c = search rules
 
-loop-again : tie.Need-loop-preserved invariant-loop decreases-loop
+loop-again : tie.Need-loop-p-preserved invariant-loop decreases-loop
 loop-again c =
-    let l = c.before.before.before.before.before.before.before.before.before.before.before.before.before in
-    let x = l.before.before.before.before.before.args in
-    let f = c.before.before.before.before.before.before.before.before.before.before.before.find in
-    let o = c.before.before.before.before.before.before.one-row in
-    step _ _ _ _ _ _ _ _ _ _ _ _ l.loop.invariant (omega arith) c.before.before.before.before.before.before.before.before.before.before.before.before.loop-test.true
-    f.result f.ensures.0 f.ensures.1.0 f.ensures.1.1 _ _ _ _ o.ensures.0.0 o.ensures.0.1 o.ensures.1 o.auto.1.1.1.0
-    o.auto.1.1.1.1.0 o.auto.1.1.1.1.1.0
+    let x = c.args in
+    let f = c.find-e in
+    let o = c.one_row-at in
+    step _ _ _ _ _ _ _ _ _ _ _ _ c.loop-p.invariant (omega arith) c.loop-p-test.true
+    f.result f.ensures.0 f.ensures.1.0 f.ensures.1.1 _ _ _ _ o.ensures.0.0 o.ensures.0.1 o.ensures.1 o.auto.«data»
+    o.auto.lines o.auto.out
 
-same_length : tie.Need-same-length invariant-loop decreases-loop
+same_length : tie.Need-shape_of-data invariant-loop decreases-loop
 same_length c = search rules
 
-same-length-2 : tie.Need-same-length-2 invariant-loop decreases-loop
+same-length-2 : tie.Need-shape_of-lines invariant-loop decreases-loop
 same-length-2 c = search rules
 
-same-length-3 : tie.Need-same-length-3 invariant-loop decreases-loop
+same-length-3 : tie.Need-shape_of-out invariant-loop decreases-loop
 same-length-3 c = search rules
 
 returns : tie.Need-returns invariant-loop decreases-loop
 returns c =
-    let l = c.before in
-    let x = l.before.before.before.before.before.args in
-    let i = l.loop.invariant in
-    let e = all _ _ _ _ _ _ _ _ _ _ _ _ i (omega arith) c.loop-test.false in
+    let x = c.args in
+    let i = c.loop-p.invariant in
+    let e = all _ _ _ _ _ _ _ _ _ _ _ _ i (omega arith) c.loop-p-test.false in
     (i.here ∙ ap (λ (d : List ℕ). x.start + length d) e, i.holds ∙ ap (λ (d : List ℕ). over_at x.start d x.out.now) e)
 
-pub put-rows-spec : {M : Type 1} → statement M
-put-rows-spec =
+pub put_rows_spec : {M : Type 1} → statement M
+put_rows_spec =
     tie.close
     (tie.spec
     invariant-loop

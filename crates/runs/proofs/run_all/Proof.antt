@@ -17,13 +17,13 @@ use Rattle.call_lists.proofs.put_answer.Reads as put-answer-reads
 use Rattle.runs.proofs.turn.Reads as turn-reads
 
 abbrev invariant-loop : tie.invariant-loop-k
-invariant-loop calls pool nums bytes₀ numbers₀ texts₀ other-bytes₀ other-numbers₀ other-texts₀ lines₀ answers₀ held₀ k₀ bytes numbers texts other-bytes other_numbers other_texts lines answers held k =
-    Running pool nums calls (state held₀ (lent_of bytes₀ numbers₀ texts₀) (lent_of other-bytes₀ other-numbers₀ other-texts₀) lines₀ []) answers₀
-    held k (lent_of bytes numbers texts) (lent_of other-bytes other_numbers other_texts) lines answers
-    × Same bytes₀ numbers₀ texts₀ other-bytes₀ other-numbers₀ other-texts₀ lines₀ bytes numbers texts other-bytes other_numbers other_texts lines
+invariant-loop calls pool nums bytes₀ numbers₀ texts₀ other_bytes₀ other_numbers₀ other_texts₀ lines₀ answers₀ held₀ k₀ bytes numbers texts other_bytes other_numbers other_texts lines answers held k =
+    Running pool nums calls (state held₀ (lent_of bytes₀ numbers₀ texts₀) (lent_of other_bytes₀ other_numbers₀ other_texts₀) lines₀ []) answers₀
+    held k (lent_of bytes numbers texts) (lent_of other_bytes other_numbers other_texts) lines answers
+    × Same bytes₀ numbers₀ texts₀ other_bytes₀ other_numbers₀ other_texts₀ lines₀ bytes numbers texts other_bytes other_numbers other_texts lines
 
 abbrev decreases-loop : tie.decreases-loop-k
-decreases-loop calls pool nums bytes₀ numbers₀ texts₀ other-bytes₀ other-numbers₀ other-texts₀ lines₀ answers₀ held₀ k₀ bytes numbers texts other-bytes other_numbers other_texts lines answers held k =
+decreases-loop calls pool nums bytes₀ numbers₀ texts₀ other_bytes₀ other_numbers₀ other_texts₀ lines₀ answers₀ held₀ k₀ bytes numbers texts other_bytes other_numbers other_texts lines answers held k =
     length calls / 8 - k
 
 -- ── what the call was given
@@ -56,7 +56,7 @@ loop-holds c =
     let p = c.requires in (
       starts c.args.pool.now c.args.pool_numbers.now c.args.calls.now c.args.s (first c.before.before.before.before.before.before.before.before.before.before.before) (other c.before.before.before.before.before.before.before.before.before.before.before) c.args.lines.now c.args.answers.now
           p.1.0 p.1.1 p.0.0,
-      record { bytes = refl; numbers = refl; texts = refl; other-bytes = refl; other_numbers = refl; other_texts = refl; lines = refl },
+      record { bytes = refl; numbers = refl; texts = refl; other_bytes = refl; other_numbers = refl; other_texts = refl; lines = refl },
     )
 
 mul-turn : tie.Need-overflow_mul-k invariant-loop decreases-loop
@@ -70,25 +70,25 @@ turn-requires c κs =
       omega (arith, t.loop-k-test.true),
       (
         head_fits s.args.pool.now s.args.pool_numbers.now s.args.calls.now (at-start s) s.args.answers.now
-            l.held l.k l.bytes l.numbers l.texts l.other-bytes l.other_numbers l.other_texts l.lines l.answers l.invariant.0 t.loop-k-test.true,
+            l.held l.k l.bytes l.numbers l.texts l.other_bytes l.other_numbers l.other_texts l.lines l.answers l.invariant.0 t.loop-k-test.true,
         l.invariant.0.sound,
       ),
     )
 
 mul-put-answer : tie.Need-overflow_mul-k-in-loop-k invariant-loop decreases-loop
-mul-put-answer c = let t = before-turn (after_turn c).before in omega (arith, t.loop-test.true, (start t.before).well_formed)
+mul-put-answer c = let t = before-turn (after_turn c).before in omega (arith, t.loop-k-test.true, (start t.before).well_formed)
 
 put-answer-requires : tie.Need-put_answer-requires invariant-loop decreases-loop
-put-answer-requires c κs = let t = before-turn (after_turn c).before in omega (arith, t.loop-test.true, (start t.before).requires.0.1, t.before.loop.invariant.0.long)
+put-answer-requires c κs = let t = before-turn (after_turn c).before in omega (arith, t.loop-k-test.true, (start t.before).requires.0.1, t.before.loop-k.invariant.0.long)
 
 moved-requires : tie.Need-moved-held-requires invariant-loop decreases-loop
-moved-requires c κs = let t = before-turn (after_turn c.before.before.before).before in omega (arith, t.loop-test.true, t.before.loop.invariant.0.made, (start t.before).well_formed)
+moved-requires c κs = let t = before-turn (after_turn c.before.before.before).before in omega (arith, t.loop-k-test.true, t.before.loop-k.invariant.0.made, (start t.before).well_formed)
 
 add-k : tie.Need-overflow_add-k invariant-loop decreases-loop
-add-k c = let t = before-turn (turn-of c).before in omega (arith, t.loop-test.true, (start t.before).well_formed)
+add-k c = let t = before-turn (turn-of c).before in omega (arith, t.loop-k-test.true, (start t.before).well_formed)
 
 loop-less : tie.Need-loop-k-smaller invariant-loop decreases-loop
-loop-less c = let t = before-turn (turn-of c).before in omega (arith, t.loop-test.true)
+loop-less c = let t = before-turn (turn-of c).before in omega (arith, t.loop-k-test.true)
 
 loop-again : tie.Need-loop-k-preserved invariant-loop decreases-loop
 loop-again c =
@@ -97,19 +97,19 @@ loop-again c =
     let l = t.loop-k in
     let s = start t.before in
     let w = c.put_answer in
-    let k = u.turn-a.auto.1.1.1.1.1 in
+    let k = u.turn-a.auto in
     let v = l.invariant.1 in (
       again s.args.pool.now s.args.pool_numbers.now s.args.calls.now (at-start s) s.args.answers.now
-          l.held l.k l.bytes l.numbers l.texts l.other-bytes l.other_numbers l.other_texts l.lines l.answers l.invariant.0
-          s.requires.0.1 t.loop-k-test.true u.turn-a.result _ _ _ _ _ _ _ _ u.turn-a.ensures w.ensures w.auto.0 c.moved-held.result c.moved-held.ensures,
+          l.held l.k l.bytes l.numbers l.texts l.other_bytes l.other_numbers l.other_texts l.lines l.answers l.invariant.0
+          s.requires.0.1 t.loop-k-test.true u.turn-a.result _ _ _ _ _ _ _ _ u.turn-a.ensures w.ensures w.auto.answers c.moved-held.result c.moved-held.ensures,
       record {
-        bytes = k.0 ∙ v.bytes;
-        numbers = k.1.0 ∙ v.numbers;
-        texts = k.1.1.0 ∙ v.texts;
-        other-bytes = k.1.1.1.0 ∙ v.other-bytes;
-        other_numbers = k.1.1.1.1.0 ∙ v.other_numbers;
-        other_texts = k.1.1.1.1.1.0 ∙ v.other_texts;
-        lines = k.1.1.1.1.1.1.0 ∙ v.lines;
+        bytes = k.bytes ∙ v.bytes;
+        numbers = k.numbers ∙ v.numbers;
+        texts = k.texts ∙ v.texts;
+        other_bytes = k.other_bytes ∙ v.other_bytes;
+        other_numbers = k.other_numbers ∙ v.other_numbers;
+        other_texts = k.other_texts ∙ v.other_texts;
+        lines = k.lines ∙ v.lines;
       },
     )
 
@@ -123,7 +123,7 @@ same-length-3 : tie.Need-shape_of-texts invariant-loop decreases-loop
 same-length-3 c = c.loop-k.invariant.1.texts
 
 same-length-4 : tie.Need-shape_of-other_bytes invariant-loop decreases-loop
-same-length-4 c = c.loop-k.invariant.1.other-bytes
+same-length-4 c = c.loop-k.invariant.1.other_bytes
 
 same-length-5 : tie.Need-shape_of-other_numbers invariant-loop decreases-loop
 same-length-5 c = c.loop-k.invariant.1.other_numbers
@@ -142,7 +142,7 @@ returns c =
     let l = c.loop-k in
     let s = start c.before in
     ran s.args.pool.now s.args.pool_numbers.now s.args.calls.now (at-start s) s.args.answers.now
-    l.held l.k l.bytes l.numbers l.texts l.other-bytes l.other_numbers l.other_texts l.lines l.answers l.invariant.0 s.requires.0.1 c.loop-k-test.false
+    l.held l.k l.bytes l.numbers l.texts l.other_bytes l.other_numbers l.other_texts l.lines l.answers l.invariant.0 s.requires.0.1 c.loop-k-test.false
 
 pub run_all_spec : {M : Type 1} → statement M
 run_all_spec =

@@ -42,8 +42,8 @@ none : (c : tie.In-Room) → run_fault (given-of (begun c)) (lent-of (begun c)) 
 none c = is_room (run_fault (given-of (begun c)) (lent-of (begun c))) c.check_input-checked.result c.in-Room.is (fault c.before)
 
 -- once all calls are made
-abbrev ran : tie.After-bring-back-arg6 → tie.After-run_all-end
-ran c = c.before.before.before.before.before.before.before.before.before.before.before.before.before.before.before.before.before.before.before.before.before.before
+abbrev ran : tie.After-bring_back-arg-3-1 → tie.After-run_all-end
+ran c = c.before.before.before.before.before.before.before.before.before.before.before.before.before.before.before.before.before.before.before
 
 -- ── what is asked on the way
 too-long-requires : tie.Need-too_long-long-requires
@@ -71,7 +71,7 @@ run-all-requires c κs =
     ((refl, k.room), (k.fit, k.sound))
 
 bring-back-requires : tie.Need-bring_back-requires
-bring-back-requires c κs = (ran c).run-all.ensures.sound
+bring-back-requires c κs = (ran c).run_all-end.ensures.sound
 
 same_length : tie.Need-shape_of-bytes
 same_length c = search rules
@@ -101,7 +101,7 @@ returns-2 : tie.Need-returns
 returns-2 c =
     let k = ran c.before.before.before.before.before.before.before in
     let e = k.before.before.before.before.before.before.before.before.before in
-    finishes (given-of (begun e)) (lent-of (begun e)) (none e) k.run-all.result _ _ _ _ _ _ _ _ _ _ _ _ k.run-all.ensures c.bring_back.ensures
+    finishes (given-of (begun e)) (lent-of (begun e)) (none e) k.run_all-end.result _ _ _ _ _ _ _ _ _ _ _ _ k.run_all-end.ensures c.bring_back.ensures
 
 pub run_calls_spec : {M : Type 1} → statement M
 run_calls_spec =

@@ -32,22 +32,22 @@ slice-reshare-prefix-make-call : tie.Need-slice_bounds-make_call-end
 slice-reshare-prefix-make-call c = search rules
 
 slice-aggregate-make-call : tie.Need-slice_bounds-make_call-end-then-s
-slice-aggregate-make-call c = let k = (start c.before.before).requires.1.1 in simp length-take (omega (arith, k.bytes, k.like_bytes))
+slice-aggregate-make-call c = let k = (start c.before).requires.1.1 in simp length-take (omega (arith, k.bytes, k.like_bytes))
 
 slice-reshare-prefix-make-call-2 : tie.Need-slice_bounds-make_call-end-then-s-2
 slice-reshare-prefix-make-call-2 c = search rules
 
 slice-aggregate-make-call-2 : tie.Need-slice_bounds-make_call-end-then-s-3
-slice-aggregate-make-call-2 c = let k = (start c.before.before.before).requires.1.1 in simp length-take (omega (arith, k.numbers, k.like_numbers))
+slice-aggregate-make-call-2 c = let k = (start c.before).requires.1.1 in simp length-take (omega (arith, k.numbers, k.like_numbers))
 
 slice-reshare-prefix-make-call-3 : tie.Need-slice_bounds-make_call-end-then-s-4
 slice-reshare-prefix-make-call-3 c = search rules
 
 slice-aggregate-make-call-3 : tie.Need-slice_bounds-make_call-end-then-s-5
-slice-aggregate-make-call-3 c = let k = (start c.before.before.before.before).requires.1.1 in simp length-take (omega (arith, k.texts, k.like_texts))
+slice-aggregate-make-call-3 c = let k = (start c.before).requires.1.1 in simp length-take (omega (arith, k.texts, k.like_texts))
 
 make-call-requires : tie.Need-make_call-requires
-make-call-requires c κs = let s = start c.before.before.before.before.before.before.before.before in (s.requires.0, s.requires.1.0)
+make-call-requires c κs = let s = start c.before.before.before.before.before in (s.requires.0, s.requires.1.0)
 
 same_length : tie.Need-shape_of-bytes-then-s
 same_length c = search rules
@@ -72,29 +72,29 @@ same-length-7 c = search rules
 
 returns : tie.Need-returns-then-s
 returns c =
-    let s = start c.before.before.before.before.before.before.before.before.before.before.before.before.before.before.before.before.before in
+    let s = start c.before.before.before.before.before.before.before.before.before.before.before.before.before.before in
     to_other (job s) s.args.s (first s) (other s) _ s.args.lines.now _ c.make_call.result c.if-s.true c.make_call.ensures
 
 slice-reshare-prefix-make-call-4 : tie.Need-slice_bounds-make_call-end-2
 slice-reshare-prefix-make-call-4 c = search rules
 
 slice-aggregate-make-call-4 : tie.Need-slice_bounds-make_call-end-3
-slice-aggregate-make-call-4 c = let k = (start c.before.before).requires.1.1 in simp length-take (omega (arith, k.bytes, k.like_bytes))
+slice-aggregate-make-call-4 c = let k = (start c.before).requires.1.1 in simp length-take (omega (arith, k.bytes, k.like_bytes))
 
 slice-reshare-prefix-make-call-5 : tie.Need-slice_bounds-make_call-end-4
 slice-reshare-prefix-make-call-5 c = search rules
 
 slice-aggregate-make-call-5 : tie.Need-slice_bounds-make_call-end-5
-slice-aggregate-make-call-5 c = let k = (start c.before.before.before).requires.1.1 in simp length-take (omega (arith, k.numbers, k.like_numbers))
+slice-aggregate-make-call-5 c = let k = (start c.before).requires.1.1 in simp length-take (omega (arith, k.numbers, k.like_numbers))
 
 slice-reshare-prefix-make-call-6 : tie.Need-slice_bounds-make_call-end-6
 slice-reshare-prefix-make-call-6 c = search rules
 
 slice-aggregate-make-call-6 : tie.Need-slice_bounds-make_call-end-7
-slice-aggregate-make-call-6 c = let k = (start c.before.before.before.before).requires.1.1 in simp length-take (omega (arith, k.texts, k.like_texts))
+slice-aggregate-make-call-6 c = let k = (start c.before).requires.1.1 in simp length-take (omega (arith, k.texts, k.like_texts))
 
 make-call-requires-2 : tie.Need-make_call-requires-2
-make-call-requires-2 c κs = let s = start c.before.before.before.before.before.before.before.before in (s.requires.0, s.requires.1.0)
+make-call-requires-2 c κs = let s = start c.before.before.before.before.before in (s.requires.0, s.requires.1.0)
 
 same-length-8 : tie.Need-shape_of-bytes
 same-length-8 c = search rules
@@ -119,7 +119,7 @@ same-length-14 c = search rules
 
 returns-2 : tie.Need-returns
 returns-2 c =
-    let s = start c.before.before.before.before.before.before.before.before.before.before.before.before.before.before.before.before.before in
+    let s = start c.before.before.before.before.before.before.before.before.before.before.before.before.before.before in
     to_first (job s) s.args.s (other s) (first s) _ s.args.lines.now _ c.make_call-2.result c.if-s.false c.make_call-2.ensures
 
 pub turn_spec : {M : Type 1} → statement M

@@ -13,10 +13,10 @@ use Rattle.share.proofs.same_text.Reads as same-text-reads
 use Rattle.sheet.proofs.find.Reads as find-reads
 
 abbrev invariant-loop : tie.invariant-loop-from
-invariant-loop names k₀ from₀ t5 k from = Searched names k from
+invariant-loop names k₀ from₀ k from = Searched names k from
 
 abbrev decreases-loop : tie.decreases-loop-from
-decreases-loop names k₀ from₀ t5 k from = (length names + 1) - from
+decreases-loop names k₀ from₀ k from = (length names + 1) - from
 
 loop-holds : tie.Need-loop-from-init invariant-loop decreases-loop
 loop-holds c = searched_first _

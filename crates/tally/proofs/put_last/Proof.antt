@@ -23,20 +23,20 @@ put-decimal-requires c κs =
 put-byte-times-requires : tie.Need-put_byte_times-b-requires
 put-byte-times-requires c κs =
     let p = c.put_decimal-a in
-    omega (arith, c.requires, last_length c.args.n c.args.sum, p.ensures.0, p.auto.0)
+    omega (arith, c.requires, last_length c.args.n c.args.sum, p.ensures.0, p.auto.out)
 
 put-decimal-requires-2 : tie.Need-put_decimal-c-requires
 put-decimal-requires-2 c κs =
     let p = c.put_decimal-a in
     let q = c.put_byte_times-b in
-    omega (arith, c.requires, last_length c.args.n c.args.sum, p.ensures.0, p.auto.0, q.ensures.0, q.auto.0)
+    omega (arith, c.requires, last_length c.args.n c.args.sum, p.ensures.0, p.auto.out, q.ensures.0, q.auto.out)
 
 put-byte-times-requires-2 : tie.Need-put_byte_times-requires
 put-byte-times-requires-2 c κs =
     let p = c.put_decimal-a in
     let q = c.put_byte_times-b in
     let r = c.put_decimal-c in
-    omega (arith, c.requires, last_length c.args.n c.args.sum, p.ensures.0, p.auto.0, q.ensures.0, q.auto.0, r.ensures.0, r.auto.0)
+    omega (arith, c.requires, last_length c.args.n c.args.sum, p.ensures.0, p.auto.out, q.ensures.0, q.auto.out, r.ensures.0, r.auto.out)
 
 same_length : tie.Need-shape_of-out
 same_length c = search rules

@@ -86,8 +86,7 @@ returns-2 c =
     let f = c.find-e in
     let k = c.scan_line-names in
     let b = c.boards_at in
-    let v = c.scan_values-values in
-    (
+    let v = c.scan_values-values in (
       by_values x.columns.now x.input.now f.result f.ensures.0 k.result k.ensures.0 c.in-Fine.t c.in-Fine.is b.result b.ensures v.result v.ensures.0,
       refused_told _ _ _ _ v.result c.in-Refused-values.field-0 c.in-Refused-values.is,
     )

@@ -3,7 +3,7 @@ use native.Mathlib.Omega.{arith}
 use borrow.Author.Rules.{rules}
 use Prim.Native.Nat.{◌+◌, ◌-◌, ◌≤◌}
 use mathlib.Core.Path.{◌≡◌, refl, sym, ap, ◌∙◌}
-use mathlib.Core.Bool.{Bool, ◌||◌, or_false, or_assoc}
+use mathlib.Core.Bool.{Bool, ◌||◌, or-false, or_assoc}
 use lib.Dec.{eqb}
 use lib.ListN.{length, drop, get_or}
 use Rattle.layout.specs.Unindent.{has_newline_in}
@@ -42,7 +42,7 @@ loop-again c =
 returns : tie.Need-returns invariant-loop decreases-loop
 returns c =
     let s = c.args.s.now in
-    sym (or_false c.loop-j.found) ∙ ap (λ (t : Bool). c.loop-j.found || t) (sym (newline_end c.loop-j.j s (omega arith))) ∙ c.loop-j.invariant.1
+    sym (or-false c.loop-j.found) ∙ ap (λ (t : Bool). c.loop-j.found || t) (sym (newline_end c.loop-j.j s (omega arith))) ∙ c.loop-j.invariant.1
 
 pub has_newline_spec : {M : Type 1} → statement M
 has_newline_spec =

@@ -40,10 +40,10 @@ prefix c = (start c).args.prefix.now
 abbrev line : tie.After-begins_at invariant-loop decreases-loop → tie.At-loop-at invariant-loop decreases-loop
 line c = c.before.before
 
-begins : (c : tie.Else-not-begins_at invariant-loop decreases-loop) → begins_with (prefix (line c.before)) (drop (line c.before).loop.at (content (line c.before))) ≡ true
+begins : (c : tie.Else-not-begins_at invariant-loop decreases-loop) → begins_with (prefix (line c.before)) (drop (line c.before).loop-at.at (content (line c.before))) ≡ true
 begins c = let b = c.begins_at in sym b.ensures ∙ c.if-not-begins_at.false
 
-inner : (c : tie.Else-not-begins_at invariant-loop decreases-loop) → (line c.before).loop.at + length (prefix (line c.before)) ≤ length (content (line c.before))
+inner : (c : tie.Else-not-begins_at invariant-loop decreases-loop) → (line c.before).loop-at.at + length (prefix (line c.before)) ≤ length (content (line c.before))
 inner c =
     let l = line c.before in
     inside (prefix l) (content l) (start l).requires.1 _ _ l.loop-at.invariant c.loop-at-test.true (begins c)

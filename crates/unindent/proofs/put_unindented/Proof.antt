@@ -140,15 +140,15 @@ longer l = long_now _ _ _ _ (fits (start l)).one_line _ _ _ _ l.loop-p.invariant
 
 same_length : tie.Need-shape_of-bytes invariant-loop decreases-loop
 unfolding out
-same_length c = c.keep.auto.0 ∙ (longer (ended c.before.before.before.before.before.before).before).data_bytes
+same_length c = c.keep.auto.bytes ∙ (longer (ended c.before.before.before.before.before.before).before).data_bytes
 
 same-length-2 : tie.Need-shape_of-numbers invariant-loop decreases-loop
 unfolding out
-same-length-2 c = c.keep.auto.1.0 ∙ (longer (ended c.before.before.before.before.before.before).before).entry_numbers
+same-length-2 c = c.keep.auto.numbers ∙ (longer (ended c.before.before.before.before.before.before).before).entry_numbers
 
 same-length-3 : tie.Need-shape_of-texts invariant-loop decreases-loop
 unfolding out
-same-length-3 c = c.keep.auto.1.1.0 ∙ (longer (ended c.before.before.before.before.before.before).before).text
+same-length-3 c = c.keep.auto.texts ∙ (longer (ended c.before.before.before.before.before.before).before).text
 
 returns : tie.Need-returns invariant-loop decreases-loop
 returns c =

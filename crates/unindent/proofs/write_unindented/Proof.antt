@@ -51,7 +51,7 @@ given s =
 
 -- once both recordings are checked
 abbrev start : tie.In-Fine → tie.Start
-start c = c.before.before.before.before.before.before.before.before.before.before.before.before
+start c = c.before.before.before.before.before.before.before.before.before.before.before
 
 abbrev lengths : tie.In-Fine → TextSizes
 lengths c = c.in-Fine.n
@@ -68,7 +68,7 @@ call c = given (start (checked c))
 
 -- and all begin with it
 abbrev scanned : tie.In-Fine-left_len → tie.After-left_len
-scanned c = c.before.before
+scanned c = c.before
 
 abbrev size : tie.In-Fine-left_len → ℕ
 size c = c.in-Fine-left_len.n

@@ -95,7 +95,7 @@ loop-again c =
     let v = bytes_wrote _ _ _ _ (0x0A ∷ []) _ _ w.1 w.0.2 w.0.3 w.0.4 in (
       laws.step _ _ _ _ _ _ _ _ _ S.0 (start (found c.before.before.before.before.before.before.before.before.before.before.before.before)).requires.1.1.0 n.result n.ensures.0 _ _ l.0 l.1.0 l.1.1.0 l.1.1.1 m _ _ v w.0.0 w.0.1
           (n.ensures.1.0.3 m).1 n.ensures.1.0.2,
-      lists.next _ _ _ _ _ _ _ S.1 n.result n.ensures.0 n.ensures.1.1.0 _ _ s.ensures.0 s.ensures.1 s.auto.0 m n.ensures.1.0.2,
+      lists.next _ _ _ _ _ _ _ S.1 n.result n.ensures.0 n.ensures.1.1.0 _ _ s.ensures.0 s.ensures.1 s.auto.lines m n.ensures.1.0.2,
     )
 
 skip-requires : tie.Need-skip-last-requires invariant-loop decreases-loop
@@ -110,23 +110,23 @@ same_length : tie.Need-shape_of-bytes invariant-loop decreases-loop
 unfolding out
 same_length c =
     let g = laws.long_now _ _ _ _ _ _ _ _ _ (found c.before.before.before.before.before.before.before.before.before.before.before.before.before.before.before.before.before.before).loop-l.invariant.0 (start (found c.before.before.before.before.before.before.before.before.before.before.before.before.before.before.before.before.before.before)).requires.1.1.0 in
-    c.skip-last.auto.0 ∙ c.put_line-c.auto.0 ∙ g.data_bytes
+    c.skip-last.auto.bytes ∙ c.put_line-c.auto.bytes ∙ g.data_bytes
 
 same-length-2 : tie.Need-shape_of-numbers invariant-loop decreases-loop
 unfolding out
 same-length-2 c =
     let g = laws.long_now _ _ _ _ _ _ _ _ _ (found c.before.before.before.before.before.before.before.before.before.before.before.before.before.before.before.before.before.before).loop-l.invariant.0 (start (found c.before.before.before.before.before.before.before.before.before.before.before.before.before.before.before.before.before.before)).requires.1.1.0 in
-    c.skip-last.auto.1.0 ∙ c.put_line-c.auto.1.0 ∙ g.entry_numbers
+    c.skip-last.auto.numbers ∙ c.put_line-c.auto.numbers ∙ g.entry_numbers
 
 same-length-3 : tie.Need-shape_of-texts invariant-loop decreases-loop
 unfolding out
 same-length-3 c =
     let g = laws.long_now _ _ _ _ _ _ _ _ _ (found c.before.before.before.before.before.before.before.before.before.before.before.before.before.before.before.before.before.before).loop-l.invariant.0 (start (found c.before.before.before.before.before.before.before.before.before.before.before.before.before.before.before.before.before.before)).requires.1.1.0 in
-    c.skip-last.auto.1.1.0 ∙ c.put_line-c.auto.1.1.0 ∙ g.text
+    c.skip-last.auto.texts ∙ c.put_line-c.auto.texts ∙ g.text
 
 same-length-4 : tie.Need-shape_of-lines invariant-loop decreases-loop
 same-length-4 c =
-    (listed c.before.before.before.before.before.before.before.before.before.before.before.before.before.before.before.before.before.before).set_line-k.auto.0 ∙ (found c.before.before.before.before.before.before.before.before.before.before.before.before.before.before.before.before.before.before).loop-l.invariant.1.filled.long
+    (listed c.before.before.before.before.before.before.before.before.before.before.before.before.before.before.before.before.before.before).set_line-k.auto.lines ∙ (found c.before.before.before.before.before.before.before.before.before.before.before.before.before.before.before.before.before.before).loop-l.invariant.1.filled.long
 
 returns : tie.Need-returns invariant-loop decreases-loop
 returns c =
@@ -137,7 +137,7 @@ returns c =
     let m = (not-true _ c.if-not-l.true) in (
       laws.finish _ _ _ _ _ _ _ _ _ S.0 (start (found c.before.before.before.before.before.before.before.before.before.before.before.before.before.before.before.before.before.before)).requires.1.1.0 n.result n.ensures.0 _ _ l.0 l.1.0 l.1.1.0 l.1.1.1 m _
           c.skip-last.ensures.0,
-      lists.last _ _ _ _ _ _ _ S.1 n.result n.ensures.0 n.ensures.1.1.0 _ s.result s.ensures.0 s.ensures.1 s.auto.0 m,
+      lists.last _ _ _ _ _ _ _ S.1 n.result n.ensures.0 n.ensures.1.1.0 _ s.result s.ensures.0 s.ensures.1 s.auto.lines m,
     )
 
 pub put_wrapped_spec : {M : Type 1} → statement M

@@ -43,7 +43,7 @@ lent s = lent_lined s.args.bytes.now s.args.numbers.now s.args.texts.now s.args.
 
 -- once the content is checked
 abbrev start : tie.In-Fine → tie.Start
-start c = c.before.before.before.before.before.before.before.before.before.before
+start c = c.before.before.before.before.before.before.before.before.before
 
 abbrev size : tie.In-Fine → ℕ
 size c = c.in-Fine.n
