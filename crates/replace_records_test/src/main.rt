@@ -9,7 +9,7 @@ use layout::Replacement;
 use recording::Answer;
 use replace_records::write_replaced;
 
-// Lends two records as a list. It is proved by hand, as a walk: a list of structs is lent nowhere else.
+// Lends two records as a list.
 fn with_two(
     a: Replacement,
     b: Replacement,
