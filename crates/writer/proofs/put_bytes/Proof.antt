@@ -6,6 +6,9 @@ use Rattle.buffer.specs.LendsOn.{LendsOn, own_arrays, acts, touches, loops, call
 use Rattle.writer.proofs.put_bytes.Code.Mir as code
 use Rattle.writer.proofs.put_bytes.Statement.{statement}
 use Rattle.writer.proofs.put_bytes.Tie as tie
+use Rattle.writer.proofs.put_bytes.Reads as reads
+use Rattle.writer.proofs.put_bytes.Lts as lts
+use Rattle.buffer.proofs.put.Reads as put_reads
 
 put-requires : tie.Need-put-d-requires
 put-requires c κs = search rules
