@@ -24,6 +24,11 @@ use Rattle.truncate.proofs.HeldLaws.{end_runs, end_finished}
 use Rattle.truncate.proofs.put_end.Code.Mir as code
 use Rattle.truncate.proofs.put_end.Statement.{statement}
 use Rattle.truncate.proofs.put_end.Tie as tie
+use Rattle.truncate.proofs.put_end.Reads as reads
+use Rattle.truncate.proofs.put_end.Lts as lts
+use Rattle.truncate.proofs.put_up_to.Reads as put-up-to-reads
+use Rattle.truncate.proofs.put_end_ellipsis.Reads as put-end-ellipsis-reads
+use Rattle.writer.proofs.put_recording.Reads as put-recording-reads
 
 -- ── what the call was given: content, ellipsis, buffers; and what it writes
 abbrev content : tie.Start → Recording
