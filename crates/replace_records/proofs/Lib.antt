@@ -1,4 +1,3 @@
-pub mod Again
 pub mod FoldLaws
 pub mod PlanLaws
 pub mod WorkLaws

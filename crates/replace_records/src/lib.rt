@@ -1,6 +1,6 @@
 // Replacing stretches of a recording's data by a lent list of records (document 01, module 5): `write_replaced`.
-// Two thin scans over the list read a record and hand it on with a state by value, the checking one its four numbers; the call above them is a run of calls. These three are proved by hand, as walks.
-// Every decision is in a covered function, so a walk has no branch: where the call is refused the writing goes over the records and writes nothing.
+// Two thin scans over the list read a record and hand it on with a state by value, the checking one its four numbers; the call above them is a run of calls.
+// These three decide nothing: where the call is refused the writing goes over the records and writes nothing.
 #![tactic(auto)]
 
 ghost use Rattle.std.specs.Prelude.{◌≡◌, false, ◌≤◌, length};

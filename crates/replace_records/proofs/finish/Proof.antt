@@ -5,9 +5,6 @@ use Rattle.replace_records.specs.Work.{world, MayEnd}
 use Rattle.replace_records.proofs.WorkLaws.{ended_refused, ended_done}
 use Rattle.replace_records.proofs.finish.Statement.{statement}
 use Rattle.replace_records.proofs.finish.Tie as tie
-use Rattle.replace_records.proofs.finish.Reads as reads
-use Rattle.replace_records.proofs.finish.Lts as lts
-use Rattle.writer.proofs.keep.Reads as keep-reads
 
 enum-known-v : tie.Need-enum_known-v
 enum-known-v c = search rules

@@ -6,12 +6,6 @@ use Rattle.writer.specs.Sizes.{room_of_state}
 use Rattle.replace_records.proofs.PlanLaws.{by_content, content_fine, by_records, by_sizes}
 use Rattle.replace_records.proofs.judge.Statement.{statement}
 use Rattle.replace_records.proofs.judge.Tie as tie
-use Rattle.replace_records.proofs.judge.Reads as reads
-use Rattle.replace_records.proofs.judge.Lts as lts
-use Rattle.recording_check.proofs.check.Reads as check-reads
-use Rattle.replace.proofs.capped_add.Reads as capped-add-reads
-use Rattle.share.proofs.own_size.Reads as own-size-reads
-use Rattle.writer.proofs.settle.Reads as settle-reads
 
 check-requires : tie.Need-check-checked-requires
 check-requires c κs = search rules

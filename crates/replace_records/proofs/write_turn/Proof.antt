@@ -4,9 +4,6 @@ use Rattle.replace_records.specs.Work.{world, MayTurn}
 use Rattle.replace_records.proofs.WorkLaws.{turn_none, turn_made}
 use Rattle.replace_records.proofs.write_turn.Statement.{statement}
 use Rattle.replace_records.proofs.write_turn.Tie as tie
-use Rattle.replace_records.proofs.write_turn.Reads as reads
-use Rattle.replace_records.proofs.write_turn.Lts as lts
-use Rattle.replace.proofs.write_step.Reads as write-step-reads
 
 enum-known-v : tie.Need-enum_known-v
 enum-known-v c = search rules
