@@ -14,7 +14,7 @@ store-reply-requires c κs = search rules
 
 returns : tie.Need-returns
 returns c =
-    c.store_reply.ensures ∙ ap three c.line_at_lem.ensures
+    c.store_reply.ensures ∙ ap three c.line_at-a.ensures
 
 pub ruszvedok_line_at_spec : {M : Type 1} → statement M
 ruszvedok_line_at_spec =
