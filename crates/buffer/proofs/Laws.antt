@@ -1,13 +1,12 @@
 -- Laws on buffers that are written from the front: a part lent and given back, one write after another, and what a finished buffer holds.
 use mathlib.Core.Path.{◌≡◌, sym, ap, ◌∙◌}
-use mathlib.Core.List.{List, [], ◌∷◌, ◌++◌, append_assoc, append-nil}
+use mathlib.Core.List.{List, [], ◌∷◌, ◌++◌, append_assoc}
 use Prim.Native.Nat.{ℕ, ◌+◌, ◌-◌, ◌≤◌, ◌<◌}
 use native.Mathlib.Omega.{arith}
 use native.Mathlib.Numerals.{add-one}
-use lib.ListN.{length, take, drop, set, replicate, take-append-drop, length-append, length-drop, length-take, length-replicate, replicate-append-replicate, drop_of_length-le}
-use lib.Seq.{sets, sets-eq, take-append_seam, drop-append_seam, take_at, drop_at, drop-drop, take-length, length-take-le}
+use lib.ListN.{length, take, drop, set, replicate, take-append-drop, length-append, length-drop, length-take, length-replicate, replicate-append-replicate}
+use lib.Seq.{sets, sets-eq, take-append_seam, drop-append_seam, take_at, drop_at, drop-drop, length-take-le}
 use borrow.Rule.Slice.PartMut.{put_mid}
-use borrow.Author.Rules.{part_to_end}
 use Rattle.buffer.specs.Place.{over, over_at, part}
 
 -- a callee that left `new` in the part of xs of its length from `at` on has written it into xs from `at` on

@@ -5,7 +5,7 @@ use lib.Text.{eqt}
 use mir.Syntax.{Ty, ty_int, ty_bool, ty_float, ty_ptr, ty_ref, ty_array, ty_unit, ty_struct, ty_enum, ty_param, ty_const, ty_array_p, ty_named, Tys, tnil, tcons, Tyss, ttnil, ttcons, Local, local}
 use mir.Syntax.{Step, deref, field, variant, Place, place, Opd, copy, int, int_neg, int_big, float, opd_true, opd_false, opd_unit, ptr_const, size_of, align_of, num_of, fn_addr, vtable}
 use mir.Syntax.{Rv, rv_opd, op2, op1, addr_of, aggregate, repeat, repeat_p, select}
-use mir.Syntax.{Symbol, Callee, fn, method, forked, awaited, prim, Dict, impl, given, Fn, Body, skip, seq, assign, block, loop, cond, switch, exit, return, call, unreachable, call_v, lend_static, Arms, arm, default, no_default}
+use mir.Syntax.{Symbol, Callee, fn, method, forked, awaited, prim, impl, given, Fn, Body, skip, seq, assign, block, loop, cond, switch, exit, return, call, unreachable, call_v, lend_static, Arms, arm, default, no_default}
 
 -- ── its own arrays: the locals that are one or have one in them; what a reference points to is not its own
 -- a type that is an array or has one in it; of a type that is only named, or is a parameter, nothing is known

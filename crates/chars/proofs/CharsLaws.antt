@@ -1,6 +1,6 @@
 -- Reading characters: their bytes are the text; any stretch of the characters of a text reads as those characters; and one character further in a loop.
 -- The idea: a character depends on its own bytes and on where its sequence stops (`Read`), and both survive when the text around it is cut at characters.
-use Prim.Native.Nat.{ℕ, zero, suc, ◌+◌, ◌-◌, ◌*◌, ◌≤◌, ◌<◌}
+use Prim.Native.Nat.{ℕ, zero, suc, ◌+◌, ◌*◌, ◌≤◌, ◌<◌}
 use native.Mathlib.Omega.{arith}
 use mathlib.Core.Bool.{Bool, true, false, cond, ◌&&◌}
 use mathlib.Core.Path.{◌≡◌, refl, sym, ap, ◌∙◌}

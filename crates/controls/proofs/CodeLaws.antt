@@ -15,7 +15,7 @@ use Rattle.chars.proofs.CharsLaws.{tail_le}
 use Rattle.chars.proofs.FoldLaws.{ascii_row}
 use Rattle.chars.proofs.RangeLaws.{bounds}
 use Rattle.chars.proofs.JoinLaws.{and_both}
-use Rattle.chars.proofs.ReaderLaws.{in_span, below, above}
+use Rattle.chars.proofs.ReaderLaws.{in_span, above}
 use Rattle.controls.specs.Controls.{is_control}
 
 -- ── table 3-7: how low the code points of a row can be is told by its first two columns

@@ -15,14 +15,14 @@ use Rattle.chars.specs.Chars.{Character, chars, char_in, bytes_of, wide, width_o
 use Rattle.chars.proofs.CharsLaws.{Valid, bytes-chars, valid-chars, char_next, char_some, char_inside}
 use Rattle.chars.specs.Chars.{Seam}
 use Rattle.recording.specs.Lists.{AllOf}
-use Rattle.recording.specs.Recording.{Bytes, Recording, Item, byte_items}
-use Rattle.recording.specs.Coloured.{Coloured, coloured_from, coloured}
+use Rattle.recording.specs.Recording.{Bytes, Item, byte_items}
+use Rattle.recording.specs.Coloured.{Coloured, coloured_from}
 use Rattle.recording.proofs.Lists.{all_left, all_right, or_left, or_right}
 use Rattle.char_runs.specs.Runs.{Plain}
 use Rattle.view.proofs.AbsentLaws.{among_reverse}
 use Rattle.view.specs.Theorem.{opens}
 use Rattle.view.specs.View.{among, any_under_of, hides, hidden_from, stars}
-use Rattle.floor_runs.specs.Fates.{singles, gone, fates_of, fates_from, fates, Fated}
+use Rattle.floor_runs.specs.Fates.{singles, gone, fates_of, fates_from, Fated}
 use Rattle.floor_runs.proofs.PlacedLaws.{length-singles, flatten-singles, singles-append, flatten_none, length_gone}
 
 -- ── lists

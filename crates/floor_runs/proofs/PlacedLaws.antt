@@ -5,9 +5,9 @@ use Prim.Native.Nat.{ℕ, zero, suc, ◌+◌, ◌-◌, ◌≤◌}
 use native.Mathlib.Omega.{arith}
 use mathlib.Core.Bool.{Bool, true, false}
 use mathlib.Core.Path.{◌≡◌, refl, sym, ap, ◌∙◌}
-use mathlib.Core.List.{List, [], ◌∷◌, ◌++◌, append_assoc, append-nil, flatten}
+use mathlib.Core.List.{List, [], ◌∷◌, ◌++◌, append_assoc, flatten}
 use lib.ListN.{length, take, drop, replicate, length-append, length-replicate, length-take}
-use lib.Seq.{take-append_seam, drop-append_seam, length-take-le}
+use lib.Seq.{take-append_seam, drop-append_seam}
 use Rattle.chars.specs.Chars.{Character, chars, bytes_of}
 use Rattle.chars.proofs.CharsLaws.{Valid, bytes-chars, valid-chars}
 use Rattle.recording.specs.Recording.{Bytes, Recording, Item, byte, push, pop, raw, byte_items, items, data_of}
@@ -18,7 +18,7 @@ use Rattle.recording.proofs.ItemsLaws.{data_bytes_lem, data_items, bytes-append}
 use Rattle.view.specs.View.{hidden_from, hidden, stars, floor_ops, drop_raws, floor_items}
 use Rattle.view.proofs.DropLaws.{drop_data, drop-append}
 use Rattle.view.proofs.SizeLaws.{length-hidden}
-use Rattle.floor_runs.specs.Fates.{singles, gone, fates_of, fates_from, fates, placed, to_come}
+use Rattle.floor_runs.specs.Fates.{singles, gone, fates_of, fates, placed, to_come}
 
 -- ── bytes that stay
 pub length-singles : (d : Bytes) → length (singles d) ≡ length d

@@ -1,30 +1,29 @@
 -- The next run, in each of the ways that the code finds it: `copied`, `newline`, `starred`, `divided_gone`, `divided_kept`, `inside`.
 -- The idea: all bytes of a run have the same labels (`run_colours`), so one question decides for whole characters; a character that goes on past the run is asked for by itself.
-use Prim.Native.Nat.{ℕ, suc, ◌+◌, ◌-◌, ◌≤◌, ◌<◌}
+use Prim.Native.Nat.{ℕ, ◌+◌, ◌-◌, ◌≤◌, ◌<◌}
 use native.Mathlib.Omega.{arith}
 use mathlib.Core.Bool.{Bool, true, false, cond, ◌&&◌, not}
 use mathlib.Core.Path.{◌≡◌, refl, sym, ap, subst, ◌∙◌}
-use mathlib.Core.List.{List, [], ◌∷◌, ◌++◌, flatten}
-use lib.Dec.{eqb}
+use mathlib.Core.List.{List, [], ◌∷◌}
 use lib.ListN.{length, take, drop, get_or, replicate, length-drop}
 use borrow.Author.Tests.{eq-eqb, ne_eqb}
 use Rattle.buffer.specs.Place.{part}
 use Rattle.buffer.proofs.Laws.{length_part}
-use Rattle.chars.specs.Chars.{Character, chars, char_in, wide, width_of}
+use Rattle.chars.specs.Chars.{chars, char_in, wide}
 use Rattle.recording.specs.Lists.{AllOf, same}
-use Rattle.recording.specs.Recording.{Bytes, Item, byte_items, data_of, entries_of}
-use Rattle.recording.specs.Coloured.{Coloured, coloured_from, values}
+use Rattle.recording.specs.Recording.{Bytes, Item, byte_items, entries_of}
+use Rattle.recording.specs.Coloured.{Coloured, coloured_from}
 use Rattle.recording.proofs.Lists.{same_equal}
 use Rattle.recording.proofs.ItemsLaws.{values-coloured, data_items_from}
 use Rattle.layout.proofs.StepLaws.{length-values}
 use Rattle.writer.specs.declared.Cursor.{Cursor}
 use Rattle.writer.specs.Write.{left}
 use Rattle.view.proofs.AbsentLaws.{none_under}
-use Rattle.view.specs.View.{among, any_under_of, hides, stars}
+use Rattle.view.specs.View.{among, any_under_of}
 use Rattle.floor_runs.specs.Fates.{fates_from, Fated}
 use Rattle.floor_runs.proofs.FateLaws.{same_labels, opens_none, IsUnder, all_under, fated_at, kept_run, starred-run, inside-run, kept_char, gone_char}
 use Rattle.char_runs.specs.declared.Stretch.{Stretch}
-use Rattle.char_runs.specs.Runs.{Plain, Passes, WholeUpTo, Covered}
+use Rattle.char_runs.specs.Runs.{Passes, WholeUpTo, Covered}
 use Rattle.char_runs.proofs.RunLaws.{newline_alone}
 use Rattle.open_label.specs.declared.Open.{Open}
 use Rattle.open_label.specs.Open.{Tells, Under}
@@ -33,7 +32,7 @@ use Rattle.open_label.proofs.SameLaws.{same_lengths}
 use Rattle.floor_runs.specs.declared.Run.{Run}
 use Rattle.open_label.specs.declared.Walk.{Walk}
 use Rattle.open_label.specs.Walk.{next_place}
-use Rattle.floor_runs.specs.Runs.{copied_run_to, run_bytes, RunOf}
+use Rattle.floor_runs.specs.Runs.{copied_run_to, RunOf}
 use Rattle.open_label.proofs.WalkLaws.{left_run_lem}
 
 and_false : (a b : Bool) → b ≡ true → (a && not b) ≡ false

@@ -1,6 +1,6 @@
 -- Breaking: each piece of a word is one head, reads as its own characters, and two neighbouring heads of a word are wider together than the width.
 -- First fit: so on one line each word but the last has whitespace after it.
-use Prim.Native.Nat.{ℕ, ◌+◌, ◌-◌, ◌≤◌, ◌<◌}
+use Prim.Native.Nat.{ℕ, ◌+◌, ◌≤◌, ◌<◌}
 use native.Mathlib.Omega.{arith}
 use mathlib.Core.Bool.{Bool, true, false, cond, ◌&&◌, false≢true}
 use mathlib.Core.Logic.{◌⊎◌, inl, inr}

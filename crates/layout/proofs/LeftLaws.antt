@@ -1,6 +1,6 @@
 -- What a call leaves is a recording: a call that is not refused leaves nothing that refusals 1 to 6 would refuse (`left_valid`).
 -- The idea: every call makes its items from the content's and the second recording's by edits, and those keep what a recording can hold.
-use Prim.Native.Nat.{ℕ, zero, suc, ◌+◌, ◌-◌, ◌/◌}
+use Prim.Native.Nat.{ℕ, zero, suc, ◌-◌, ◌/◌}
 use mathlib.Core.Bool.{Bool, true, false, cond}
 use mathlib.Core.Path.{◌≡◌}
 use mathlib.Core.List.{List, [], ◌∷◌, ◌++◌}

@@ -1,6 +1,6 @@
 -- Indenting and taking the indent off again (`round_trips` and `running_round_trips`, the statements of `specs/RoundTrips.antt`).
 -- The idea: both are plain steps byte by byte, so what one does to a line the other undoes byte by byte: `off_again` on coloured bytes, `on_again` on their values.
-use Prim.Native.Nat.{ℕ, zero, suc, ◌+◌, ◌≤◌, ◌<◌}
+use Prim.Native.Nat.{ℕ, zero, suc, ◌≤◌, ◌<◌}
 use native.Mathlib.Omega.{arith}
 use mathlib.Core.Bool.{Bool, true, false, cond, ◌&&◌, ◌||◌, not, false≢true}
 use mathlib.Core.Path.{◌≡◌, refl, sym, ap, ◌∙◌}

@@ -1,6 +1,6 @@
 -- What the characters of a text are to tab stops, and the line that is made of them: a tab, a 0A, or neither (`sort`); and how the bytes since the last 0A grow with each (`Closed`).
 -- The idea: a byte below 80 ends the character before it, so after a tab's spaces the characters that follow are read as in the content, whatever their bytes.
-use Prim.Native.Nat.{ℕ, zero, suc, ◌+◌, ◌-◌, ◌%◌, ◌≤◌, ◌<◌}
+use Prim.Native.Nat.{ℕ, zero, suc, ◌+◌, ◌%◌, ◌≤◌, ◌<◌}
 use native.Mathlib.Nat.{mod-lt}
 use native.Mathlib.Omega.{arith}
 use mathlib.Core.Bool.{Bool, true, false}

@@ -1,6 +1,6 @@
 -- The characters of a word, read where more bytes come after the word: no character goes on past a 20 or a 0A.
 -- The idea: a byte that continues a sequence is at least 80 (`column_low`).
-use Prim.Native.Nat.{ℕ, zero, suc, ◌-◌, ◌≤◌, ◌<◌}
+use Prim.Native.Nat.{ℕ, zero, suc, ◌≤◌, ◌<◌}
 use native.Mathlib.Omega.{arith}
 use mathlib.Core.Bool.{Bool, true, false, cond, ◌||◌, false≢true}
 use mathlib.Core.Path.{◌≡◌, refl, sym, ap, ◌∙◌}

@@ -15,7 +15,7 @@ use Rattle.recording.specs.Recording.{Bytes, Item, byte, push, pop, raw, byte_it
 use Rattle.recording.specs.Coloured.{Coloured, coloured_from, open_after}
 use Rattle.recording.specs.Refusals.{bad_shape_of}
 use Rattle.recording.proofs.Lists.{and_left, and_right}
-use Rattle.recording.proofs.SizeLaws.{IsEntry, cursor_bytes, cursor_end}
+use Rattle.recording.proofs.SizeLaws.{IsEntry}
 use Rattle.writer.specs.declared.Cursor.{Cursor}
 use Rattle.writer.specs.Write.{Valid, left, place_for, item_at}
 use Rattle.writer.proofs.Carry.{whole_entry, placed, valid-parts, is_entry, left_turn, bytes_first}

@@ -1,22 +1,20 @@
 -- A place of the content with the entries there passed: what is left of the content begins with the bytes up to the next entry (`left_run_lem`), and one entry further (`entry_next`).
-use Prim.Native.Nat.{ℕ, zero, suc, ◌+◌, ◌-◌, ◌≤◌, ◌<◌}
+use Prim.Native.Nat.{ℕ, ◌+◌, ◌-◌, ◌≤◌, ◌<◌}
 use native.Mathlib.Omega.{arith}
-use mathlib.Core.Bool.{Bool, true, false, cond, not}
-use mathlib.Core.Path.{◌≡◌, refl, sym, ap, ◌∙◌}
+use mathlib.Core.Bool.{false}
+use mathlib.Core.Path.{◌≡◌, sym, ap, ◌∙◌}
 use mathlib.Core.List.{List, [], ◌∷◌, ◌++◌}
 use lib.ListN.{length, take, drop}
 use lib.Seq.{drop-drop}
 use Rattle.buffer.specs.Place.{part}
 use Rattle.recording.specs.declared.Entry.{Entry}
-use Rattle.recording.specs.Recording.{Bytes, entries_of, part_of, Item, item_of, byte_items, items_from}
-use Rattle.recording.specs.Coloured.{Coloured, coloured_from, open_after}
+use Rattle.recording.specs.Recording.{entries_of, Item, byte_items, items_from}
 use Rattle.recording.specs.Edit.{front, back}
 use Rattle.recording.specs.Refusals.{bad_shape_of}
-use Rattle.recording.proofs.EditLaws.{coloured-back}
 use Rattle.recording.proofs.SizeLaws.{front-entry, back-entry}
 use Rattle.writer.specs.declared.Cursor.{Cursor}
 use Rattle.writer.specs.Write.{Valid, Ready, left, place_for, item_at}
-use Rattle.writer.proofs.Carry.{valid_in, whole_entry, bytes_first, EntryItem, is_entry, left_turn, rest_after, front_stop, back_stop, valid_there, placed}
+use Rattle.writer.proofs.Carry.{valid_in, whole_entry, bytes_first, EntryItem, is_entry, left_turn, rest_after, front_stop, back_stop, placed}
 use Rattle.open_label.specs.Walk.{next_place}
 
 -- ── a run without an entry inside

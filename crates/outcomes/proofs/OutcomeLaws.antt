@@ -12,7 +12,6 @@ use Rattle.recording.specs.Recording.{Recording, Item, numbers_of_ranges, data_o
 use Rattle.recording.specs.Refusals.{number_of_refusal, first_of, recording_fault}
 use Rattle.recording.specs.Outcome.{Outcome, refused, done, over_limit, no_room, refusal_of, Lent, room_in, lent_after, returned, answer_of}
 use Rattle.recording.proofs.OutcomeLaws.{number_pos, first_hit, first_on, first_one, stops_content, stops_second, stops_own, stops_sizes, is_refused, is_done, promise_refused}
-use Rattle.recording.proofs.FaultLaws.{first_of-zero}
 use Rattle.recording.proofs.SizeLaws.{entry_count, count_numbers}
 use Rattle.writer.specs.declared.Cursor.{Cursor}
 use Rattle.writer.specs.declared.Settled.{Settled}

@@ -1,6 +1,6 @@
 -- An edit of the items is the same edit of the coloured bytes (`edit_law`), keeps balance (`edit_bal`), and is the same edit of the data alone (`edit_data_lem`).
 -- The idea: `front n` and `back n` of the items are `take n` and `drop n` of the coloured bytes, with the labels open after `front n` carried over.
-use Prim.Native.Nat.{ℕ, zero, suc, ◌+◌, ◌-◌}
+use Prim.Native.Nat.{ℕ, zero, suc, ◌+◌}
 use native.Mathlib.Nat.{zero-add, suc-add}
 use mathlib.Core.Bool.{true, false≢true}
 use mathlib.Core.Path.{◌≡◌, refl, sym, ap, ◌∙◌}

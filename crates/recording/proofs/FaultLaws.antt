@@ -16,7 +16,7 @@ use Rattle.recording.specs.Recording.{Bytes, Recording, is_nil, entries_of, numb
 use Rattle.recording.specs.Share.{Inside}
 use Rattle.recording.specs.Edit.{Op, keep, skip, put, front, back, entries_only, edit}
 use Rattle.recording.specs.Refusals.{first_of, refuse_if, bad_shape_of, entry_fault, entries_fault, recording_fault, data_limit, entry_limit, text_limit}
-use Rattle.recording.specs.Outcome.{Room, Result, Faults, Outcome, done, over_limit, no_room, refusal_of, Lent, lent_after, returned, read_back_of}
+use Rattle.recording.specs.Outcome.{Room, Result, Faults, done, over_limit, no_room, refusal_of, Lent, lent_after, returned, read_back_of}
 use Rattle.recording.proofs.EditLaws.{AllPuts}
 use Rattle.recording.proofs.Lists.{all_append, or_left, or_right, not_false}
 use Rattle.recording.proofs.ItemsLaws.{push-part, placed_at, entries_numbers}

@@ -13,7 +13,7 @@ use lib.ListN.{length, take, drop, length-append, length-take, length-drop}
 use borrow.Author.Tests.{eqb-true, eq-eqb, ltb-true, lt-ltb}
 use Rattle.recording.specs.declared.Entry.{Entry}
 use Rattle.recording.specs.Lists.{AllOf, same}
-use Rattle.recording.specs.Recording.{Bytes, Recording, entry, entries_of, part_of, Item, byte, push, pop, raw, items, is_push_of, pushed_in, start_in, push_at, new_text, entries_from, text_from, encode}
+use Rattle.recording.specs.Recording.{Bytes, Recording, entry, entries_of, part_of, Item, byte, push, pop, raw, is_push_of, pushed_in, start_in, push_at, new_text, entries_from, text_from, encode}
 use Rattle.recording.specs.Coloured.{coloured, coloured_from}
 use Rattle.recording.specs.Refusals.{first_of, refuse_if, data_limit, entry_limit, text_limit}
 use Rattle.recording.specs.Outcome.{Room, Result, Faults, over_limit, no_room, refusal_of}

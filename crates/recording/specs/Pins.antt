@@ -2,7 +2,7 @@
 use Rattle.std.specs.Prelude.{ℕ, zero, suc, Bool, true, false, List, [], ◌∷◌}
 use Rattle.recording.specs.Recording.{Bytes, Recording, recording}
 use Rattle.recording.specs.Coloured.{Coloured, coloured, balanced}
-use Rattle.recording.specs.Outcome.{Room, Result, Faults, refusal_of, Lent, lent_after, refused, done}
+use Rattle.recording.specs.Outcome.{Room, refusal_of, Lent, lent_after, refused, done}
 
 -- a byte with its labels
 abbrev pub under : ℕ → List Bytes → Coloured

@@ -12,7 +12,7 @@ use Rattle.recording.specs.Recording.{Bytes, Recording, Item, byte, push, pop, r
 use Rattle.recording.specs.Coloured.{open_after, balanced_from, balanced, coloured}
 use Rattle.recording.specs.Edit.{Op, keep, skip, put, front, back, entries_only, edit}
 use Rattle.recording.specs.Refusals.{recording_fault}
-use Rattle.recording.specs.Outcome.{Room, Outcome, refused, done, Lent, lent_after, room_in, returned, read_back_of, answer_of, Promised}
+use Rattle.recording.specs.Outcome.{Room, Outcome, refused, done, Lent, room_in, returned, read_back_of, Promised}
 use Rattle.recording.proofs.EditLaws.{open_entries, front-back, back-back, front_with_back, only_append, only_entries, kept_more, skipped_more, skip_none}
 use Rattle.recording.proofs.FaultLaws.{read_back}
 use Rattle.view.specs.View.{among, stars, floor_ops, drop_raws, hidden, floor_items, floor_of, view_fault, view_faults, floor_outcome}

@@ -5,7 +5,6 @@ use Prim.Native.Nat.{ℕ, zero, suc}
 use mathlib.Core.Bool.{Bool, true, false, cond}
 use mathlib.Core.Path.{◌≡◌, refl, sym, ap, ◌∙◌}
 use mathlib.Core.List.{List, [], ◌∷◌, ◌++◌, tail, reverse, append_assoc}
-use lib.ListN.{length}
 use Rattle.chars.specs.Chars.{Character, chars}
 use Rattle.recording.specs.Recording.{Bytes, Recording, Item, byte, push, pop, raw, byte_items, items, data_of}
 use Rattle.recording.specs.Coloured.{Coloured, coloured_from, open_after, balanced_from}

@@ -1,6 +1,6 @@
 -- The two readers' outcomes: the office's is replay's where 34 and 35 are not given (`office_replay`); both follow the content's checks (`content_first`, `turned_away`); what the floor is left is a
 -- recording, as balanced as the content (`floor_clean`, `balance_stays`). The idea: all that an outcome is made of stands in `view_faults`, and the floor's items are an edit of the content's.
-use Prim.Native.Nat.{ℕ, ◌<◌}
+use Prim.Native.Nat.{◌<◌}
 use mathlib.Core.Bool.{Bool, true, false, cond}
 use mathlib.Core.Path.{◌≡◌, refl, sym, ap, ◌∙◌}
 use mathlib.Core.List.{List, [], ◌∷◌, ◌++◌, tail}

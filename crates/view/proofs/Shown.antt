@@ -11,7 +11,7 @@ use Rattle.recording.specs.Coloured.{Coloured, coloured, balanced, values}
 use Rattle.recording.specs.Refusals.{recording_fault}
 use Rattle.recording.proofs.ItemsLaws.{values_of}
 use Rattle.layout.specs.Layout.{Call, refusal, after, run}
-use Rattle.layout.specs.Theorem.{Proper, Demand3}
+use Rattle.layout.specs.Theorem.{Demand3}
 use Rattle.layout.proofs.ListLaws.{after_refused}
 use Rattle.layout.proofs.LeftLaws.{left_valid}
 use Rattle.layout.proofs.Demand3.{bal_run, demand3}

@@ -1,6 +1,6 @@
 -- Bytes that fit are well-formed characters, from a place where no sequence is open to any other such place.
 -- The idea: where no sequence is open a byte leads one, and each byte after it is one that the lead byte asks for.
-use Prim.Native.Nat.{ℕ, zero, suc, ◌+◌, ◌-◌, ◌≤◌, ◌<◌}
+use Prim.Native.Nat.{ℕ, zero, suc, ◌+◌, ◌≤◌, ◌<◌}
 use native.Mathlib.Omega.{arith}
 use native.Mathlib.Numerals.{add-one, add-two, add-three}
 use mathlib.Core.Bool.{Bool, true, false, cond}

@@ -1,6 +1,6 @@
 -- The loop over the lines writes the plan `wrap_ops`: a line's items, a 0A, and the plan of the lines that are left.
 -- The idea: what is done, and the plan from the cursor on, is the whole plan (`State`); one law for a line that others follow, one for the last.
-use Prim.Native.Nat.{ℕ, ◌+◌, ◌-◌, ◌≤◌, ◌<◌}
+use Prim.Native.Nat.{ℕ, ◌-◌, ◌≤◌, ◌<◌}
 use native.Mathlib.Omega.{arith}
 use mathlib.Core.Bool.{Bool, true, false}
 use mathlib.Core.Path.{◌≡◌, refl, sym, ap, ◌∙◌}

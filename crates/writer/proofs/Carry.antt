@@ -8,7 +8,7 @@ use Prim.Native.Nat.{ℕ, zero, suc, ◌+◌, ◌-◌, ◌≤◌, ◌<◌}
 use native.Mathlib.Omega.{arith}
 use lib.ListN.{length, take, drop, get_or, length-drop, length-take}
 use lib.Seq.{drop-cons, drop-drop}
-use Rattle.buffer.specs.Place.{over, over_at, part}
+use Rattle.buffer.specs.Place.{over_at, part}
 use Rattle.buffer.proofs.Laws.{over_none, length_part}
 use Rattle.recording.specs.declared.Entry.{Entry}
 use Rattle.recording.specs.Recording.{entries_of, numbers_of_ranges, part_of, Item, byte, push, pop, raw, item_of, byte_items, items_from, data_of, entries_from, text_from}

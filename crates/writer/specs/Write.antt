@@ -1,5 +1,5 @@
 -- Writing a recording into three lent buffers, told by its items: what the buffers hold after some items were put at their ends, and what is left of a content.
-use Rattle.std.specs.Prelude.{ℕ, zero, suc, ◌+◌, ◌-◌, ◌%◌, ◌≤◌, true, false, ◌≡◌, List, [], ◌∷◌, length, take, drop}
+use Rattle.std.specs.Prelude.{ℕ, zero, suc, ◌+◌, ◌%◌, ◌≤◌, true, false, ◌≡◌, List, [], ◌∷◌, length, take, drop}
 use Rattle.recording.specs.Share.{Inside}
 use Rattle.share.specs.Placed.{placed_from}
 use Rattle.buffer.specs.Place.{over_at}

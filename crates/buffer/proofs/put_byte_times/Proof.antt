@@ -9,8 +9,6 @@ use Rattle.buffer.proofs.Laws.{over_none, store_next}
 use Rattle.buffer.proofs.HeldLaws.{run_held}
 use Rattle.buffer.proofs.put_byte_times.Statement.{statement}
 use Rattle.buffer.proofs.put_byte_times.Tie as tie
-use Rattle.buffer.proofs.put_byte_times.Reads as reads
-use Rattle.buffer.proofs.put_byte_times.Lts as lts
 
 abbrev invariant-loop : tie.invariant-loop-i
 invariant-loop out₀ at b n i₀ out i =

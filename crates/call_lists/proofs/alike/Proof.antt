@@ -2,8 +2,6 @@
 use borrow.Author.Tests.{eq-eqb, ne_eqb}
 use Rattle.call_lists.proofs.alike.Statement.{statement}
 use Rattle.call_lists.proofs.alike.Tie as tie
-use Rattle.call_lists.proofs.alike.Reads as reads
-use Rattle.call_lists.proofs.alike.Lts as lts
 
 returns : tie.Need-returns-then-d-bytes
 returns c = rw (ne_eqb _ _ c.if-d-bytes.true)

@@ -5,10 +5,6 @@ use Rattle.call_lists.proofs.PromiseLaws.{stays, copied}
 use Rattle.layout.specs.Lent.{lent_of}
 use Rattle.call_lists.proofs.bring_back.Statement.{statement}
 use Rattle.call_lists.proofs.bring_back.Tie as tie
-use Rattle.call_lists.proofs.bring_back.Reads as reads
-use Rattle.call_lists.proofs.bring_back.Lts as lts
-use Rattle.buffer.proofs.put.Reads as put_reads
-use Rattle.call_lists.proofs.put_numbers.Reads as put-numbers-reads
 
 -- ── what the call was given
 abbrev first : tie.Start → Lent

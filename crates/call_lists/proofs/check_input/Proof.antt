@@ -3,12 +3,9 @@ use borrow.Author.Rules.{rules}
 use Rattle.call_lists.specs.Runs.{input_fault}
 use Rattle.writer.specs.Sizes.{settled_fault}
 use mathlib.Core.Path.{sym}
-use borrow.Author.Tests.{lt-ltb, le-ltb, eq-eqb, ne_eqb, not-true, not-false}
+use borrow.Author.Tests.{lt-ltb, le-ltb, eq-eqb, ne_eqb}
 use Rattle.call_lists.proofs.check_input.Statement.{statement}
 use Rattle.call_lists.proofs.check_input.Tie as tie
-use Rattle.call_lists.proofs.check_input.Reads as reads
-use Rattle.call_lists.proofs.check_input.Lts as lts
-use Rattle.requests.proofs.all_fit.Reads as all-fit-reads
 
 returns : tie.Need-returns-then-long
 unfolding input_fault settled_fault

@@ -5,8 +5,6 @@ use Rattle.call_lists.specs.Runs.{held_by}
 use Rattle.recording.specs.Outcome.{answer_of}
 use Rattle.call_lists.proofs.moved.Statement.{statement}
 use Rattle.call_lists.proofs.moved.Tie as tie
-use Rattle.call_lists.proofs.moved.Reads as reads
-use Rattle.call_lists.proofs.moved.Lts as lts
 
 enum_told : tie.Need-enum_told-1
 enum_told c = search rules

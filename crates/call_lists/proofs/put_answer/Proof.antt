@@ -4,10 +4,6 @@ use mathlib.Core.Path.{sym}
 use Rattle.recording.specs.Outcome.{answer_of}
 use Rattle.call_lists.proofs.put_answer.Statement.{statement}
 use Rattle.call_lists.proofs.put_answer.Tie as tie
-use Rattle.call_lists.proofs.put_answer.Reads as reads
-use Rattle.call_lists.proofs.put_answer.Lts as lts
-use Rattle.recording.proofs.number_of.Reads as number-of-reads
-use Rattle.call_lists.proofs.put_two.Reads as put-two-reads
 
 enum-known-a : tie.Need-enum_known-a
 enum-known-a c = search rules

@@ -8,8 +8,6 @@ use mathlib.Core.Path.{◌≡◌, refl}
 use Prim.Native.Nat.{◌-◌, ◌≤◌}
 use Rattle.call_lists.proofs.put_numbers.Statement.{statement}
 use Rattle.call_lists.proofs.put_numbers.Tie as tie
-use Rattle.call_lists.proofs.put_numbers.Reads as reads
-use Rattle.call_lists.proofs.put_numbers.Lts as lts
 
 abbrev invariant-loop : tie.invariant-loop-i
 invariant-loop to₀ from n i₀ to i =

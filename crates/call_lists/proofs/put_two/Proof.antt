@@ -5,8 +5,6 @@ use Rattle.buffer.proofs.Laws.{two_stores}
 use lib.ListN.{length-set}
 use Rattle.call_lists.proofs.put_two.Statement.{statement}
 use Rattle.call_lists.proofs.put_two.Tie as tie
-use Rattle.call_lists.proofs.put_two.Reads as reads
-use Rattle.call_lists.proofs.put_two.Lts as lts
 
 mul-answers : tie.Need-offset_bounds-answers-k
 mul-answers c = search rules

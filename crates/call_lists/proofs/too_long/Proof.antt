@@ -2,8 +2,6 @@
 use borrow.Author.Tests.{lt-ltb, le-ltb}
 use Rattle.call_lists.proofs.too_long.Statement.{statement}
 use Rattle.call_lists.proofs.too_long.Tie as tie
-use Rattle.call_lists.proofs.too_long.Reads as reads
-use Rattle.call_lists.proofs.too_long.Lts as lts
 
 returns : tie.Need-returns-then-bytes-d
 returns c = rw (lt-ltb _ _ c.if-bytes-d.true)

@@ -2,8 +2,6 @@
 use borrow.Author.Tests.{lt-leb, le-leb}
 use Rattle.char_runs.proofs.continues.Statement.{statement}
 use Rattle.char_runs.proofs.continues.Tie as tie
-use Rattle.char_runs.proofs.continues.Reads as reads
-use Rattle.char_runs.proofs.continues.Lts as lts
 
 returns : tie.Need-returns-then-b-lt128
 returns c =

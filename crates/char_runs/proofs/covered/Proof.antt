@@ -12,10 +12,6 @@ use Rattle.char_runs.specs.Runs.{Passes}
 use Rattle.char_runs.proofs.RunLaws.{newline_alone, Plain, plain-visible, plain_further, plain_covered}
 use Rattle.char_runs.proofs.covered.Statement.{statement}
 use Rattle.char_runs.proofs.covered.Tie as tie
-use Rattle.char_runs.proofs.covered.Reads as reads
-use Rattle.char_runs.proofs.covered.Lts as lts
-use Rattle.char_runs.proofs.visible_end.Reads as visible-end-reads
-use Rattle.chars.proofs.seen_at.Reads as seen-at-reads
 
 abbrev invariant-loop : tie.invariant-loop-i
 invariant-loop t s at end i₀ width₀ i width =

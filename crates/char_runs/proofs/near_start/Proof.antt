@@ -1,16 +1,11 @@
 -- No character goes on past a byte that continues no sequence (`seam-byte`), so one starts there; and one starts at `at`.
 use native.Mathlib.Omega.{arith}
 use borrow.Author.Rules.{rules}
-use Prim.Native.Nat.{ℕ, ◌-◌, ◌≤◌, ◌<◌}
+use Prim.Native.Nat.{◌≤◌, ◌<◌}
 use mathlib.Core.Path.{sym, ◌∙◌}
-use lib.ListN.{length}
-use borrow.Author.Tests.{not-true}
 use Rattle.char_runs.proofs.RunLaws.{seam_none, seam-byte}
 use Rattle.char_runs.proofs.near_start.Statement.{statement}
 use Rattle.char_runs.proofs.near_start.Tie as tie
-use Rattle.char_runs.proofs.near_start.Reads as reads
-use Rattle.char_runs.proofs.near_start.Lts as lts
-use Rattle.char_runs.proofs.continues.Reads as continues-reads
 
 abbrev invariant-loop : tie.invariant-loop-i
 invariant-loop s at end i₀ i =

@@ -6,8 +6,6 @@ use Prim.Native.Nat.{◌-◌, ◌≤◌}
 use Rattle.char_runs.specs.Runs.{VisibleFrom}
 use Rattle.char_runs.proofs.visible_end.Statement.{statement}
 use Rattle.char_runs.proofs.visible_end.Tie as tie
-use Rattle.char_runs.proofs.visible_end.Reads as reads
-use Rattle.char_runs.proofs.visible_end.Lts as lts
 
 abbrev invariant-loop : tie.invariant-loop-i
 invariant-loop s at end i₀ i = (at ≤ i) × (i ≤ end) × VisibleFrom s at i

@@ -5,17 +5,11 @@ use borrow.Author.Rules.{rules}
 use Prim.Native.Nat.{ℕ, ◌-◌, ◌≤◌, ◌<◌}
 use mathlib.Core.Path.{sym, subst, ◌∙◌}
 use lib.ListN.{length, drop}
-use borrow.Author.Tests.{not-true}
 use Rattle.chars.specs.Chars.{Seam}
 use Rattle.char_runs.specs.Runs.{Passes}
 use Rattle.char_runs.proofs.RunLaws.{seam_end, seam-byte, char_further}
 use Rattle.char_runs.proofs.whole_end.Statement.{statement}
 use Rattle.char_runs.proofs.whole_end.Tie as tie
-use Rattle.char_runs.proofs.whole_end.Reads as reads
-use Rattle.char_runs.proofs.whole_end.Lts as lts
-use Rattle.char_runs.proofs.continues.Reads as continues-reads
-use Rattle.char_runs.proofs.near_start.Reads as near-start-reads
-use Rattle.chars.proofs.seen_at.Reads as seen-at-reads
 
 abbrev invariant-loop : tie.invariant-loop-i
 invariant-loop t s at end i₀ i =

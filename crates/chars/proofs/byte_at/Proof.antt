@@ -4,8 +4,6 @@ use mathlib.Core.Path.{sym}
 use lib.ListN.{get_or-eq_default}
 use Rattle.chars.proofs.byte_at.Statement.{statement}
 use Rattle.chars.proofs.byte_at.Tie as tie
-use Rattle.chars.proofs.byte_at.Reads as reads
-use Rattle.chars.proofs.byte_at.Lts as lts
 
 shared-slice-read-result : tie.Need-bounds-s-i
 shared-slice-read-result c = search rules

@@ -9,10 +9,6 @@ use Rattle.chars.specs.Read.{read_of}
 use Rattle.chars.proofs.ReaderLaws.{read_by, read_by_lem, no_lead, one_byte, no_second, two_bytes, no_third, three_bytes, no_fourth, four_bytes, in_span, below, above}
 use Rattle.chars.proofs.decode.Statement.{statement}
 use Rattle.chars.proofs.decode.Tie as tie
-use Rattle.chars.proofs.decode.Reads as reads
-use Rattle.chars.proofs.decode.Lts as lts
-use Rattle.chars.proofs.ill_formed.Reads as ill-formed-reads
-use Rattle.chars.proofs.lead_in.Reads as lead-in-reads
 
 -- what the lead byte's row says of the answer
 by_row : (c : tie.After-lead_in-l)

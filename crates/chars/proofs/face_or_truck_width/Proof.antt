@@ -5,9 +5,6 @@ use Rattle.chars.specs.Width.{ranges, range_numbers}
 use Rattle.chars.proofs.WidthLaws.{Past, past_stretch, past_all, RowAt, miss, hit}
 use Rattle.chars.proofs.face_or_truck_width.Statement.{statement}
 use Rattle.chars.proofs.face_or_truck_width.Tie as tie
-use Rattle.chars.proofs.face_or_truck_width.Reads as reads
-use Rattle.chars.proofs.face_or_truck_width.Lts as lts
-use Rattle.chars.proofs.in_range.Reads as in-range-reads
 
 faces : RowAt 19 57
 unfolding ranges range_numbers

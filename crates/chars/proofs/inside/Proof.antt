@@ -4,8 +4,6 @@ use borrow.Author.Tests.{le-leb}
 use Rattle.chars.proofs.ReaderLaws.{below}
 use Rattle.chars.proofs.inside.Statement.{statement}
 use Rattle.chars.proofs.inside.Tie as tie
-use Rattle.chars.proofs.inside.Reads as reads
-use Rattle.chars.proofs.inside.Lts as lts
 
 returns : tie.Need-returns-then-code-first
 returns c = sym (below _ _ _ c.if-code-first.true)

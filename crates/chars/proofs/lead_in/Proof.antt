@@ -3,8 +3,6 @@ use borrow.Author.Rules.{rules}
 use Rattle.chars.proofs.Leads.{lead_row}
 use Rattle.chars.proofs.lead_in.Statement.{statement}
 use Rattle.chars.proofs.lead_in.Tie as tie
-use Rattle.chars.proofs.lead_in.Reads as reads
-use Rattle.chars.proofs.lead_in.Lts as lts
 
 mul-x : tie.Need-offset_bounds-t-b
 mul-x c = search rules

@@ -9,10 +9,6 @@ use Rattle.chars.proofs.CharsLaws.{char_some, char_four, char_inside}
 use Rattle.chars.proofs.ReaderLaws.{read_in}
 use Rattle.chars.proofs.read_char.Statement.{statement}
 use Rattle.chars.proofs.read_char.Tie as tie
-use Rattle.chars.proofs.read_char.Reads as reads
-use Rattle.chars.proofs.read_char.Lts as lts
-use Rattle.chars.proofs.byte_at.Reads as byte-at-reads
-use Rattle.chars.proofs.decode.Reads as decode-reads
 
 shared-slice-read-a : tie.Need-bounds-s-at
 shared-slice-read-a c = search rules

@@ -9,10 +9,6 @@ use Rattle.chars.proofs.CharsLaws.{char_columns, ill_columns}
 use Rattle.chars.specs.declared.Read.{Read}
 use Rattle.chars.proofs.seen_any.Statement.{statement}
 use Rattle.chars.proofs.seen_any.Tie as tie
-use Rattle.chars.proofs.seen_any.Reads as reads
-use Rattle.chars.proofs.seen_any.Lts as lts
-use Rattle.chars.proofs.char_width.Reads as char-width-reads
-use Rattle.chars.proofs.read_char.Reads as read-char-reads
 
 read-char-requires : tie.Need-read_char-c-requires
 read-char-requires c κs = search rules

@@ -4,9 +4,6 @@ use mathlib.Core.Path.{sym}
 use Rattle.chars.proofs.FoldLaws.{plain}
 use Rattle.chars.proofs.seen_at.Statement.{statement}
 use Rattle.chars.proofs.seen_at.Tie as tie
-use Rattle.chars.proofs.seen_at.Reads as reads
-use Rattle.chars.proofs.seen_at.Lts as lts
-use Rattle.chars.proofs.seen_any.Reads as seen-any-reads
 
 shared-slice-read-a : tie.Need-bounds-s-at
 shared-slice-read-a c = search rules

@@ -10,9 +10,6 @@ use Rattle.chars.proofs.CharsLaws.{chars_end}
 use Rattle.chars.proofs.FoldLaws.{width_next}
 use Rattle.chars.proofs.text_width.Statement.{statement}
 use Rattle.chars.proofs.text_width.Tie as tie
-use Rattle.chars.proofs.text_width.Reads as reads
-use Rattle.chars.proofs.text_width.Lts as lts
-use Rattle.chars.proofs.seen_at.Reads as seen-at-reads
 
 record So-far (s : List ℕ) (at sum : ℕ) : Type 0 where
   within : at ≤ length s

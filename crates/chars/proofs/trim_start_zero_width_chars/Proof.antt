@@ -7,9 +7,6 @@ use borrow.Author.Rules.{part_to_end}
 use Rattle.chars.specs.Leads.{lead_table}
 use Rattle.chars.proofs.trim_start_zero_width_chars.Statement.{statement}
 use Rattle.chars.proofs.trim_start_zero_width_chars.Tie as tie
-use Rattle.chars.proofs.trim_start_zero_width_chars.Reads as reads
-use Rattle.chars.proofs.trim_start_zero_width_chars.Lts as lts
-use Rattle.chars.proofs.zero_width_len.Reads as zero-width-len-reads
 
 zero-width-len-requires : tie.Need-zero_width_len-n-requires
 unfolding lead_table

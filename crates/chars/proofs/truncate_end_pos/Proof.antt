@@ -12,9 +12,6 @@ use Rattle.chars.proofs.CharsLaws.{chars_end}
 use Rattle.chars.proofs.FoldLaws.{kept_more, kept_none}
 use Rattle.chars.proofs.truncate_end_pos.Statement.{statement}
 use Rattle.chars.proofs.truncate_end_pos.Tie as tie
-use Rattle.chars.proofs.truncate_end_pos.Reads as reads
-use Rattle.chars.proofs.truncate_end_pos.Lts as lts
-use Rattle.chars.proofs.seen_at.Reads as seen-at-reads
 
 record So-far (s : List ℕ) (max at left : ℕ) : Type 0 where
   within : at ≤ length s

@@ -11,9 +11,6 @@ use Rattle.chars.proofs.CutLaws.{longest, start_pos_lem, start_width_lem, longes
 use Rattle.chars.proofs.FoldLaws.{width_next, some_left, longest_next}
 use Rattle.chars.proofs.truncate_start_pos.Statement.{statement}
 use Rattle.chars.proofs.truncate_start_pos.Tie as tie
-use Rattle.chars.proofs.truncate_start_pos.Reads as reads
-use Rattle.chars.proofs.truncate_start_pos.Lts as lts
-use Rattle.chars.proofs.seen_at.Reads as seen-at-reads
 
 record So-far (s : List ℕ) (max at left : ℕ) : Type 0 where
   within : at ≤ length s

@@ -8,11 +8,6 @@ use Rattle.chars.specs.Width.{ranges, range_numbers}
 use Rattle.chars.proofs.WidthLaws.{Past, past_none, in_stretch, stretch, past_nineteen, RowAt, miss, hit}
 use Rattle.chars.proofs.width_in.Statement.{statement}
 use Rattle.chars.proofs.width_in.Tie as tie
-use Rattle.chars.proofs.width_in.Reads as reads
-use Rattle.chars.proofs.width_in.Lts as lts
-use Rattle.chars.proofs.in_range.Reads as in-range-reads
-use Rattle.chars.proofs.inside.Reads as inside-reads
-use Rattle.chars.proofs.face_or_truck_width.Reads as face-or-truck-width-reads
 
 row-1 : RowAt 0 0
 unfolding ranges range_numbers

@@ -11,9 +11,6 @@ use Rattle.chars.proofs.CharsLaws.{chars_end}
 use Rattle.chars.proofs.FoldLaws.{zero_more, zero_none}
 use Rattle.chars.proofs.zero_width_len.Statement.{statement}
 use Rattle.chars.proofs.zero_width_len.Tie as tie
-use Rattle.chars.proofs.zero_width_len.Reads as reads
-use Rattle.chars.proofs.zero_width_len.Lts as lts
-use Rattle.chars.proofs.seen_at.Reads as seen-at-reads
 
 record So-far (s : List ℕ) (at : ℕ) : Type 0 where
   within : at ≤ length s

@@ -13,11 +13,6 @@ use Rattle.controls.specs.Controls.{is_control, all_clean}
 use Rattle.controls.proofs.ControlLaws.{is_false, is_true, clean_next, clean_ill, clean_control, clean_printable}
 use Rattle.controls.proofs.clean_by_table.Statement.{statement}
 use Rattle.controls.proofs.clean_by_table.Tie as tie
-use Rattle.controls.proofs.clean_by_table.Reads as reads
-use Rattle.controls.proofs.clean_by_table.Lts as lts
-use Rattle.chars.proofs.seen_any.Reads as seen-any-reads
-use Rattle.controls.proofs.control_at.Reads as control-at-reads
-use Rattle.controls.proofs.is_printable.Reads as is-printable-reads
 
 record So-far (s : List ℕ) (from at : ℕ) : Type 0 where
   within : at ≤ length s

@@ -8,8 +8,6 @@ use Rattle.controls.proofs.CodeLaws.{ascii_code, other_lead, c2_control, c2_insi
 use Rattle.controls.proofs.ControlLaws.{control_low, control_between}
 use Rattle.controls.proofs.control_at.Statement.{statement}
 use Rattle.controls.proofs.control_at.Tie as tie
-use Rattle.controls.proofs.control_at.Reads as reads
-use Rattle.controls.proofs.control_at.Lts as lts
 
 shared-slice-read-b : tie.Need-bounds-s-at
 shared-slice-read-b c = search rules

@@ -11,9 +11,6 @@ use Rattle.controls.specs.Controls.{all_clean, is_clean_text}
 use Rattle.controls.proofs.ControlLaws.{clean_printable}
 use Rattle.controls.proofs.is_clean.Statement.{statement}
 use Rattle.controls.proofs.is_clean.Tie as tie
-use Rattle.controls.proofs.is_clean.Reads as reads
-use Rattle.controls.proofs.is_clean.Lts as lts
-use Rattle.controls.proofs.clean_from.Reads as clean-from-reads
 
 record So-far (s : List ℕ) (at : ℕ) : Type 0 where
   within : at ≤ length s

@@ -4,8 +4,6 @@ use borrow.Author.Tests.{le-leb}
 use Rattle.chars.proofs.ReaderLaws.{below}
 use Rattle.controls.proofs.is_printable.Statement.{statement}
 use Rattle.controls.proofs.is_printable.Tie as tie
-use Rattle.controls.proofs.is_printable.Reads as reads
-use Rattle.controls.proofs.is_printable.Lts as lts
 
 returns : tie.Need-returns-then-b-lt32
 returns c = sym (below _ _ _ c.if-b-lt32.true)

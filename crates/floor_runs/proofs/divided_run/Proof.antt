@@ -1,15 +1,9 @@
 -- The character goes on past the run: whether any of its bytes is under the label, also behind the run, decides (`divided_gone`, `divided_kept`).
 use native.Mathlib.Omega.{arith}
 use borrow.Author.Rules.{rules}
-use Prim.Native.Nat.{ℕ, ◌≤◌}
-use lib.ListN.{length}
 use Rattle.floor_runs.proofs.RunLaws.{divided_gone, divided_kept}
 use Rattle.floor_runs.proofs.divided_run.Statement.{statement}
 use Rattle.floor_runs.proofs.divided_run.Tie as tie
-use Rattle.floor_runs.proofs.divided_run.Reads as reads
-use Rattle.floor_runs.proofs.divided_run.Lts as lts
-use Rattle.chars.proofs.seen_at.Reads as seen-at-reads
-use Rattle.open_label.proofs.any_under.Reads as any-under-reads
 
 -- once the character is seen: where the function started
 abbrev start : tie.After-struct_known-2-1 → tie.Start

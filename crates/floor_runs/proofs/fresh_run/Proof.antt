@@ -1,7 +1,7 @@
 -- Outside the label whole characters are copied, under it a 0A stays and whole characters become stars; where there is none up to the end, the character there goes on past it.
 use native.Mathlib.Omega.{arith}
 use borrow.Author.Rules.{rules}
-use mathlib.Core.Path.{◌≡◌, sym, subst}
+use mathlib.Core.Path.{sym, subst}
 use Rattle.floor_runs.specs.declared.Run.{Run}
 use Rattle.floor_runs.specs.Runs.{RunOf}
 use Rattle.floor_runs.proofs.RunLaws.{copied, newline, starred}
@@ -9,12 +9,6 @@ use Rattle.char_runs.proofs.RunLaws.{no_newline}
 use Rattle.writer.specs.Write.{left}
 use Rattle.floor_runs.proofs.fresh_run.Statement.{statement}
 use Rattle.floor_runs.proofs.fresh_run.Tie as tie
-use Rattle.floor_runs.proofs.fresh_run.Reads as reads
-use Rattle.floor_runs.proofs.fresh_run.Lts as lts
-use Rattle.char_runs.proofs.covered.Reads as covered-reads
-use Rattle.char_runs.proofs.whole_end.Reads as whole-end-reads
-use Rattle.floor_runs.proofs.copied_to.Reads as copied-to-reads
-use Rattle.floor_runs.proofs.divided_run.Reads as divided-run-reads
 
 -- where the function started
 abbrev start : tie.After-struct_known-1 → tie.Start

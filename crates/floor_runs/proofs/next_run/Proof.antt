@@ -4,11 +4,6 @@ use borrow.Author.Rules.{rules}
 use Rattle.floor_runs.proofs.RunLaws.{inside, fresh}
 use Rattle.floor_runs.proofs.next_run.Statement.{statement}
 use Rattle.floor_runs.proofs.next_run.Tie as tie
-use Rattle.floor_runs.proofs.next_run.Reads as reads
-use Rattle.floor_runs.proofs.next_run.Lts as lts
-use Rattle.floor_runs.proofs.fresh_run.Reads as fresh-run-reads
-use Rattle.floor_runs.proofs.smaller.Reads as smaller-reads
-use Rattle.writer.proofs.place_at.Reads as place-at-reads
 
 -- once the run's end is known: where the function started, and that the end is beyond the place
 abbrev start : tie.After-smaller-end → tie.Start

@@ -11,9 +11,6 @@ use Rattle.indent.specs.Lines.{filled_lines_of, to_next}
 use Rattle.indent.proofs.Laws.{filled_next, filled_none, next_past}
 use Rattle.indent.proofs.filled_lines.Statement.{statement}
 use Rattle.indent.proofs.filled_lines.Tie as tie
-use Rattle.indent.proofs.filled_lines.Reads as reads
-use Rattle.indent.proofs.filled_lines.Lts as lts
-use Rattle.indent.proofs.next_line.Reads as next-line-reads
 
 -- p is the first place of the next line that is not empty
 record Counted (d : List ℕ) (n p : ℕ) : Type 0 where

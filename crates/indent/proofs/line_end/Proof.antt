@@ -8,9 +8,6 @@ use Rattle.newlines.specs.Newlines.{to_break}
 use Rattle.newlines.proofs.BreakLaws.{break_here, break_later, break_end}
 use Rattle.indent.proofs.line_end.Statement.{statement}
 use Rattle.indent.proofs.line_end.Tie as tie
-use Rattle.indent.proofs.line_end.Reads as reads
-use Rattle.indent.proofs.line_end.Lts as lts
-use Rattle.indent.proofs.skip_blocks.Reads as skip-blocks-reads
 
 abbrev invariant-loop : tie.invariant-loop-at
 invariant-loop s from at₀ at =

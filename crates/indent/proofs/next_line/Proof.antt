@@ -9,10 +9,6 @@ use Rattle.indent.specs.Lines.{to_next}
 use Rattle.indent.proofs.Laws.{next_after}
 use Rattle.indent.proofs.next_line.Statement.{statement}
 use Rattle.indent.proofs.next_line.Tie as tie
-use Rattle.indent.proofs.next_line.Reads as reads
-use Rattle.indent.proofs.next_line.Lts as lts
-use Rattle.indent.proofs.line_end.Reads as line-end-reads
-use Rattle.indent.proofs.skip_empty.Reads as skip-empty-reads
 
 skip-empty-requires : tie.Need-skip_empty-requires
 skip-empty-requires c κs = search rules

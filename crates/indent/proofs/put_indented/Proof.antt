@@ -9,11 +9,6 @@ use Rattle.indent.proofs.Loop.{State, state_first, long_now, here, before, room_
 use Rattle.indent.proofs.Laws.{next_past}
 use Rattle.indent.proofs.put_indented.Statement.{statement}
 use Rattle.indent.proofs.put_indented.Tie as tie
-use Rattle.indent.proofs.put_indented.Reads as reads
-use Rattle.indent.proofs.put_indented.Lts as lts
-use Rattle.indent.proofs.next_line.Reads as next-line-reads
-use Rattle.writer.proofs.keep.Reads as keep-reads
-use Rattle.writer.proofs.put_recording.Reads as put-recording-reads
 
 abbrev invariant-loop : tie.invariant-loop-p
 invariant-loop bytes₀ numbers₀ texts₀ content entries text prefix prefix-entries prefix-text c₀ p₀ bytes numbers texts c p =

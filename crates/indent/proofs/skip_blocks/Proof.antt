@@ -9,9 +9,6 @@ use Rattle.newlines.specs.Newlines.{to_break}
 use Rattle.newlines.proofs.BreakLaws.{break_past}
 use Rattle.indent.proofs.skip_blocks.Statement.{statement}
 use Rattle.indent.proofs.skip_blocks.Tie as tie
-use Rattle.indent.proofs.skip_blocks.Reads as reads
-use Rattle.indent.proofs.skip_blocks.Lts as lts
-use Rattle.newlines.proofs.has_break.Reads as has-break-reads
 
 abbrev invariant-loop : tie.invariant-loop-at
 invariant-loop s from at₀ at =

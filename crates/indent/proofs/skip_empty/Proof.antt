@@ -9,8 +9,6 @@ use Rattle.indent.specs.Lines.{to_next}
 use Rattle.indent.proofs.Laws.{next_here, next_later, next_end}
 use Rattle.indent.proofs.skip_empty.Statement.{statement}
 use Rattle.indent.proofs.skip_empty.Tie as tie
-use Rattle.indent.proofs.skip_empty.Reads as reads
-use Rattle.indent.proofs.skip_empty.Lts as lts
 
 abbrev invariant-loop : tie.invariant-loop-at
 invariant-loop s from at₀ at =

@@ -15,13 +15,6 @@ use Rattle.outcomes.proofs.SecondLaws.{Given, content, second, BothFine, Measure
 use Rattle.indent.proofs.Sizes.{indented_measured}
 use Rattle.indent.proofs.write_indented.Statement.{statement}
 use Rattle.indent.proofs.write_indented.Tie as tie
-use Rattle.indent.proofs.write_indented.Reads as reads
-use Rattle.indent.proofs.write_indented.Lts as lts
-use Rattle.indent.proofs.filled_lines.Reads as filled-lines-reads
-use Rattle.indent.proofs.put_indented.Reads as put-indented-reads
-use Rattle.recording_check.proofs.check_both.Reads as check-both-reads
-use Rattle.share.proofs.text_size.Reads as text-size-reads
-use Rattle.writer.proofs.settle.Reads as settle-reads
 
 -- the call returns no number
 number_of_refusal : (p c : Recording) → number (indent p) c ≡ 0

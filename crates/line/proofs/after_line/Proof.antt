@@ -1,12 +1,9 @@
 -- What is left is empty, begins with 0A, or begins with the word that did not fit: the three cases of `after_line_of`.
-use Prim.Native.Nat.{◌-◌}
 use native.Mathlib.Omega.{arith}
 use borrow.Author.Rules.{rules}
 use Rattle.line.proofs.LineLaws as laws
 use Rattle.line.proofs.after_line.Statement.{statement}
 use Rattle.line.proofs.after_line.Tie as tie
-use Rattle.line.proofs.after_line.Reads as reads
-use Rattle.line.proofs.after_line.Lts as lts
 
 returns : tie.Need-returns-then-s-eq0
 returns c = laws.after_none _ _ _ _ c.if-s-eq0.true

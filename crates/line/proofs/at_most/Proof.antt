@@ -3,8 +3,6 @@ use native.Mathlib.Omega.{arith}
 use Rattle.line.proofs.VisibleLaws as laws
 use Rattle.line.proofs.at_most.Statement.{statement}
 use Rattle.line.proofs.at_most.Tie as tie
-use Rattle.line.proofs.at_most.Reads as reads
-use Rattle.line.proofs.at_most.Lts as lts
 
 returns : tie.Need-returns-then-n-most
 returns c = laws.most_all _ _ c.if-n-most.true

@@ -1,11 +1,7 @@
 -- The test of first fit; the first head of a line needs none.
-use Prim.Native.Nat.{◌-◌}
 use borrow.Author.Rules.{rules}
-use Rattle.line.proofs.LineLaws as laws
 use Rattle.line.proofs.fits.Statement.{statement}
 use Rattle.line.proofs.fits.Tie as tie
-use Rattle.line.proofs.fits.Reads as reads
-use Rattle.line.proofs.fits.Lts as lts
 
 returns : tie.Need-returns-then-first
 returns c = search rules

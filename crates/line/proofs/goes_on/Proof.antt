@@ -4,9 +4,6 @@ use borrow.Author.Rules.{rules}
 use Rattle.line.proofs.RoomLaws as laws
 use Rattle.line.proofs.goes_on.Statement.{statement}
 use Rattle.line.proofs.goes_on.Tie as tie
-use Rattle.line.proofs.goes_on.Reads as reads
-use Rattle.line.proofs.goes_on.Lts as lts
-use Rattle.line.proofs.in_line.Reads as in-line-reads
 
 in-line-requires : tie.Need-in_line-requires
 in-line-requires c κs = search rules

@@ -1,15 +1,10 @@
 -- Place 0 of the search, or the place itself: the two cases of `head_from`.
-use Prim.Native.Nat.{◌-◌}
 use mathlib.Core.Path.{◌∙◌}
 use borrow.Author.Rules.{rules}
 use borrow.Author.Tests.{eq-eqb, ne_eqb}
 use Rattle.line.specs.Line.{head_from}
-use Rattle.line.proofs.LineLaws as laws
 use Rattle.line.proofs.head_at.Statement.{statement}
 use Rattle.line.proofs.head_at.Tie as tie
-use Rattle.line.proofs.head_at.Reads as reads
-use Rattle.line.proofs.head_at.Lts as lts
-use Rattle.line.proofs.one_char.Reads as one-char-reads
 
 one-char-requires : tie.Need-one_char-requires
 one-char-requires c κs = search rules

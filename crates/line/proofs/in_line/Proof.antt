@@ -1,13 +1,10 @@
 -- The line of the data goes on unless nothing is left or a 0A comes.
-use Prim.Native.Nat.{◌-◌}
 use native.Mathlib.Omega.{arith}
 use mathlib.Core.Path.{sym}
 use borrow.Author.Rules.{rules}
 use Rattle.line.proofs.LineLaws as laws
 use Rattle.line.proofs.in_line.Statement.{statement}
 use Rattle.line.proofs.in_line.Tie as tie
-use Rattle.line.proofs.in_line.Reads as reads
-use Rattle.line.proofs.in_line.Lts as lts
 
 returns : tie.Need-returns-then-s-eq0
 returns c = laws.line_none _ c.if-s-eq0.true

@@ -1,13 +1,9 @@
 -- The two tests are those of `limit_of_line`.
-use Prim.Native.Nat.{◌-◌}
 use native.Mathlib.Omega.{arith}
-use borrow.Author.Tests.{lt-ltb, not-true, not-false}
+use borrow.Author.Tests.{lt-ltb}
 use Rattle.line.specs.Rest.{limit_of_line}
-use Rattle.line.proofs.LineLaws as laws
 use Rattle.line.proofs.limit_of.Statement.{statement}
 use Rattle.line.proofs.limit_of.Tie as tie
-use Rattle.line.proofs.limit_of.Reads as reads
-use Rattle.line.proofs.limit_of.Lts as lts
 
 returns : tie.Need-returns-then-not-break_words
 unfolding limit_of_line

@@ -7,7 +7,6 @@ use mathlib.Core.Path.{◌≡◌, sym, ap, ◌∙◌}
 use mathlib.Core.List.{List}
 use lib.ListN.{length, length-drop}
 use borrow.Author.Rules.{rules}
-use borrow.Author.Tests.{not-true, not-false}
 use borrow.Author.Rules.{part_to_end}
 use Rattle.chars.specs.Cut.{truncate_end_pos_of, truncate_end_width}
 use Rattle.line.specs.Rest.{word_text, limit_of_line, head_len, head_width, unreached}
@@ -21,18 +20,6 @@ use Rattle.line.proofs.VisibleLaws.{most_le, search_visible}
 use Rattle.line.proofs.RestLaws.{word_le}
 use Rattle.line.proofs.next_line.Statement.{statement}
 use Rattle.line.proofs.next_line.Tie as tie
-use Rattle.line.proofs.next_line.Reads as reads
-use Rattle.line.proofs.next_line.Lts as lts
-use Rattle.line.proofs.after_line.Reads as after-line-reads
-use Rattle.line.proofs.fits.Reads as fits-reads
-use Rattle.line.proofs.goes_on.Reads as goes-on-reads
-use Rattle.line.proofs.head_at.Reads as head-at-reads
-use Rattle.line.proofs.in_line.Reads as in-line-reads
-use Rattle.line.proofs.limit_of.Reads as limit-of-reads
-use Rattle.line.proofs.room_of.Reads as room-of-reads
-use Rattle.line.proofs.seen_in_word.Reads as seen-in-word-reads
-use Rattle.line.proofs.spaces_at.Reads as spaces-at-reads
-use Rattle.line.proofs.visible_len.Reads as visible-len-reads
 
 -- the search for a cut: `left` is left of the room, and so much of the width to break at
 abbrev invariant-loop : tie.invariant-loop-c

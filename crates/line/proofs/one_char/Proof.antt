@@ -11,9 +11,6 @@ use Rattle.line.specs.Line.{one_head}
 use Rattle.line.proofs.LineLaws as laws
 use Rattle.line.proofs.one_char.Statement.{statement}
 use Rattle.line.proofs.one_char.Tie as tie
-use Rattle.line.proofs.one_char.Reads as reads
-use Rattle.line.proofs.one_char.Lts as lts
-use Rattle.line.proofs.seen_in_word.Reads as seen-in-word-reads
 use Rattle.line.proofs.RestLaws.{word_le}
 
 abbrev invariant-loop : tie.invariant-loop-c

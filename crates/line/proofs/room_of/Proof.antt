@@ -4,8 +4,6 @@ use native.Mathlib.Omega.{arith}
 use Rattle.line.proofs.RoomLaws as laws
 use Rattle.line.proofs.room_of.Statement.{statement}
 use Rattle.line.proofs.room_of.Tie as tie
-use Rattle.line.proofs.room_of.Reads as reads
-use Rattle.line.proofs.room_of.Lts as lts
 
 returns : tie.Need-returns-then-first
 returns c = laws.room_first _ _ _ _ c.if-first.true

@@ -7,9 +7,6 @@ use Rattle.line.proofs.LineLaws as laws
 use Rattle.line.proofs.VisibleLaws.{at_visible}
 use Rattle.line.proofs.seen_in_word.Statement.{statement}
 use Rattle.line.proofs.seen_in_word.Tie as tie
-use Rattle.line.proofs.seen_in_word.Reads as reads
-use Rattle.line.proofs.seen_in_word.Lts as lts
-use Rattle.chars.proofs.seen_at.Reads as seen-at-reads
 
 returns : tie.Need-returns-then-s-i
 returns c =

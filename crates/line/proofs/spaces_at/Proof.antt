@@ -9,8 +9,6 @@ use Rattle.line.specs.Rest.{space_len}
 use Rattle.line.proofs.LineLaws as laws
 use Rattle.line.proofs.spaces_at.Statement.{statement}
 use Rattle.line.proofs.spaces_at.Tie as tie
-use Rattle.line.proofs.spaces_at.Reads as reads
-use Rattle.line.proofs.spaces_at.Lts as lts
 
 abbrev invariant-loop : tie.invariant-loop-i
 invariant-loop s n i₀ i = (n ≤ i) × (i ≤ length s) × ((i - n) + space_len (drop i s) ≡ space_len (drop n s))

@@ -8,9 +8,6 @@ use Rattle.line.specs.Line.{visible_len_of}
 use Rattle.line.proofs.VisibleLaws as laws
 use Rattle.line.proofs.visible_len.Statement.{statement}
 use Rattle.line.proofs.visible_len.Tie as tie
-use Rattle.line.proofs.visible_len.Reads as reads
-use Rattle.line.proofs.visible_len.Lts as lts
-use Rattle.line.proofs.at_most.Reads as at-most-reads
 
 abbrev invariant-loop : tie.invariant-loop-i
 invariant-loop s most end i₀ i = (i ≤ end) × (end ≤ length s) × (end ≤ most) × (i + visible_len_of (drop i s) ≡ visible_len_of s)

@@ -9,8 +9,6 @@ use Rattle.newlines.specs.Newlines.{newlines}
 use Rattle.newlines.proofs.CountLaws.{block_next, bit_is, bit_small}
 use Rattle.newlines.proofs.count_block.Statement.{statement}
 use Rattle.newlines.proofs.count_block.Tie as tie
-use Rattle.newlines.proofs.count_block.Reads as reads
-use Rattle.newlines.proofs.count_block.Lts as lts
 
 abbrev invariant-loop : tie.invariant-loop-j
 invariant-loop s at n₀ j₀ n j =

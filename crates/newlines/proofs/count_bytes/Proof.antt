@@ -9,8 +9,6 @@ use Rattle.newlines.specs.Newlines.{newlines}
 use Rattle.newlines.proofs.CountLaws.{rest_next, rest_end, bit_is, bit_small}
 use Rattle.newlines.proofs.count_bytes.Statement.{statement}
 use Rattle.newlines.proofs.count_bytes.Tie as tie
-use Rattle.newlines.proofs.count_bytes.Reads as reads
-use Rattle.newlines.proofs.count_bytes.Lts as lts
 
 abbrev invariant-loop : tie.invariant-loop-at
 invariant-loop s from n₀ at₀ n at =

@@ -8,10 +8,6 @@ use Rattle.newlines.specs.Newlines.{newlines}
 use Rattle.newlines.proofs.CountLaws.{block_rest}
 use Rattle.newlines.proofs.count_newlines.Statement.{statement}
 use Rattle.newlines.proofs.count_newlines.Tie as tie
-use Rattle.newlines.proofs.count_newlines.Reads as reads
-use Rattle.newlines.proofs.count_newlines.Lts as lts
-use Rattle.newlines.proofs.count_block.Reads as count-block-reads
-use Rattle.newlines.proofs.count_bytes.Reads as count-bytes-reads
 
 abbrev invariant-loop : tie.invariant-loop-at
 invariant-loop s from n₀ at₀ n at =

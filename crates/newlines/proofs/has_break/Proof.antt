@@ -11,8 +11,6 @@ use Rattle.newlines.specs.Newlines.{to_break}
 use Rattle.newlines.proofs.BreakLaws.{found_next}
 use Rattle.newlines.proofs.has_break.Statement.{statement}
 use Rattle.newlines.proofs.has_break.Tie as tie
-use Rattle.newlines.proofs.has_break.Reads as reads
-use Rattle.newlines.proofs.has_break.Lts as lts
 
 abbrev invariant-loop : tie.invariant-loop-j
 invariant-loop s at found₀ j₀ found j =

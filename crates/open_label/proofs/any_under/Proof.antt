@@ -8,12 +8,6 @@ use Rattle.writer.specs.Write.{left}
 use Rattle.open_label.proofs.UnderLaws.{Reading, whole, ok, hit, ends, step}
 use Rattle.open_label.proofs.any_under.Statement.{statement}
 use Rattle.open_label.proofs.any_under.Tie as tie
-use Rattle.open_label.proofs.any_under.Reads as reads
-use Rattle.open_label.proofs.any_under.Lts as lts
-use Rattle.open_label.proofs.covers.Reads as covers-reads
-use Rattle.open_label.proofs.opened.Reads as opened-reads
-use Rattle.recording.proofs.entry_at.Reads as entry-at-reads
-use Rattle.writer.proofs.place_at.Reads as place-at-reads
 
 abbrev invariant-loop : tie.invariant-loop-p
 invariant-loop content entries text label end at₀ k₀ o₀ p₀ at k o p =

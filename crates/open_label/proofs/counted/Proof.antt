@@ -5,9 +5,6 @@ use native.Mathlib.Omega.{arith}
 use borrow.Author.Rules.{rules}
 use Rattle.open_label.proofs.counted.Statement.{statement}
 use Rattle.open_label.proofs.counted.Tie as tie
-use Rattle.open_label.proofs.counted.Reads as reads
-use Rattle.open_label.proofs.counted.Lts as lts
-use Rattle.open_label.proofs.drops.Reads as drops-reads
 
 drops-requires : tie.Need-drops-requires
 drops-requires c κs = c.requires.0

@@ -6,8 +6,6 @@ use mathlib.Core.Bool.{Bool, ◌&&◌, not}
 use lib.Dec.{eqb}
 use Rattle.open_label.proofs.covers.Statement.{statement}
 use Rattle.open_label.proofs.covers.Tie as tie
-use Rattle.open_label.proofs.covers.Reads as reads
-use Rattle.open_label.proofs.covers.Lts as lts
 
 returns : tie.Need-returns-then-p-at
 returns c =

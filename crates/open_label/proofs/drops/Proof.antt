@@ -2,8 +2,6 @@
 use Rattle.open_label.proofs.OpenLaws.{kept_told, dropped_told}
 use Rattle.open_label.proofs.drops.Statement.{statement}
 use Rattle.open_label.proofs.drops.Tie as tie
-use Rattle.open_label.proofs.drops.Reads as reads
-use Rattle.open_label.proofs.drops.Lts as lts
 
 returns : tie.Need-returns-then-e-ne2
 returns c =

@@ -10,8 +10,6 @@ use Rattle.recording.specs.Lists.{same}
 use Rattle.open_label.proofs.SameLaws.{same_lengths, same_next, same_end}
 use Rattle.open_label.proofs.is_label.Statement.{statement}
 use Rattle.open_label.proofs.is_label.Tie as tie
-use Rattle.open_label.proofs.is_label.Reads as reads
-use Rattle.open_label.proofs.is_label.Lts as lts
 
 abbrev invariant-loop : tie.invariant-loop-j
 invariant-loop text start len label j₀ j =

@@ -8,9 +8,6 @@ use Rattle.recording.specs.Recording.{part_of}
 use Rattle.open_label.proofs.OpenLaws.{push_open, push_first, push-other, pop_outermost, pop_inner, push_told, pop_told, none_told, raw_told}
 use Rattle.open_label.proofs.opened.Statement.{statement}
 use Rattle.open_label.proofs.opened.Tie as tie
-use Rattle.open_label.proofs.opened.Reads as reads
-use Rattle.open_label.proofs.opened.Lts as lts
-use Rattle.open_label.proofs.is_label.Reads as is-label-reads
 
 -- the entry's text is the label
 abbrev own : tie.Start → Bool

@@ -13,12 +13,6 @@ use Rattle.open_label.specs.Open.{ScanTold}
 use Rattle.open_label.proofs.ScanLaws.{Scanning, scan_first, ok, refused, goes, last_open, last_closed, last_told, fault_open, fault_none}
 use Rattle.open_label.proofs.scan.Statement.{statement}
 use Rattle.open_label.proofs.scan.Tie as tie
-use Rattle.open_label.proofs.scan.Reads as reads
-use Rattle.open_label.proofs.scan.Lts as lts
-use Rattle.open_label.proofs.counted.Reads as counted-reads
-use Rattle.open_label.proofs.opened.Reads as opened-reads
-use Rattle.open_label.proofs.unopened.Reads as unopened-reads
-use Rattle.recording.proofs.entry_at.Reads as entry-at-reads
 
 abbrev invariant-loop : tie.invariant-loop-k
 invariant-loop content entries text label o₀ n₀ k₀ o n k =

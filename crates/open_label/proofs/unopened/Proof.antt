@@ -5,8 +5,6 @@ use mathlib.Core.Bool.{Bool, ◌&&◌}
 use lib.Dec.{eqb}
 use Rattle.open_label.proofs.unopened.Statement.{statement}
 use Rattle.open_label.proofs.unopened.Tie as tie
-use Rattle.open_label.proofs.unopened.Reads as reads
-use Rattle.open_label.proofs.unopened.Lts as lts
 
 returns : tie.Need-returns-then-e-ne1
 returns c =

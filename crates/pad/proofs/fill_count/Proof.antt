@@ -4,9 +4,6 @@ use borrow.Author.Rules.{rules}
 use Rattle.layout.specs.Layout.{fill_count_of}
 use Rattle.pad.proofs.fill_count.Statement.{statement}
 use Rattle.pad.proofs.fill_count.Tie as tie
-use Rattle.pad.proofs.fill_count.Reads as reads
-use Rattle.pad.proofs.fill_count.Lts as lts
-use Rattle.chars.proofs.text_width.Reads as text-width-reads
 
 text-width-requires : tie.Need-text_width-w-requires
 text-width-requires c κs = search rules

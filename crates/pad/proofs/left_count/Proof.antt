@@ -6,8 +6,6 @@ use mathlib.Core.Path.{sym, ap}
 use Rattle.pad.specs.Padding.{left_of}
 use Rattle.pad.proofs.left_count.Statement.{statement}
 use Rattle.pad.proofs.left_count.Tie as tie
-use Rattle.pad.proofs.left_count.Reads as reads
-use Rattle.pad.proofs.left_count.Lts as lts
 
 enum_told : tie.Need-enum_told-1
 enum_told c = search rules

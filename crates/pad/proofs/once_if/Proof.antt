@@ -3,8 +3,6 @@ use native.Mathlib.Omega.{arith}
 use Rattle.pad.proofs.Laws.{once_none, once_more}
 use Rattle.pad.proofs.once_if.Statement.{statement}
 use Rattle.pad.proofs.once_if.Tie as tie
-use Rattle.pad.proofs.once_if.Reads as reads
-use Rattle.pad.proofs.once_if.Lts as lts
 
 returns : tie.Need-returns-then-count-eq0
 returns c =

@@ -11,9 +11,6 @@ use Rattle.pad.specs.Padding.{repeated}
 use Rattle.pad.proofs.Laws.{repeated_next, repeated-within, repeated_first}
 use Rattle.pad.proofs.put_copies.Statement.{statement}
 use Rattle.pad.proofs.put_copies.Tie as tie
-use Rattle.pad.proofs.put_copies.Reads as reads
-use Rattle.pad.proofs.put_copies.Lts as lts
-use Rattle.buffer.proofs.put.Reads as put_reads
 
 abbrev invariant-loop : tie.invariant-loop-i
 invariant-loop out₀ at from a b n d₀ i₀ out d i =

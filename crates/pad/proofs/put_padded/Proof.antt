@@ -5,10 +5,6 @@ use Rattle.writer.specs.Write.{out}
 use Rattle.pad.proofs.Sizes.{room_before, room_content, room_behind, all_three}
 use Rattle.pad.proofs.put_padded.Statement.{statement}
 use Rattle.pad.proofs.put_padded.Tie as tie
-use Rattle.pad.proofs.put_padded.Reads as reads
-use Rattle.pad.proofs.put_padded.Lts as lts
-use Rattle.pad.proofs.put_padding.Reads as put-padding-reads
-use Rattle.writer.proofs.put_recording.Reads as put-recording-reads
 
 -- ── the places on the way: after the fill before the content, after the content, after the fill behind it
 abbrev start : tie.After-put_padding-a → tie.Start

@@ -13,12 +13,6 @@ use Rattle.writer.proofs.Carry.{add-nil}
 use Rattle.pad.proofs.Loop.{State, state_first, padding-zero, padding_more, now_long, entire, times_asked, entry_asked, turned, last_asked, ended}
 use Rattle.pad.proofs.put_padding.Statement.{statement}
 use Rattle.pad.proofs.put_padding.Tie as tie
-use Rattle.pad.proofs.put_padding.Reads as reads
-use Rattle.pad.proofs.put_padding.Lts as lts
-use Rattle.pad.proofs.put_times.Reads as put-times-reads
-use Rattle.recording.proofs.entry_at.Reads as entry-at-reads
-use Rattle.writer.proofs.place_at.Reads as place-at-reads
-use Rattle.writer.proofs.put_entry.Reads as put-entry-reads
 
 -- the fill is read from its start
 abbrev from : Cursor → Cursor

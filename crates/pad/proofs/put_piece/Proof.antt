@@ -10,10 +10,6 @@ use Rattle.pad.specs.Padding.{repeated}
 use Rattle.pad.proofs.Laws.{piece_none, piece_one, repeated-byte, length-single}
 use Rattle.pad.proofs.put_piece.Statement.{statement}
 use Rattle.pad.proofs.put_piece.Tie as tie
-use Rattle.pad.proofs.put_piece.Reads as reads
-use Rattle.pad.proofs.put_piece.Lts as lts
-use Rattle.buffer.proofs.put_byte_times.Reads as put-byte-times-reads
-use Rattle.pad.proofs.put_copies.Reads as put-copies-reads
 
 returns : tie.Need-returns-then-a-b
 returns c =

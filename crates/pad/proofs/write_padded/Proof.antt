@@ -17,15 +17,6 @@ use Rattle.pad.specs.Padding.{sides, kind_of}
 use Rattle.pad.proofs.Sizes.{padded_measured}
 use Rattle.pad.proofs.write_padded.Statement.{statement}
 use Rattle.pad.proofs.write_padded.Tie as tie
-use Rattle.pad.proofs.write_padded.Reads as reads
-use Rattle.pad.proofs.write_padded.Lts as lts
-use Rattle.pad.proofs.fill_count.Reads as fill-count-reads
-use Rattle.pad.proofs.left_count.Reads as left-count-reads
-use Rattle.pad.proofs.once_if.Reads as once-if-reads
-use Rattle.pad.proofs.put_padded.Reads as put-padded-reads
-use Rattle.recording_check.proofs.check_both.Reads as check-both-reads
-use Rattle.share.proofs.text_size.Reads as text-size-reads
-use Rattle.writer.proofs.settle.Reads as settle-reads
 
 -- no padding call returns a number
 number_of_refusal : (s : Side) (m : ℕ) (f c : Recording) → number (with_second (kind_of s) m f) c ≡ 0

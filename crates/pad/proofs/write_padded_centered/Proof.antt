@@ -3,9 +3,6 @@ use borrow.Author.Rules.{rules}
 use Rattle.pad.specs.Padding.{kind_of}
 use Rattle.pad.proofs.write_padded_centered.Statement.{statement}
 use Rattle.pad.proofs.write_padded_centered.Tie as tie
-use Rattle.pad.proofs.write_padded_centered.Reads as reads
-use Rattle.pad.proofs.write_padded_centered.Lts as lts
-use Rattle.pad.proofs.write_padded.Reads as write-padded-reads
 
 write-padded-requires : tie.Need-write_padded-requires
 write-padded-requires c κs = search rules

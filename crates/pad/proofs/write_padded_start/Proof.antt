@@ -3,9 +3,6 @@ use borrow.Author.Rules.{rules}
 use Rattle.pad.specs.Padding.{kind_of}
 use Rattle.pad.proofs.write_padded_start.Statement.{statement}
 use Rattle.pad.proofs.write_padded_start.Tie as tie
-use Rattle.pad.proofs.write_padded_start.Reads as reads
-use Rattle.pad.proofs.write_padded_start.Lts as lts
-use Rattle.pad.proofs.write_padded.Reads as write-padded-reads
 
 write-padded-requires : tie.Need-write_padded-requires
 write-padded-requires c κs = search rules

@@ -3,8 +3,6 @@ use borrow.Author.Rules.{rules}
 use Rattle.recording.proofs.EntryLaws.{entries_next}
 use Rattle.recording.proofs.entry_at.Statement.{statement}
 use Rattle.recording.proofs.entry_at.Tie as tie
-use Rattle.recording.proofs.entry_at.Reads as reads
-use Rattle.recording.proofs.entry_at.Lts as lts
 
 mul-t3 : tie.Need-offset_bounds-entries-k
 mul-t3 c = search rules

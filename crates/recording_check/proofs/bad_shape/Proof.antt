@@ -7,8 +7,6 @@ use mathlib.Core.Bool.{true, not}
 use Prim.Native.Nat.{ℕ, zero, suc}
 use Rattle.recording_check.proofs.bad_shape.Statement.{statement}
 use Rattle.recording_check.proofs.bad_shape.Tie as tie
-use Rattle.recording_check.proofs.bad_shape.Reads as reads
-use Rattle.recording_check.proofs.bad_shape.Lts as lts
 
 high : (k s n : ℕ) → (k ≡ 0 → ⊥) → (k ≡ 2 → ⊥) → (k ≡ 1 → ⊥) → true ≡ bad_shape_of k s n
 unfolding bad_shape_of

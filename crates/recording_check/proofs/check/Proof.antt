@@ -6,9 +6,6 @@ use Rattle.recording.specs.Refusals.{number_of_refusal}
 use mathlib.Core.Path.{sym, ◌∙◌}
 use Rattle.recording_check.proofs.check.Statement.{statement}
 use Rattle.recording_check.proofs.check.Tie as tie
-use Rattle.recording_check.proofs.check.Reads as reads
-use Rattle.recording_check.proofs.check.Lts as lts
-use Rattle.recording_check.proofs.check_entries.Reads as check-entries-reads
 
 returns : tie.Need-returns-then-content-gt1048576
 unfolding fault_of Counted Within number_of_refusal

@@ -4,9 +4,6 @@ use Rattle.recording.specs.Recording.{Recording, recording}
 use Rattle.recording.proofs.CheckLaws.{first_refused, next_refused, both_fine}
 use Rattle.recording_check.proofs.check_both.Statement.{statement}
 use Rattle.recording_check.proofs.check_both.Tie as tie
-use Rattle.recording_check.proofs.check_both.Reads as reads
-use Rattle.recording_check.proofs.check_both.Lts as lts
-use Rattle.recording_check.proofs.check.Reads as check-reads
 
 -- the two recordings
 content : tie.Start → Recording

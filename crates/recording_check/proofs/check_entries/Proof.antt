@@ -8,10 +8,6 @@ use lib.ListN.{length}
 use mathlib.Core.Path.{refl}
 use Rattle.recording_check.proofs.check_entries.Statement.{statement}
 use Rattle.recording_check.proofs.check_entries.Tie as tie
-use Rattle.recording_check.proofs.check_entries.Reads as reads
-use Rattle.recording_check.proofs.check_entries.Lts as lts
-use Rattle.recording_check.proofs.check_entry.Reads as check-entry-reads
-use Rattle.recording.proofs.entry_at.Reads as entry-at-reads
 
 abbrev invariant-loop : tie.invariant-loop-k
 invariant-loop content entries text at₀ k₀ size₀ at k size =

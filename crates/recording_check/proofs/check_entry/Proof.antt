@@ -3,14 +3,9 @@ use borrow.Author.Rules.{rules}
 use Rattle.recording.proofs.CheckLaws.{ill_shaped, falling, beyond, outside, no_label, ill, well}
 use Rattle.recording.specs.Check.{fault_of, Counted}
 use Rattle.recording.specs.Refusals.{number_of_refusal}
-use borrow.Author.Tests.{not-true, not-false}
 use mathlib.Core.Path.{refl, sym, ◌∙◌}
 use Rattle.recording_check.proofs.check_entry.Statement.{statement}
 use Rattle.recording_check.proofs.check_entry.Tie as tie
-use Rattle.recording_check.proofs.check_entry.Reads as reads
-use Rattle.recording_check.proofs.check_entry.Lts as lts
-use Rattle.well_formed.proofs.is_well_formed.Reads as is-well-formed-reads
-use Rattle.recording_check.proofs.bad_shape.Reads as bad-shape-reads
 
 bad-shape-requires : tie.Need-bad_shape-requires
 bad-shape-requires c κs = search rules

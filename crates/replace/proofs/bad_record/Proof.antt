@@ -2,8 +2,6 @@
 use borrow.Author.Tests.{lt-ltb, le-ltb}
 use Rattle.replace.proofs.bad_record.Statement.{statement}
 use Rattle.replace.proofs.bad_record.Tie as tie
-use Rattle.replace.proofs.bad_record.Reads as reads
-use Rattle.replace.proofs.bad_record.Lts as lts
 
 returns : tie.Need-returns-then-end-start
 returns c =

@@ -5,8 +5,6 @@ use Rattle.replace.proofs.RecordLaws.{capped_over, capped_in}
 use mathlib.Core.Path.{sym}
 use Rattle.replace.proofs.capped_add.Statement.{statement}
 use Rattle.replace.proofs.capped_add.Tie as tie
-use Rattle.replace.proofs.capped_add.Reads as reads
-use Rattle.replace.proofs.capped_add.Lts as lts
 
 returns : tie.Need-returns-then-size-gt1048576
 returns c =

@@ -6,10 +6,6 @@ use Rattle.replace.specs.Records.{replacement, check_step}
 use mathlib.Core.Path.{sym, ◌∙◌}
 use Rattle.replace.proofs.check_numbers.Statement.{statement}
 use Rattle.replace.proofs.check_numbers.Tie as tie
-use Rattle.replace.proofs.check_numbers.Reads as reads
-use Rattle.replace.proofs.check_numbers.Lts as lts
-use Rattle.replace.proofs.bad_record.Reads as bad-record-reads
-use Rattle.replace.proofs.capped_add.Reads as capped-add-reads
 
 returns : tie.Need-returns-then-s
 unfolding check_step

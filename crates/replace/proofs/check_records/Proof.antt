@@ -9,10 +9,6 @@ use mathlib.Core.Bool.{false}
 use mathlib.Core.Path.{◌≡◌}
 use Rattle.replace.proofs.check_records.Statement.{statement}
 use Rattle.replace.proofs.check_records.Tie as tie
-use Rattle.replace.proofs.check_records.Reads as reads
-use Rattle.replace.proofs.check_records.Lts as lts
-use Rattle.replace.proofs.check_numbers.Reads as check-numbers-reads
-use Rattle.replace.proofs.record_at.Reads as record-at-reads
 
 abbrev invariant-loop : tie.invariant-loop-i
 invariant-loop records n t s₀ i₀ s i =

@@ -3,8 +3,6 @@ use borrow.Author.Rules.{rules}
 use Rattle.replace.proofs.RecordLaws.{records_next}
 use Rattle.replace.proofs.record_at.Statement.{statement}
 use Rattle.replace.proofs.record_at.Tie as tie
-use Rattle.replace.proofs.record_at.Reads as reads
-use Rattle.replace.proofs.record_at.Lts as lts
 
 mul-t3 : tie.Need-offset_bounds-records-k
 mul-t3 c = search rules

@@ -11,11 +11,6 @@ use Rattle.replace.proofs.RecordLaws.{records_few}
 use Rattle.replace.proofs.PlanLaws.{State, state_first, long_now, may_turn, state_next, within, room_last, finish}
 use Rattle.replace.proofs.write_records.Statement.{statement}
 use Rattle.replace.proofs.write_records.Tie as tie
-use Rattle.replace.proofs.write_records.Reads as reads
-use Rattle.replace.proofs.write_records.Lts as lts
-use Rattle.replace.proofs.record_at.Reads as record-at-reads
-use Rattle.replace.proofs.write_step.Reads as write-step-reads
-use Rattle.writer.proofs.keep.Reads as keep-reads
 
 -- fewer than four numbers are left
 none_left : (ns : List ℕ) (k : ℕ) → length ns < k + 4 → records_of (drop k ns) ≡ []

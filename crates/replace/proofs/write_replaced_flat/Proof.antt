@@ -22,14 +22,6 @@ use Rattle.replace.specs.Records.{records_of}
 use Rattle.replace.proofs.CallLaws.{some_bad, none_bad, within, settled}
 use Rattle.replace.proofs.write_replaced_flat.Statement.{statement}
 use Rattle.replace.proofs.write_replaced_flat.Tie as tie
-use Rattle.replace.proofs.write_replaced_flat.Reads as reads
-use Rattle.replace.proofs.write_replaced_flat.Lts as lts
-use Rattle.recording_check.proofs.check.Reads as check-reads
-use Rattle.replace.proofs.capped_add.Reads as capped-add-reads
-use Rattle.replace.proofs.check_records.Reads as check-records-reads
-use Rattle.replace.proofs.write_records.Reads as write-records-reads
-use Rattle.share.proofs.own_size.Reads as own-size-reads
-use Rattle.writer.proofs.settle.Reads as settle-reads
 
 -- ── the places on the way, and what is known there
 -- what the call was given

@@ -7,11 +7,6 @@ use Rattle.buffer.proofs.Laws.{length_part}
 use Rattle.replace.proofs.TurnLaws.{is_good, room_keep, room_put, room_skip, ready_skip, turned, bytes_room, part_wrote}
 use Rattle.replace.proofs.write_step.Statement.{statement}
 use Rattle.replace.proofs.write_step.Tie as tie
-use Rattle.replace.proofs.write_step.Reads as reads
-use Rattle.replace.proofs.write_step.Lts as lts
-use Rattle.writer.proofs.keep.Reads as keep-reads
-use Rattle.writer.proofs.put_bytes.Reads as put-bytes-reads
-use Rattle.writer.proofs.skip.Reads as skip-reads
 
 cast-keep : tie.Need-overflow_cast-x
 cast-keep c = search rules

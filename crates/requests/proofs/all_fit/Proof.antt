@@ -4,16 +4,11 @@ use borrow.Author.Rules.{rules}
 use Rattle.requests.proofs.RequestLaws.{rest_all}
 use Rattle.requests.proofs.RequestLaws.{rest, none, one_bad, one_good}
 use Rattle.requests.specs.Requests.{requests_of, all_fit_in}
-use borrow.Author.Tests.{not-true, not-false}
 use lib.ListN.{length}
 use mathlib.Core.Path.{◌≡◌, sym, ap, ◌∙◌}
 use Prim.Native.Nat.{◌/◌, ◌-◌, ◌≤◌}
 use Rattle.requests.proofs.all_fit.Statement.{statement}
 use Rattle.requests.proofs.all_fit.Tie as tie
-use Rattle.requests.proofs.all_fit.Reads as reads
-use Rattle.requests.proofs.all_fit.Lts as lts
-use Rattle.requests.proofs.fits.Reads as fits-reads
-use Rattle.requests.proofs.request_at.Reads as request-at-reads
 
 abbrev invariant-loop : tie.invariant-loop-k
 invariant-loop calls p q k₀ k =

@@ -14,18 +14,6 @@ use mathlib.Core.Path.{◌≡◌, refl}
 use lib.Dec.{eqb}
 use Rattle.requests.proofs.apply.Statement.{statement}
 use Rattle.requests.proofs.apply.Tie as tie
-use Rattle.requests.proofs.apply.Reads as reads
-use Rattle.requests.proofs.apply.Lts as lts
-use Rattle.indent.proofs.write_indented.Reads as write-indented-reads
-use Rattle.pad.proofs.write_padded_centered.Reads as write-padded-centered-reads
-use Rattle.pad.proofs.write_padded_end.Reads as write-padded-end-reads
-use Rattle.pad.proofs.write_padded_start.Reads as write-padded-start-reads
-use Rattle.replace.proofs.write_replaced_flat.Reads as write-replaced-flat-reads
-use Rattle.tabs.proofs.write_tabs_expanded.Reads as write-tabs-expanded-reads
-use Rattle.truncate.proofs.write_truncated_end.Reads as write-truncated-end-reads
-use Rattle.truncate.proofs.write_truncated_start.Reads as write-truncated-start-reads
-use Rattle.unindent.proofs.write_unindented.Reads as write-unindented-reads
-use Rattle.wrap.proofs.write_wrapped.Reads as write-wrapped-reads
 
 -- ── what the call was given
 -- before the kinds are tried

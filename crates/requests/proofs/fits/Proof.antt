@@ -2,12 +2,9 @@
 use borrow.Author.Rules.{rules}
 use Rattle.requests.specs.Requests.{fits_in}
 use mathlib.Core.Path.{sym}
-use borrow.Author.Tests.{lt-leb, le-leb, not-true, not-false}
+use borrow.Author.Tests.{lt-leb, le-leb}
 use Rattle.requests.proofs.fits.Statement.{statement}
 use Rattle.requests.proofs.fits.Tie as tie
-use Rattle.requests.proofs.fits.Reads as reads
-use Rattle.requests.proofs.fits.Lts as lts
-use Rattle.requests.proofs.range_fits.Reads as range-fits-reads
 
 returns : tie.Need-returns-then-x-gt-LAST_KIND
 unfolding fits_in

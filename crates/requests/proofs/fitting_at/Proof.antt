@@ -3,9 +3,6 @@ use borrow.Author.Rules.{rules}
 use Rattle.requests.proofs.RequestLaws.{fit}
 use Rattle.requests.proofs.fitting_at.Statement.{statement}
 use Rattle.requests.proofs.fitting_at.Tie as tie
-use Rattle.requests.proofs.fitting_at.Reads as reads
-use Rattle.requests.proofs.fitting_at.Lts as lts
-use Rattle.requests.proofs.request_at.Reads as request-at-reads
 
 request-at-requires : tie.Need-request_at-requires
 request-at-requires c κs = search rules

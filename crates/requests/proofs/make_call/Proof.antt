@@ -7,10 +7,6 @@ use mathlib.Core.Path.{sym, ap}
 use lib.ListN.{drop}
 use Rattle.requests.proofs.make_call.Statement.{statement}
 use Rattle.requests.proofs.make_call.Tie as tie
-use Rattle.requests.proofs.make_call.Reads as reads
-use Rattle.requests.proofs.make_call.Lts as lts
-use Rattle.requests.proofs.apply.Reads as apply-reads
-use Rattle.requests.proofs.fitting_at.Reads as fitting-at-reads
 
 fitting-at-requires : tie.Need-fitting_at-x-requires
 fitting-at-requires c κs = search rules

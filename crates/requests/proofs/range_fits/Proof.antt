@@ -2,8 +2,6 @@
 use borrow.Author.Tests.{lt-leb, le-leb}
 use Rattle.requests.proofs.range_fits.Statement.{statement}
 use Rattle.requests.proofs.range_fits.Tie as tie
-use Rattle.requests.proofs.range_fits.Reads as reads
-use Rattle.requests.proofs.range_fits.Lts as lts
 
 returns : tie.Need-returns-then-to-from
 returns c = rw (lt-leb _ _ c.if-to-from.true)

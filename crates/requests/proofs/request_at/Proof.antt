@@ -5,8 +5,6 @@ use Rattle.requests.proofs.RequestLaws.{request_is}
 use Prim.Native.Nat.{◌+◌}
 use Rattle.requests.proofs.request_at.Statement.{statement}
 use Rattle.requests.proofs.request_at.Tie as tie
-use Rattle.requests.proofs.request_at.Reads as reads
-use Rattle.requests.proofs.request_at.Lts as lts
 
 mul-t3 : tie.Need-offset_bounds-calls-i
 mul-t3 c = search rules

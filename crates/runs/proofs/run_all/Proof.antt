@@ -10,11 +10,6 @@ use mathlib.Core.Path.{refl, ◌∙◌}
 use Prim.Native.Nat.{◌/◌, ◌-◌}
 use Rattle.runs.proofs.run_all.Statement.{statement}
 use Rattle.runs.proofs.run_all.Tie as tie
-use Rattle.runs.proofs.run_all.Reads as reads
-use Rattle.runs.proofs.run_all.Lts as lts
-use Rattle.call_lists.proofs.moved.Reads as moved-reads
-use Rattle.call_lists.proofs.put_answer.Reads as put-answer-reads
-use Rattle.runs.proofs.turn.Reads as turn-reads
 
 abbrev invariant-loop : tie.invariant-loop-k
 invariant-loop calls pool nums bytes₀ numbers₀ texts₀ other_bytes₀ other_numbers₀ other_texts₀ lines₀ answers₀ held₀ k₀ bytes numbers texts other_bytes other_numbers other_texts lines answers held k =

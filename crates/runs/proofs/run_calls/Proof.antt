@@ -7,13 +7,6 @@ use Rattle.writer.specs.Sizes.{settled_fault}
 use mathlib.Core.Path.{◌≡◌, refl}
 use Rattle.runs.proofs.run_calls.Statement.{statement}
 use Rattle.runs.proofs.run_calls.Tie as tie
-use Rattle.runs.proofs.run_calls.Reads as reads
-use Rattle.runs.proofs.run_calls.Lts as lts
-use Rattle.call_lists.proofs.alike.Reads as alike-reads
-use Rattle.call_lists.proofs.bring_back.Reads as bring-back-reads
-use Rattle.call_lists.proofs.check_input.Reads as check-input-reads
-use Rattle.runs.proofs.run_all.Reads as run-all-reads
-use Rattle.call_lists.proofs.too_long.Reads as too-long-reads
 
 -- ── the places on the way, and what is known there
 -- what the call was given and lent

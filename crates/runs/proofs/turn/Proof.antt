@@ -9,9 +9,6 @@ use Rattle.recording.specs.Outcome.{Lent}
 use lib.ListN.{drop, length-take}
 use Rattle.runs.proofs.turn.Statement.{statement}
 use Rattle.runs.proofs.turn.Tie as tie
-use Rattle.runs.proofs.turn.Reads as reads
-use Rattle.runs.proofs.turn.Lts as lts
-use Rattle.requests.proofs.make_call.Reads as make-call-reads
 
 -- ── what the call was given
 -- before the sets are told apart

@@ -6,10 +6,6 @@ use Rattle.recording.specs.Recording.{entries_of}
 use Rattle.share.proofs.FirstLaws.{brought, not_kept, kept}
 use Rattle.share.proofs.add_first.Statement.{statement}
 use Rattle.share.proofs.add_first.Tie as tie
-use Rattle.share.proofs.add_first.Reads as reads
-use Rattle.share.proofs.add_first.Lts as lts
-use Rattle.share.proofs.label_more.Reads as label-more-reads
-use Rattle.share.proofs.set_entry.Reads as set-entry-reads
 
 sub-label-more : tie.Need-slice_bounds-label_more-count
 sub-label-more c = search rules

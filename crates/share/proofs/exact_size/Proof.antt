@@ -8,10 +8,6 @@ use Rattle.share.proofs.SizeLaws.{product_small}
 use Rattle.share.proofs.FirstLaws.{size_raws, size_alone, size_over, size_both}
 use Rattle.share.proofs.exact_size.Statement.{statement}
 use Rattle.share.proofs.exact_size.Tie as tie
-use Rattle.share.proofs.exact_size.Reads as reads
-use Rattle.share.proofs.exact_size.Lts as lts
-use Rattle.share.proofs.more_labels.Reads as more-labels-reads
-use Rattle.share.proofs.raw_size.Reads as raw-size-reads
 
 -- ── the places on the way
 -- once the raw sequences are measured

@@ -2,9 +2,6 @@ use borrow.Author.Rules.{rules}
 use Rattle.share.proofs.PlacedLaws.{not_new, new_push}
 use Rattle.share.proofs.is_new_push.Statement.{statement}
 use Rattle.share.proofs.is_new_push.Tie as tie
-use Rattle.share.proofs.is_new_push.Reads as reads
-use Rattle.share.proofs.is_new_push.Lts as lts
-use Rattle.share.proofs.is_push.Reads as is-push-reads
 
 cast-if1 : tie.Need-overflow_cast-e
 cast-if1 c = search rules

@@ -4,9 +4,6 @@ use mathlib.Core.Path.{sym}
 use Rattle.share.proofs.Laws.{other_kind, other_length, sticks_out, compared}
 use Rattle.share.proofs.is_push.Statement.{statement}
 use Rattle.share.proofs.is_push.Tie as tie
-use Rattle.share.proofs.is_push.Reads as reads
-use Rattle.share.proofs.is_push.Lts as lts
-use Rattle.share.proofs.same_text.Reads as same-text-reads
 
 returns : tie.Need-returns-then-e-ne0
 returns c =

@@ -7,9 +7,6 @@ use Rattle.recording.specs.Recording.{entries_of}
 use Rattle.share.proofs.SizeLaws.{no_label, none_new, some_new, label_most}
 use Rattle.share.proofs.label_more.Statement.{statement}
 use Rattle.share.proofs.label_more.Tie as tie
-use Rattle.share.proofs.label_more.Reads as reads
-use Rattle.share.proofs.label_more.Lts as lts
-use Rattle.share.proofs.place_label.Reads as place-label-reads
 
 returns : tie.Need-returns-then-e-ne0
 returns c =

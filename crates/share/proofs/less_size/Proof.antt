@@ -4,9 +4,6 @@ use Rattle.recording.specs.Share.{Inside}
 use Rattle.share.proofs.SizeLaws.{exact, roomy}
 use Rattle.share.proofs.less_size.Statement.{statement}
 use Rattle.share.proofs.less_size.Tie as tie
-use Rattle.share.proofs.less_size.Reads as reads
-use Rattle.share.proofs.less_size.Lts as lts
-use Rattle.share.proofs.exact_size.Reads as exact-size-reads
 
 returns : tie.Need-returns-then-plain-room
 returns c =

@@ -8,10 +8,6 @@ use Rattle.recording.specs.Recording.{entries_of}
 use Rattle.share.proofs.FirstLaws.{Gathered, gathered_none, entry-inside, gathered_over, gathered_next, gathered_all}
 use Rattle.share.proofs.more_labels.Statement.{statement}
 use Rattle.share.proofs.more_labels.Tie as tie
-use Rattle.share.proofs.more_labels.Reads as reads
-use Rattle.share.proofs.more_labels.Lts as lts
-use Rattle.recording.proofs.entry_at.Reads as entry-at-reads
-use Rattle.share.proofs.add_first.Reads as add-first-reads
 
 abbrev invariant-loop : tie.invariant-loop-k
 invariant-loop size entries text more own firsts₀ k₀ f₀ firsts k f = Gathered text (entries_of entries) own more size k firsts f.end f.size × (length firsts ≡ length firsts₀)

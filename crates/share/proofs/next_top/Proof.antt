@@ -2,8 +2,6 @@ use borrow.Author.Rules.{rules}
 use Rattle.share.proofs.PlacedLaws.{top_same, top_more}
 use Rattle.share.proofs.next_top.Statement.{statement}
 use Rattle.share.proofs.next_top.Tie as tie
-use Rattle.share.proofs.next_top.Reads as reads
-use Rattle.share.proofs.next_top.Lts as lts
 
 cast-start : tie.Need-overflow_cast-start
 cast-start c = search rules

@@ -7,9 +7,6 @@ use Rattle.share.specs.Sizes.{Stands}
 use Rattle.share.proofs.SizeLaws.{none_more}
 use Rattle.share.proofs.own_size.Statement.{statement}
 use Rattle.share.proofs.own_size.Tie as tie
-use Rattle.share.proofs.own_size.Reads as reads
-use Rattle.share.proofs.own_size.Lts as lts
-use Rattle.share.proofs.text_size.Reads as text-size-reads
 
 text-size-requires : tie.Need-text_size-requires
 text-size-requires c κs =

@@ -8,11 +8,6 @@ use Rattle.share.proofs.Laws.{passed_all}
 use Rattle.share.proofs.PlacedLaws.{New, new_first, new_found, new_next}
 use Rattle.share.proofs.place_in_result.Statement.{statement}
 use Rattle.share.proofs.place_in_result.Tie as tie
-use Rattle.share.proofs.place_in_result.Reads as reads
-use Rattle.share.proofs.place_in_result.Lts as lts
-use Rattle.recording.proofs.entry_at.Reads as entry-at-reads
-use Rattle.share.proofs.is_new_push.Reads as is-new-push-reads
-use Rattle.share.proofs.next_top.Reads as next-top-reads
 
 abbrev invariant-loop : tie.invariant-loop-k
 invariant-loop numbers texts label k₀ top₀ k top = New label texts numbers k top × (top ≤ 8589934590)

@@ -7,10 +7,6 @@ use lib.ListN.{length}
 use Rattle.share.proofs.Laws.{Passed, passed_none, found, passed_one, passed_all}
 use Rattle.share.proofs.place_label.Statement.{statement}
 use Rattle.share.proofs.place_label.Tie as tie
-use Rattle.share.proofs.place_label.Reads as reads
-use Rattle.share.proofs.place_label.Lts as lts
-use Rattle.recording.proofs.entry_at.Reads as entry-at-reads
-use Rattle.share.proofs.is_push.Reads as is-push-reads
 
 abbrev invariant-loop : tie.invariant-loop-at
 invariant-loop numbers texts label at₀ at = Passed label texts numbers at

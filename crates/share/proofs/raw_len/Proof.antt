@@ -2,8 +2,6 @@ use borrow.Author.Rules.{rules}
 use Rattle.share.proofs.SizeLaws.{raw_len_lem, no_raw}
 use Rattle.share.proofs.raw_len.Statement.{statement}
 use Rattle.share.proofs.raw_len.Tie as tie
-use Rattle.share.proofs.raw_len.Reads as reads
-use Rattle.share.proofs.raw_len.Lts as lts
 
 cast-result : tie.Need-overflow_cast-result
 cast-result c = search rules

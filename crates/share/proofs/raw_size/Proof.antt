@@ -5,10 +5,6 @@ use Prim.Native.Nat.{◌-◌}
 use Rattle.share.proofs.SizeLaws.{Raws, raws_first, raws_small, raws_next, raws_last}
 use Rattle.share.proofs.raw_size.Statement.{statement}
 use Rattle.share.proofs.raw_size.Tie as tie
-use Rattle.share.proofs.raw_size.Reads as reads
-use Rattle.share.proofs.raw_size.Lts as lts
-use Rattle.recording.proofs.entry_at.Reads as entry-at-reads
-use Rattle.share.proofs.raw_len.Reads as raw-len-reads
 
 abbrev invariant-loop : tie.invariant-loop-k
 invariant-loop entries text k₀ size₀ k size = Raws entries text k size

@@ -6,8 +6,6 @@ use lib.ListN.{length, get_or}
 use Rattle.share.proofs.Laws.{differ, alike, Tail, tail_end, tail_more, tail_all}
 use Rattle.share.proofs.same_text.Statement.{statement}
 use Rattle.share.proofs.same_text.Tie as tie
-use Rattle.share.proofs.same_text.Reads as reads
-use Rattle.share.proofs.same_text.Lts as lts
 
 abbrev invariant-loop : tie.invariant-loop-i
 invariant-loop a b i₀ i = Tail a b i

@@ -5,8 +5,6 @@ use Rattle.share.proofs.FirstLaws.{four_stores}
 use lib.ListN.{length-set}
 use Rattle.share.proofs.set_entry.Statement.{statement}
 use Rattle.share.proofs.set_entry.Tie as tie
-use Rattle.share.proofs.set_entry.Reads as reads
-use Rattle.share.proofs.set_entry.Lts as lts
 
 mul-numbers : tie.Need-offset_bounds-numbers-k
 mul-numbers c = search rules

@@ -1,5 +1,4 @@
 -- `text_size`: the larger size stands where there is room for it; else the exact one, of all raw sequences (`less_none`).
-use borrow.Author.Rules.{rules}
 use native.Mathlib.Omega.{arith}
 use mathlib.Core.Path.{subst}
 use Prim.Native.Nat.{ℕ}
@@ -8,9 +7,6 @@ use Rattle.share.specs.Sizes.{Counts}
 use Rattle.share.proofs.SizeLaws.{exact, roomy, less_none}
 use Rattle.share.proofs.text_size.Statement.{statement}
 use Rattle.share.proofs.text_size.Tie as tie
-use Rattle.share.proofs.text_size.Reads as reads
-use Rattle.share.proofs.text_size.Lts as lts
-use Rattle.share.proofs.exact_size.Reads as exact-size-reads
 
 returns : tie.Need-returns-then-plain-room
 returns c =

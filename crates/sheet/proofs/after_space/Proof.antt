@@ -2,16 +2,13 @@
 use native.Mathlib.Omega.{arith}
 use borrow.Author.Rules.{rules}
 use mathlib.Core.Path.{◌≡◌, sym, ap, ◌∙◌}
-use Prim.Native.Nat.{ℕ, suc, ◌+◌, ◌-◌}
+use Prim.Native.Nat.{ℕ, suc, ◌+◌}
 use lib.ListN.{length, drop}
 use borrow.Author.Rules.{part_to_end}
 use Rattle.sheet.specs.Sheet.{up_to}
 use Rattle.sheet.proofs.SheetLaws.{rest_none, after_drop}
 use Rattle.sheet.proofs.after_space.Statement.{statement}
 use Rattle.sheet.proofs.after_space.Tie as tie
-use Rattle.sheet.proofs.after_space.Reads as reads
-use Rattle.sheet.proofs.after_space.Lts as lts
-use Rattle.sheet.proofs.find.Reads as find-reads
 
 find-requires : tie.Need-find-e-requires
 find-requires c κs = search rules

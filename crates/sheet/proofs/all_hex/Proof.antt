@@ -3,15 +3,11 @@ use native.Mathlib.Omega.{arith}
 use borrow.Author.Rules.{rules}
 use mathlib.Core.Path.{◌≡◌, sym, ap, ◌∙◌}
 use Prim.Native.Nat.{◌-◌, ◌≤◌}
-use borrow.Author.Tests.{not-true, not-false}
 use lib.ListN.{length, drop}
 use Rattle.sheet.specs.Sheet.{all_hex_of}
 use Rattle.sheet.proofs.SheetLaws.{hex_next, rest_none}
 use Rattle.sheet.proofs.all_hex.Statement.{statement}
 use Rattle.sheet.proofs.all_hex.Tie as tie
-use Rattle.sheet.proofs.all_hex.Reads as reads
-use Rattle.sheet.proofs.all_hex.Lts as lts
-use Rattle.sheet.proofs.is_hex.Reads as is-hex-reads
 
 abbrev invariant-loop : tie.invariant-loop-i
 invariant-loop s i₀ i = (i ≤ length s) × (all_hex_of (drop i s) ≡ all_hex_of s)

@@ -1,13 +1,10 @@
 -- The first byte, where there is one.
 use borrow.Author.Rules.{rules}
 use mathlib.Core.Path.{refl, sym}
-use Prim.Native.Nat.{◌-◌}
 use Rattle.sheet.specs.Sheet.{break_of_text}
 use Rattle.sheet.proofs.SheetLaws.{break_none}
 use Rattle.sheet.proofs.break_of.Statement.{statement}
 use Rattle.sheet.proofs.break_of.Tie as tie
-use Rattle.sheet.proofs.break_of.Reads as reads
-use Rattle.sheet.proofs.break_of.Lts as lts
 
 returns : tie.Need-returns-then-s-eq0
 returns c = sym (break_none c.args.s.now c.if-s-eq0.true)

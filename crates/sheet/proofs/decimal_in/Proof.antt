@@ -1,15 +1,9 @@
 -- The leading zero is tested first, then the digits.
 use native.Mathlib.Omega.{arith}
 use borrow.Author.Rules.{rules}
-use Prim.Native.Nat.{◌-◌}
-use borrow.Author.Tests.{not-true, not-false}
 use Rattle.sheet.specs.Sheet.{is_decimal, decimal_or}
 use Rattle.sheet.proofs.decimal_in.Statement.{statement}
 use Rattle.sheet.proofs.decimal_in.Tie as tie
-use Rattle.sheet.proofs.decimal_in.Reads as reads
-use Rattle.sheet.proofs.decimal_in.Lts as lts
-use Rattle.sheet.proofs.digits.Reads as digits-reads
-use Rattle.sheet.proofs.no_leading_zero.Reads as no-leading-zero-reads
 
 no-leading-zero-requires : tie.Need-no_leading_zero-requires
 no-leading-zero-requires c κs = search rules

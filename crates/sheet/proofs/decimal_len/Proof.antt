@@ -7,8 +7,6 @@ use Rattle.sheet.specs.Decimal.{decimal}
 use Rattle.sheet.proofs.DecimalLaws.{decimal_one, decimal_short, decimal-length}
 use Rattle.sheet.proofs.decimal_len.Statement.{statement}
 use Rattle.sheet.proofs.decimal_len.Tie as tie
-use Rattle.sheet.proofs.decimal_len.Reads as reads
-use Rattle.sheet.proofs.decimal_len.Lts as lts
 
 record So-far (n k m : ℕ) : Type 0 where
   some : 1 ≤ k

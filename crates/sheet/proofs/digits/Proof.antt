@@ -12,8 +12,6 @@ use Rattle.sheet.specs.Sheet.{all_digits, value_from}
 use Rattle.sheet.proofs.SheetLaws.{rest_none, digit_bad, digit_good, value_next, value_big, not_digits, not_small, all_small}
 use Rattle.sheet.proofs.digits.Statement.{statement}
 use Rattle.sheet.proofs.digits.Tie as tie
-use Rattle.sheet.proofs.digits.Reads as reads
-use Rattle.sheet.proofs.digits.Lts as lts
 
 record So-far (s : List ℕ) (i n : ℕ) : Type 0 where
   within : i ≤ length s

@@ -8,8 +8,6 @@ use Rattle.sheet.specs.Sheet.{up_to}
 use Rattle.sheet.proofs.SheetLaws.{find_here, find_on, find_none}
 use Rattle.sheet.proofs.find.Statement.{statement}
 use Rattle.sheet.proofs.find.Tie as tie
-use Rattle.sheet.proofs.find.Reads as reads
-use Rattle.sheet.proofs.find.Lts as lts
 
 abbrev invariant-loop : tie.invariant-loop-i
 invariant-loop s at c i₀ i = (at ≤ i) × (i ≤ length s) × (i + length (up_to c (drop i s)) ≡ at + length (up_to c (drop at s)))

@@ -8,9 +8,6 @@ use Rattle.sheet.specs.Sheet.{up_to}
 use Rattle.sheet.proofs.SheetLaws.{up_to_take}
 use Rattle.sheet.proofs.first_field.Statement.{statement}
 use Rattle.sheet.proofs.first_field.Tie as tie
-use Rattle.sheet.proofs.first_field.Reads as reads
-use Rattle.sheet.proofs.first_field.Lts as lts
-use Rattle.sheet.proofs.find.Reads as find-reads
 
 find-requires : tie.Need-find-e-requires
 find-requires c κs = search rules

@@ -1,15 +1,12 @@
 -- One byte, in the range 30 to 31.
 use borrow.Author.Rules.{rules}
 use mathlib.Core.Path.{sym, ◌∙◌}
-use Prim.Native.Nat.{◌-◌}
 use Rattle.chars.proofs.ReaderLaws.{below}
 use borrow.Author.Tests.{le-leb}
 use Rattle.sheet.proofs.SheetLaws.{break_long, break_one}
 use lib.ListN.{get_or}
 use Rattle.sheet.proofs.is_break.Statement.{statement}
 use Rattle.sheet.proofs.is_break.Tie as tie
-use Rattle.sheet.proofs.is_break.Reads as reads
-use Rattle.sheet.proofs.is_break.Lts as lts
 
 returns : tie.Need-returns-then-s-ne1
 returns c = sym (break_long c.args.s.now c.if-s-ne1.true)

@@ -2,11 +2,8 @@
 use borrow.Author.Rules.{rules}
 use Rattle.sheet.proofs.SheetLaws.{dash_long, dash_one}
 use mathlib.Core.Path.{sym}
-use Prim.Native.Nat.{◌-◌}
 use Rattle.sheet.proofs.is_dash.Statement.{statement}
 use Rattle.sheet.proofs.is_dash.Tie as tie
-use Rattle.sheet.proofs.is_dash.Reads as reads
-use Rattle.sheet.proofs.is_dash.Lts as lts
 
 returns : tie.Need-returns-then-s-ne1
 returns c = sym (dash_long c.args.s.now c.if-s-ne1.true)

@@ -1,13 +1,8 @@
 -- One form or the other.
 use borrow.Author.Rules.{rules}
-use Prim.Native.Nat.{◌-◌}
 use Rattle.sheet.specs.Sheet.{is_data_text}
 use Rattle.sheet.proofs.is_data.Statement.{statement}
 use Rattle.sheet.proofs.is_data.Tie as tie
-use Rattle.sheet.proofs.is_data.Reads as reads
-use Rattle.sheet.proofs.is_data.Lts as lts
-use Rattle.sheet.proofs.is_dash.Reads as is-dash-reads
-use Rattle.sheet.proofs.is_pairs.Reads as is-pairs-reads
 
 is-dash-requires : tie.Need-is_dash-requires
 is-dash-requires c κs = search rules

@@ -1,12 +1,9 @@
 -- The tests are the ends of the two ranges.
 use native.Mathlib.Omega.{arith}
-use Prim.Native.Nat.{◌-◌}
 use Rattle.chars.proofs.ReaderLaws.{in_span, below, above}
 use borrow.Author.Tests.{le-leb}
 use Rattle.sheet.proofs.is_hex.Statement.{statement}
 use Rattle.sheet.proofs.is_hex.Tie as tie
-use Rattle.sheet.proofs.is_hex.Reads as reads
-use Rattle.sheet.proofs.is_hex.Lts as lts
 
 returns : tie.Need-returns-then-digit-lt48
 returns c = let b = c.args.digit in simp (below 0x30 0x39 b c.if-digit-lt48.true, below 0x61 0x66 b (omega (arith, c.if-digit-lt48.true)))

@@ -1,15 +1,11 @@
 -- The tests in their order are the definition's.
 use borrow.Author.Rules.{rules}
-use Prim.Native.Nat.{◌-◌}
 use borrow.Author.Tests.{le-leb, lt-leb, eq-eqb, ne_eqb}
 use lib.ListN.{length}
 use Rattle.sheet.proofs.SheetLaws.{nil_none, nil_some}
 use Prim.Native.Nat.{◌%◌}
 use Rattle.sheet.proofs.is_pairs.Statement.{statement}
 use Rattle.sheet.proofs.is_pairs.Tie as tie
-use Rattle.sheet.proofs.is_pairs.Reads as reads
-use Rattle.sheet.proofs.is_pairs.Lts as lts
-use Rattle.sheet.proofs.all_hex.Reads as all-hex-reads
 
 returns : tie.Need-returns-then-s-eq0
 returns c = simp (nil_none c.args.s.now c.if-s-eq0.true)

@@ -1,13 +1,10 @@
 -- The tests are the ends of the two ranges.
 use native.Mathlib.Omega.{arith}
 use borrow.Author.Rules.{rules}
-use Prim.Native.Nat.{◌-◌}
 use Rattle.chars.proofs.ReaderLaws.{in_span, below, above}
 use Rattle.sheet.specs.Sheet.{nibble}
 use Rattle.sheet.proofs.nibble.Statement.{statement}
 use Rattle.sheet.proofs.nibble.Tie as tie
-use Rattle.sheet.proofs.nibble.Reads as reads
-use Rattle.sheet.proofs.nibble.Lts as lts
 
 returns : tie.Need-returns-then-b-lt48
 unfolding nibble

@@ -2,11 +2,8 @@
 use borrow.Author.Rules.{rules}
 use Rattle.sheet.proofs.SheetLaws.{zero_none, zero_one, zero_more}
 use mathlib.Core.Path.{sym}
-use Prim.Native.Nat.{◌-◌}
 use Rattle.sheet.proofs.no_leading_zero.Statement.{statement}
 use Rattle.sheet.proofs.no_leading_zero.Tie as tie
-use Rattle.sheet.proofs.no_leading_zero.Reads as reads
-use Rattle.sheet.proofs.no_leading_zero.Lts as lts
 
 returns : tie.Need-returns-then-s-eq0
 returns c = sym (zero_none c.args.s.now c.if-s-eq0.true)

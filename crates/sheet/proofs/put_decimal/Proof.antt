@@ -11,9 +11,6 @@ use Rattle.sheet.specs.Decimal.{decimal}
 use Rattle.sheet.proofs.DecimalLaws.{decimal_one, decimal_more, decimal-length, store_before}
 use Rattle.sheet.proofs.put_decimal.Statement.{statement}
 use Rattle.sheet.proofs.put_decimal.Tie as tie
-use Rattle.sheet.proofs.put_decimal.Reads as reads
-use Rattle.sheet.proofs.put_decimal.Lts as lts
-use Rattle.sheet.proofs.decimal_len.Reads as decimal-len-reads
 
 record So-far (at n : ℕ) (out₀ out : List ℕ) (i m : ℕ) : Type 0 where
   done : List ℕ

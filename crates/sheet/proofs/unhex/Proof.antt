@@ -7,13 +7,10 @@ use mathlib.Core.List.{List, ◌++◌}
 use lib.ListN.{length, take, drop, get_or, set}
 use lib.Seq.{take-length}
 use Rattle.buffer.specs.Place.{over}
-use Rattle.sheet.specs.Sheet.{nibble, from_pairs, data_of}
+use Rattle.sheet.specs.Sheet.{from_pairs, data_of}
 use Rattle.sheet.proofs.SheetLaws.{length_pairs, pair_at, store_next}
 use Rattle.sheet.proofs.unhex.Statement.{statement}
 use Rattle.sheet.proofs.unhex.Tie as tie
-use Rattle.sheet.proofs.unhex.Reads as reads
-use Rattle.sheet.proofs.unhex.Lts as lts
-use Rattle.sheet.proofs.nibble.Reads as nibble-reads
 
 record So-far (s out₀ : List ℕ) (n : ℕ) (out : List ℕ) (k : ℕ) : Type 0 where
   count : n ≡ length s / 2

@@ -6,10 +6,6 @@ use lib.ListN.{length}
 use Rattle.tabs.proofs.RecordLaws.{Measured, measured_first, measured_next, measured_over, measured_end}
 use Rattle.tabs.proofs.expanded_len.Statement.{statement}
 use Rattle.tabs.proofs.expanded_len.Tie as tie
-use Rattle.tabs.proofs.expanded_len.Reads as reads
-use Rattle.tabs.proofs.expanded_len.Lts as lts
-use Rattle.tabs.proofs.next_tab.Reads as next-tab-reads
-use Rattle.tabs.proofs.spaces_at.Reads as spaces-at-reads
 
 abbrev invariant-loop : tie.invariant-loop-p
 invariant-loop t content stop size₀ p₀ size p = Measured stop content size p

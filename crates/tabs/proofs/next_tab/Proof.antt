@@ -6,10 +6,6 @@ use Rattle.tabs.specs.Tabs.{place, Onward}
 use Rattle.tabs.proofs.RecordLaws.{onward_then}
 use Rattle.tabs.proofs.next_tab.Statement.{statement}
 use Rattle.tabs.proofs.next_tab.Tie as tie
-use Rattle.tabs.proofs.next_tab.Reads as reads
-use Rattle.tabs.proofs.next_tab.Lts as lts
-use Rattle.tabs.proofs.pass.Reads as pass-reads
-use Rattle.tabs.proofs.pass_printable.Reads as pass-printable-reads
 
 abbrev invariant-loop : tie.invariant-loop-at
 invariant-loop t s from column at₀ c₀ at c = Onward s from column (place at c)

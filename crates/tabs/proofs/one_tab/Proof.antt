@@ -2,8 +2,6 @@
 use borrow.Author.Tests.{eq-eqb, ne_eqb}
 use Rattle.tabs.proofs.one_tab.Statement.{statement}
 use Rattle.tabs.proofs.one_tab.Tie as tie
-use Rattle.tabs.proofs.one_tab.Reads as reads
-use Rattle.tabs.proofs.one_tab.Lts as lts
 
 returns : tie.Need-returns-then-b-eq9
 returns c = rw (eq-eqb _ 0x09 c.if-b-eq9.true)

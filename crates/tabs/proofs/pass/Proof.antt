@@ -9,9 +9,6 @@ use Rattle.chars.proofs.FoldLaws.{control}
 use Rattle.tabs.proofs.RecordLaws.{char_passed}
 use Rattle.tabs.proofs.pass.Statement.{statement}
 use Rattle.tabs.proofs.pass.Tie as tie
-use Rattle.tabs.proofs.pass.Reads as reads
-use Rattle.tabs.proofs.pass.Lts as lts
-use Rattle.chars.proofs.seen_at.Reads as seen-at-reads
 
 shared-slice-read-b : tie.Need-bounds-s-at
 shared-slice-read-b c = search rules

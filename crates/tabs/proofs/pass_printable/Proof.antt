@@ -7,8 +7,6 @@ use Rattle.tabs.specs.Tabs.{place, Onward}
 use Rattle.tabs.proofs.RecordLaws.{onward_start, printable_passed}
 use Rattle.tabs.proofs.pass_printable.Statement.{statement}
 use Rattle.tabs.proofs.pass_printable.Tie as tie
-use Rattle.tabs.proofs.pass_printable.Reads as reads
-use Rattle.tabs.proofs.pass_printable.Lts as lts
 
 abbrev invariant-loop : tie.invariant-loop-i
 invariant-loop s from column i₀ i = Onward s from column (place i (column + (i - from)))

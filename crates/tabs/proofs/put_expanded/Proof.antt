@@ -23,13 +23,6 @@ use Rattle.tabs.specs.Tabs.{tabs_from, place}
 use Rattle.tabs.proofs.RecordLaws.{AtTab, at_tab, tab_next, tab_then, tab_end, records_whole, records_good}
 use Rattle.tabs.proofs.put_expanded.Statement.{statement}
 use Rattle.tabs.proofs.put_expanded.Tie as tie
-use Rattle.tabs.proofs.put_expanded.Reads as reads
-use Rattle.tabs.proofs.put_expanded.Lts as lts
-use Rattle.tabs.proofs.next_tab.Reads as next-tab-reads
-use Rattle.tabs.proofs.spaces_at.Reads as spaces-at-reads
-use Rattle.writer.proofs.keep.Reads as keep-reads
-use Rattle.writer.proofs.put_bytes.Reads as put-bytes-reads
-use Rattle.writer.proofs.skip.Reads as skip-reads
 
 abbrev invariant-loop : tie.invariant-loop-p
 invariant-loop t content entries text stop blanks bytes₀ numbers₀ texts₀ c₀ p₀ bytes numbers texts c p =

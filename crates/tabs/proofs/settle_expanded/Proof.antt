@@ -13,11 +13,6 @@ use Rattle.replace.proofs.ScanLaws.{capped_fault}
 use Rattle.tabs.proofs.RecordLaws.{size_most, most_small}
 use Rattle.tabs.proofs.settle_expanded.Statement.{statement}
 use Rattle.tabs.proofs.settle_expanded.Tie as tie
-use Rattle.tabs.proofs.settle_expanded.Reads as reads
-use Rattle.tabs.proofs.settle_expanded.Lts as lts
-use Rattle.tabs.proofs.expanded_len.Reads as expanded-len-reads
-use Rattle.tabs.proofs.tab_count.Reads as tab-count-reads
-use Rattle.writer.proofs.settle.Reads as settle-reads
 
 -- where the function started, and the product that it takes
 abbrev start : tie.After-tab_count → tie.Start

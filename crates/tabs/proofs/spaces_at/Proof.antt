@@ -6,8 +6,6 @@ use Rattle.layout.proofs.TabLaws.{some_spaces}
 use mathlib.Core.Path.{refl}
 use Rattle.tabs.proofs.spaces_at.Statement.{statement}
 use Rattle.tabs.proofs.spaces_at.Tie as tie
-use Rattle.tabs.proofs.spaces_at.Reads as reads
-use Rattle.tabs.proofs.spaces_at.Lts as lts
 
 rem-result : tie.Need-nonzero_rem-result
 rem-result c = search rules

@@ -8,9 +8,6 @@ use Rattle.tabs.specs.Tabs.{tab_count_of}
 use Rattle.tabs.proofs.RecordLaws.{count_next, count_end}
 use Rattle.tabs.proofs.tab_count.Statement.{statement}
 use Rattle.tabs.proofs.tab_count.Tie as tie
-use Rattle.tabs.proofs.tab_count.Reads as reads
-use Rattle.tabs.proofs.tab_count.Lts as lts
-use Rattle.tabs.proofs.one_tab.Reads as one-tab-reads
 
 abbrev invariant-loop : tie.invariant-loop-i
 invariant-loop s n₀ i₀ n i = (i ≤ length s) × (n ≤ i) × (n + tab_count_of (drop i s) ≡ tab_count_of s)

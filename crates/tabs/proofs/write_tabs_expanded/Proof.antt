@@ -16,12 +16,6 @@ use Rattle.outcomes.proofs.AloneLaws.{content-refused, content_fine, own_refused
 use Rattle.tabs.proofs.RecordLaws.{stop_zero, stop_over, stop_fine}
 use Rattle.tabs.proofs.write_tabs_expanded.Statement.{statement}
 use Rattle.tabs.proofs.write_tabs_expanded.Tie as tie
-use Rattle.tabs.proofs.write_tabs_expanded.Reads as reads
-use Rattle.tabs.proofs.write_tabs_expanded.Lts as lts
-use Rattle.recording_check.proofs.check.Reads as check-reads
-use Rattle.share.proofs.own_size.Reads as own-size-reads
-use Rattle.tabs.proofs.put_expanded.Reads as put-expanded-reads
-use Rattle.tabs.proofs.settle_expanded.Reads as settle-expanded-reads
 
 -- ── the places on the way, and what is known there
 -- what the call was given

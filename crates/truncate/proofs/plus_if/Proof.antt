@@ -3,8 +3,6 @@ use borrow.Author.Rules.{rules}
 use Rattle.truncate.specs.Planned.{plus_if_of}
 use Rattle.truncate.proofs.plus_if.Statement.{statement}
 use Rattle.truncate.proofs.plus_if.Tie as tie
-use Rattle.truncate.proofs.plus_if.Reads as reads
-use Rattle.truncate.proofs.plus_if.Lts as lts
 
 add-result : tie.Need-overflow_add-result
 add-result c = search rules

@@ -13,9 +13,6 @@ use Rattle.truncate.proofs.HeldLaws.{end_runs}
 use Rattle.truncate.proofs.put_end_ellipsis.Code.Mir as code
 use Rattle.truncate.proofs.put_end_ellipsis.Statement.{statement}
 use Rattle.truncate.proofs.put_end_ellipsis.Tie as tie
-use Rattle.truncate.proofs.put_end_ellipsis.Reads as reads
-use Rattle.truncate.proofs.put_end_ellipsis.Lts as lts
-use Rattle.truncate.proofs.put_up_to.Reads as put-up-to-reads
 
 put-up-to-requires : tie.Need-put_up_to-requires
 unfolding out

@@ -15,10 +15,6 @@ use Rattle.truncate.proofs.CutLaws.{edit_from, first_room, second_room, both, fr
 use Rattle.truncate.proofs.put_from.Code.Mir as code
 use Rattle.truncate.proofs.put_from.Statement.{statement}
 use Rattle.truncate.proofs.put_from.Tie as tie
-use Rattle.truncate.proofs.put_from.Reads as reads
-use Rattle.truncate.proofs.put_from.Lts as lts
-use Rattle.writer.proofs.keep.Reads as keep-reads
-use Rattle.writer.proofs.skip_entries.Reads as skip-entries-reads
 
 skip-entries-requires : tie.Need-skip_entries-there-requires
 unfolding out

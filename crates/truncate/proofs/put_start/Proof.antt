@@ -23,10 +23,6 @@ use Rattle.truncate.proofs.HeldLaws.{start_runs, start_finished}
 use Rattle.truncate.proofs.put_start.Code.Mir as code
 use Rattle.truncate.proofs.put_start.Statement.{statement}
 use Rattle.truncate.proofs.put_start.Tie as tie
-use Rattle.truncate.proofs.put_start.Reads as reads
-use Rattle.truncate.proofs.put_start.Lts as lts
-use Rattle.truncate.proofs.put_from.Reads as put-from-reads
-use Rattle.truncate.proofs.put_start_content.Reads as put-start-content-reads
 
 -- ── what the call was given: content, ellipsis, buffers; and what it writes
 abbrev content : tie.Start → Recording

@@ -12,9 +12,6 @@ use Rattle.truncate.proofs.HeldLaws.{start_runs}
 use Rattle.truncate.proofs.put_start_content.Code.Mir as code
 use Rattle.truncate.proofs.put_start_content.Statement.{statement}
 use Rattle.truncate.proofs.put_start_content.Tie as tie
-use Rattle.truncate.proofs.put_start_content.Reads as reads
-use Rattle.truncate.proofs.put_start_content.Lts as lts
-use Rattle.truncate.proofs.put_from.Reads as put-from-reads
 
 put-from-requires : tie.Need-put_from-requires
 unfolding out

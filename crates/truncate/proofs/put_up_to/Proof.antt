@@ -15,10 +15,6 @@ use Rattle.truncate.proofs.CutLaws.{edit_up_to, first_room, second_room, both, u
 use Rattle.truncate.proofs.put_up_to.Code.Mir as code
 use Rattle.truncate.proofs.put_up_to.Statement.{statement}
 use Rattle.truncate.proofs.put_up_to.Tie as tie
-use Rattle.truncate.proofs.put_up_to.Reads as reads
-use Rattle.truncate.proofs.put_up_to.Lts as lts
-use Rattle.writer.proofs.keep.Reads as keep-reads
-use Rattle.writer.proofs.skip_entries.Reads as skip-entries-reads
 
 keep-requires : tie.Need-keep-there-requires
 unfolding out

@@ -17,14 +17,6 @@ use Rattle.truncate.proofs.PlanLaws.{once_at_most, end_number, texts_planned, en
 use Rattle.truncate.proofs.write_truncated_end.Code.Mir as code
 use Rattle.truncate.proofs.write_truncated_end.Statement.{statement}
 use Rattle.truncate.proofs.write_truncated_end.Tie as tie
-use Rattle.truncate.proofs.write_truncated_end.Reads as reads
-use Rattle.truncate.proofs.write_truncated_end.Lts as lts
-use Rattle.recording_check.proofs.check_both.Reads as check-both-reads
-use Rattle.truncate_plan.proofs.measure_end.Reads as measure-end-reads
-use Rattle.truncate.proofs.plus_if.Reads as plus-if-reads
-use Rattle.truncate.proofs.put_end.Reads as put-end-reads
-use Rattle.share.proofs.text_size.Reads as text-size-reads
-use Rattle.writer.proofs.settle.Reads as settle-reads
 
 -- ── the places on the way, and what is known there
 -- what the call was given

@@ -18,14 +18,6 @@ use Rattle.truncate.proofs.PlanLaws.{once_at_most, start_number, texts_planned, 
 use Rattle.truncate.proofs.write_truncated_start.Code.Mir as code
 use Rattle.truncate.proofs.write_truncated_start.Statement.{statement}
 use Rattle.truncate.proofs.write_truncated_start.Tie as tie
-use Rattle.truncate.proofs.write_truncated_start.Reads as reads
-use Rattle.truncate.proofs.write_truncated_start.Lts as lts
-use Rattle.recording_check.proofs.check_both.Reads as check-both-reads
-use Rattle.truncate_plan.proofs.measure_start.Reads as measure-start-reads
-use Rattle.truncate.proofs.plus_if.Reads as plus-if-reads
-use Rattle.truncate.proofs.put_start.Reads as put-start-reads
-use Rattle.share.proofs.text_size.Reads as text-size-reads
-use Rattle.writer.proofs.settle.Reads as settle-reads
 
 -- ── the places on the way, and what is known there
 -- what the call was given

@@ -4,11 +4,6 @@ use borrow.Author.Rules.{rules}
 use Rattle.truncate_plan.proofs.MeasureLaws.{end_plan_whole, end_plan_cut}
 use Rattle.truncate_plan.proofs.measure_end.Statement.{statement}
 use Rattle.truncate_plan.proofs.measure_end.Tie as tie
-use Rattle.truncate_plan.proofs.measure_end.Reads as reads
-use Rattle.truncate_plan.proofs.measure_end.Lts as lts
-use Rattle.chars.proofs.text_width.Reads as text-width-reads
-use Rattle.chars.proofs.truncate_end_pos.Reads as truncate-end-pos-reads
-use Rattle.truncate_plan.proofs.less.Reads as less-reads
 
 text-width-requires : tie.Need-text_width-w-requires
 text-width-requires c κs = search rules

@@ -4,12 +4,6 @@ use borrow.Author.Rules.{rules}
 use Rattle.truncate_plan.proofs.MeasureLaws.{start_plan_whole, start_plan_cut}
 use Rattle.truncate_plan.proofs.measure_start.Statement.{statement}
 use Rattle.truncate_plan.proofs.measure_start.Tie as tie
-use Rattle.truncate_plan.proofs.measure_start.Reads as reads
-use Rattle.truncate_plan.proofs.measure_start.Lts as lts
-use Rattle.chars.proofs.text_width.Reads as text-width-reads
-use Rattle.chars.proofs.truncate_start_pos.Reads as truncate-start-pos-reads
-use Rattle.truncate_plan.proofs.less.Reads as less-reads
-use Rattle.truncate_plan.proofs.trimmed_from.Reads as trimmed-from-reads
 
 text-width-requires : tie.Need-text_width-whole-requires
 text-width-requires c κs = search rules

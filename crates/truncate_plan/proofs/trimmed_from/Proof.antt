@@ -3,9 +3,6 @@ use borrow.Author.Rules.{rules}
 use Rattle.truncate_plan.proofs.MeasureLaws.{trimmed}
 use Rattle.truncate_plan.proofs.trimmed_from.Statement.{statement}
 use Rattle.truncate_plan.proofs.trimmed_from.Tie as tie
-use Rattle.truncate_plan.proofs.trimmed_from.Reads as reads
-use Rattle.truncate_plan.proofs.trimmed_from.Lts as lts
-use Rattle.chars.proofs.trim_start_zero_width_chars.Reads as trim-start-zero-width-chars-reads
 
 sub-trim-start-zero-width-chars : tie.Need-slice_bounds-trim_start_zero_width_chars-count
 sub-trim-start-zero-width-chars c = search rules

@@ -10,8 +10,6 @@ use Rattle.layout.specs.Unindent.{begins_with}
 use Rattle.unindent.proofs.Laws.{begins_short, begins_next, begins_end}
 use Rattle.unindent.proofs.begins_at.Statement.{statement}
 use Rattle.unindent.proofs.begins_at.Tie as tie
-use Rattle.unindent.proofs.begins_at.Reads as reads
-use Rattle.unindent.proofs.begins_at.Lts as lts
 
 abbrev invariant-loop : tie.invariant-loop-j
 invariant-loop content at prefix j₀ j =

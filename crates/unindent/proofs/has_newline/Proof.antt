@@ -10,8 +10,6 @@ use Rattle.layout.specs.Unindent.{has_newline_in}
 use Rattle.unindent.proofs.Laws.{newline_next, newline_end}
 use Rattle.unindent.proofs.has_newline.Statement.{statement}
 use Rattle.unindent.proofs.has_newline.Tie as tie
-use Rattle.unindent.proofs.has_newline.Reads as reads
-use Rattle.unindent.proofs.has_newline.Lts as lts
 
 abbrev invariant-loop : tie.invariant-loop-j
 invariant-loop s found₀ j₀ found j =

@@ -5,17 +5,12 @@ use mathlib.Core.Path.{◌≡◌, refl, sym, ◌∙◌}
 use mathlib.Core.Bool.{true}
 use mathlib.Core.List.{List}
 use lib.ListN.{length, drop}
-use borrow.Author.Tests.{not-true, not-false}
 use Rattle.recording.specs.Check.{fault_of, Counted}
 use Rattle.layout.specs.Unindent.{begins_with}
 use Rattle.unindent.proofs.Laws.{moves}
 use Rattle.unindent.proofs.Scan.{Scan, scan_first, scan-refused, inside, enough, scan_next, scan_fine, scan_size}
 use Rattle.unindent.proofs.left_len.Statement.{statement}
 use Rattle.unindent.proofs.left_len.Tie as tie
-use Rattle.unindent.proofs.left_len.Reads as reads
-use Rattle.unindent.proofs.left_len.Lts as lts
-use Rattle.indent.proofs.next_line.Reads as next-line-reads
-use Rattle.unindent.proofs.begins_at.Reads as begins-at-reads
 
 abbrev invariant-loop : tie.invariant-loop-at
 invariant-loop content prefix size₀ at₀ size at =

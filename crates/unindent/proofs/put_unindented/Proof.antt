@@ -15,11 +15,6 @@ use Rattle.unindent.proofs.Laws.{moves}
 use Rattle.unindent.proofs.Loop.{whole, State, state_first, long_now, before, inside, room_keep, room_skip, step, here, room_last, finish}
 use Rattle.unindent.proofs.put_unindented.Statement.{statement}
 use Rattle.unindent.proofs.put_unindented.Tie as tie
-use Rattle.unindent.proofs.put_unindented.Reads as reads
-use Rattle.unindent.proofs.put_unindented.Lts as lts
-use Rattle.indent.proofs.next_line.Reads as next-line-reads
-use Rattle.writer.proofs.keep.Reads as keep-reads
-use Rattle.writer.proofs.skip.Reads as skip-reads
 
 abbrev invariant-loop : tie.invariant-loop-p
 invariant-loop bytes₀ numbers₀ texts₀ content entries text prefix c₀ p₀ bytes numbers texts c p =

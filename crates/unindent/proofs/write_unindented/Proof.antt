@@ -16,14 +16,6 @@ use Rattle.unindent.proofs.Sizes as sizes
 use Rattle.unindent.proofs.Sizes.{newline_refused, unindented_measured}
 use Rattle.unindent.proofs.write_unindented.Statement.{statement}
 use Rattle.unindent.proofs.write_unindented.Tie as tie
-use Rattle.unindent.proofs.write_unindented.Reads as reads
-use Rattle.unindent.proofs.write_unindented.Lts as lts
-use Rattle.recording_check.proofs.check_both.Reads as check-both-reads
-use Rattle.unindent.proofs.has_newline.Reads as has-newline-reads
-use Rattle.unindent.proofs.left_len.Reads as left-len-reads
-use Rattle.unindent.proofs.put_unindented.Reads as put-unindented-reads
-use Rattle.share.proofs.own_size.Reads as own-size-reads
-use Rattle.writer.proofs.settle.Reads as settle-reads
 
 -- the call returns no number
 number_of_refusal : (p c : Recording) → number (unindent p) c ≡ 0

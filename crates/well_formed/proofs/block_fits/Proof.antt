@@ -8,11 +8,6 @@ use Rattle.well_formed.specs.Blocks.{EndsAt}
 use Rattle.well_formed.proofs.BlockLaws.{plain_fits}
 use Rattle.well_formed.proofs.block_fits.Statement.{statement}
 use Rattle.well_formed.proofs.block_fits.Tie as tie
-use Rattle.well_formed.proofs.block_fits.Reads as reads
-use Rattle.well_formed.proofs.block_fits.Lts as lts
-use Rattle.well_formed.proofs.fitting_block.Reads as fitting-block-reads
-use Rattle.well_formed.proofs.last_boundary.Reads as last-boundary-reads
-use Rattle.well_formed.proofs.plain_block.Reads as plain-block-reads
 
 plain-block-requires : tie.Need-plain_block-requires
 plain-block-requires c κs = search rules

@@ -5,17 +5,11 @@ use Prim.Native.Nat.{ℕ, ◌+◌, ◌-◌, ◌≤◌}
 use mathlib.Core.Path.{◌≡◌, refl, subst}
 use mathlib.Core.List.{List}
 use lib.ListN.{length}
-use borrow.Author.Tests.{not-false}
 use Rattle.chars.specs.Chars.{well_formed_of}
 use Rattle.well_formed.specs.Blocks.{Fitting}
 use Rattle.well_formed.proofs.BlockLaws.{fitting_join, passed_back}
 use Rattle.well_formed.proofs.blocks_end.Statement.{statement}
 use Rattle.well_formed.proofs.blocks_end.Tie as tie
-use Rattle.well_formed.proofs.blocks_end.Reads as reads
-use Rattle.well_formed.proofs.blocks_end.Lts as lts
-use Rattle.well_formed.proofs.block_fits.Reads as block-fits-reads
-use Rattle.well_formed.proofs.first_fit.Reads as first-fit-reads
-use Rattle.well_formed.proofs.last_boundary.Reads as last-boundary-reads
 
 record So-far (s : List ℕ) (at : ℕ) : Type 0 where
   three : 3 ≤ at

@@ -6,9 +6,6 @@ use borrow.Author.Tests.{eqb-true}
 use Prim.Native.Nat.{◌+◌}
 use Rattle.well_formed.proofs.first_fit.Statement.{statement}
 use Rattle.well_formed.proofs.first_fit.Tie as tie
-use Rattle.well_formed.proofs.first_fit.Reads as reads
-use Rattle.well_formed.proofs.first_fit.Lts as lts
-use Rattle.well_formed.proofs.misplaced.Reads as misplaced-reads
 
 shared-slice-read-misplaced : tie.Need-bounds-s-0
 shared-slice-read-misplaced c = search rules

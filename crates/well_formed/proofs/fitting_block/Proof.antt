@@ -9,9 +9,6 @@ use Rattle.well_formed.specs.Blocks.{Fitting}
 use Rattle.well_formed.proofs.BlockLaws.{block_more}
 use Rattle.well_formed.proofs.fitting_block.Statement.{statement}
 use Rattle.well_formed.proofs.fitting_block.Tie as tie
-use Rattle.well_formed.proofs.fitting_block.Reads as reads
-use Rattle.well_formed.proofs.fitting_block.Lts as lts
-use Rattle.well_formed.proofs.misplaced.Reads as misplaced-reads
 
 record So-far (s : List ℕ) (from bad i : ℕ) : Type 0 where
   within : i ≤ 32

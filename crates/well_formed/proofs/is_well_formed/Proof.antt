@@ -11,9 +11,6 @@ use Rattle.chars.proofs.CharsLaws.{chars_end}
 use Rattle.chars.proofs.FoldLaws.{ascii_len, ascii_ok, ok_next}
 use Rattle.well_formed.proofs.is_well_formed.Statement.{statement}
 use Rattle.well_formed.proofs.is_well_formed.Tie as tie
-use Rattle.well_formed.proofs.is_well_formed.Reads as reads
-use Rattle.well_formed.proofs.is_well_formed.Lts as lts
-use Rattle.well_formed.proofs.well_formed_by_table.Reads as well-formed-by-table-reads
 
 record So-far (s : List ℕ) (at : ℕ) : Type 0 where
   within : at ≤ length s

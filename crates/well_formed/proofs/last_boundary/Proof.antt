@@ -4,8 +4,6 @@ use borrow.Author.Rules.{rules}
 use Rattle.well_formed.proofs.BlockLaws.{ends_at}
 use Rattle.well_formed.proofs.last_boundary.Statement.{statement}
 use Rattle.well_formed.proofs.last_boundary.Tie as tie
-use Rattle.well_formed.proofs.last_boundary.Reads as reads
-use Rattle.well_formed.proofs.last_boundary.Lts as lts
 
 add-if1 : tie.Need-overflow_add-from
 add-if1 c = search rules

@@ -3,10 +3,6 @@ use borrow.Author.Rules.{rules}
 use mathlib.Core.Path.{◌∙◌}
 use Rattle.well_formed.proofs.long_well_formed.Statement.{statement}
 use Rattle.well_formed.proofs.long_well_formed.Tie as tie
-use Rattle.well_formed.proofs.long_well_formed.Reads as reads
-use Rattle.well_formed.proofs.long_well_formed.Lts as lts
-use Rattle.well_formed.proofs.well_formed_from.Reads as well-formed-from-reads
-use Rattle.well_formed.proofs.blocks_end.Reads as blocks-end-reads
 
 blocks-end-requires : tie.Need-blocks_end-at-requires
 blocks-end-requires c κs = search rules

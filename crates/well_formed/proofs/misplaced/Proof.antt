@@ -5,14 +5,6 @@ use mathlib.Core.Path.{sym, ◌∙◌}
 use Rattle.well_formed.proofs.BlockLaws.{fits_by, cond-le}
 use Rattle.well_formed.proofs.misplaced.Statement.{statement}
 use Rattle.well_formed.proofs.misplaced.Tie as tie
-use Rattle.well_formed.proofs.misplaced.Reads as reads
-use Rattle.well_formed.proofs.misplaced.Lts as lts
-use Rattle.well_formed.proofs.either.Reads as either-reads
-use Rattle.well_formed.proofs.no_lead.Reads as no-lead-reads
-use Rattle.well_formed.proofs.outside.Reads as outside-reads
-use Rattle.well_formed.proofs.second_high.Reads as second-high-reads
-use Rattle.well_formed.proofs.second_low.Reads as second-low-reads
-use Rattle.well_formed.proofs.sequence_open.Reads as sequence-open-reads
 
 second-low-requires : tie.Need-second_low-requires
 second-low-requires c κs = search rules

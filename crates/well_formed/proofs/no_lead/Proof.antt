@@ -2,9 +2,6 @@
 use borrow.Author.Rules.{rules}
 use Rattle.well_formed.proofs.no_lead.Statement.{statement}
 use Rattle.well_formed.proofs.no_lead.Tie as tie
-use Rattle.well_formed.proofs.no_lead.Reads as reads
-use Rattle.well_formed.proofs.no_lead.Lts as lts
-use Rattle.well_formed.proofs.outside.Reads as outside-reads
 
 returns : tie.Need-returns-then-z-lt128
 returns c = search rules

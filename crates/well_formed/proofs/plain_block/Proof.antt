@@ -10,9 +10,6 @@ use lib.ListN.{get_or}
 use borrow.Author.Tests.{leb-true, leb-false, ltb-true}
 use Rattle.well_formed.proofs.plain_block.Statement.{statement}
 use Rattle.well_formed.proofs.plain_block.Tie as tie
-use Rattle.well_formed.proofs.plain_block.Reads as reads
-use Rattle.well_formed.proofs.plain_block.Lts as lts
-use Rattle.well_formed.proofs.larger.Reads as larger-reads
 
 record So-far (s : List ℕ) (at high i : ℕ) : Type 0 where
   within : i ≤ 32

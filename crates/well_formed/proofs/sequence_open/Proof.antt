@@ -4,8 +4,6 @@ use borrow.Author.Tests.{leb-true, leb-false}
 use Rattle.well_formed.proofs.BlockLaws.{true_false}
 use Rattle.well_formed.proofs.sequence_open.Statement.{statement}
 use Rattle.well_formed.proofs.sequence_open.Tie as tie
-use Rattle.well_formed.proofs.sequence_open.Reads as reads
-use Rattle.well_formed.proofs.sequence_open.Lts as lts
 
 returns : tie.Need-returns-then-y-ge192
 returns c = (λ e k. omega (arith, k.second, c.if-y-ge192.true), λ e. absurd (true_false e))

@@ -11,9 +11,6 @@ use Rattle.chars.proofs.CharsLaws.{chars_end}
 use Rattle.chars.proofs.FoldLaws.{ascii_len, ascii_ok, ok_next}
 use Rattle.well_formed.proofs.well_formed_from.Statement.{statement}
 use Rattle.well_formed.proofs.well_formed_from.Tie as tie
-use Rattle.well_formed.proofs.well_formed_from.Reads as reads
-use Rattle.well_formed.proofs.well_formed_from.Lts as lts
-use Rattle.chars.proofs.seen_any.Reads as seen-any-reads
 
 record So-far (s : List ℕ) (from at : ℕ) : Type 0 where
   within : at ≤ length s

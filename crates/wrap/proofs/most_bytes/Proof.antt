@@ -1,12 +1,9 @@
 -- The lines joined by 0A take at most as many bytes as the data if no word is broken (`joined_short`); else a line for each byte and one more (`lines_few`).
 use native.Mathlib.Omega.{arith}
 use borrow.Author.Rules.{rules}
-use borrow.Author.Tests.{not-true, not-false}
 use Rattle.wrap_lines.proofs.BoundLaws.{lines_few, shown_few, joined_short}
 use Rattle.wrap.proofs.most_bytes.Statement.{statement}
 use Rattle.wrap.proofs.most_bytes.Tie as tie
-use Rattle.wrap.proofs.most_bytes.Reads as reads
-use Rattle.wrap.proofs.most_bytes.Lts as lts
 
 returns : tie.Need-returns-then-not-break_words
 returns c =

@@ -6,10 +6,6 @@ use mathlib.Core.Path.{ap}
 use Prim.Native.Nat.{ℕ, ◌-◌}
 use Rattle.wrap.proofs.put_line.Statement.{statement}
 use Rattle.wrap.proofs.put_line.Tie as tie
-use Rattle.wrap.proofs.put_line.Reads as reads
-use Rattle.wrap.proofs.put_line.Lts as lts
-use Rattle.writer.proofs.keep.Reads as keep-reads
-use Rattle.writer.proofs.skip.Reads as skip-reads
 
 -- once the bytes before the line are left out: where the function started
 abbrev start : tie.After-skip-c → tie.Start

@@ -11,13 +11,6 @@ use mathlib.Core.List.{[], ◌∷◌}
 use Prim.Native.Nat.{◌-◌}
 use Rattle.wrap.proofs.put_wrapped.Statement.{statement}
 use Rattle.wrap.proofs.put_wrapped.Tie as tie
-use Rattle.wrap.proofs.put_wrapped.Reads as reads
-use Rattle.wrap.proofs.put_wrapped.Lts as lts
-use Rattle.line.proofs.next_line.Reads as next-line-reads
-use Rattle.wrap_lines.proofs.set_line.Reads as set-line-reads
-use Rattle.wrap.proofs.put_line.Reads as put-line-reads
-use Rattle.wrap.proofs.put_newline.Reads as put-newline-reads
-use Rattle.writer.proofs.skip.Reads as skip-reads
 
 abbrev invariant-loop : tie.invariant-loop-l
 invariant-loop t bytes₀ numbers₀ texts₀ lines₀ content entries text width break-words c₀ at₀ k₀ bytes numbers texts lines c at k =

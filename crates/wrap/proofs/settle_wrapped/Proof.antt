@@ -12,12 +12,6 @@ use Rattle.wrap_lines.proofs.WrapLaws.{numbers_length}
 use Rattle.wrap_lines.proofs.BoundLaws.{lines_few}
 use Rattle.wrap.proofs.settle_wrapped.Statement.{statement}
 use Rattle.wrap.proofs.settle_wrapped.Tie as tie
-use Rattle.wrap.proofs.settle_wrapped.Reads as reads
-use Rattle.wrap.proofs.settle_wrapped.Lts as lts
-use Rattle.wrap_lines.proofs.count_lines.Reads as count-lines-reads
-use Rattle.wrap_lines.proofs.numbers_of.Reads as numbers-of-reads
-use Rattle.wrap.proofs.most_bytes.Reads as most-bytes-reads
-use Rattle.writer.proofs.settle.Reads as settle-reads
 
 most-bytes-requires : tie.Need-most_bytes-requires
 most-bytes-requires c κs = search rules

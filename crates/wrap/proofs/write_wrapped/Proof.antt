@@ -17,12 +17,6 @@ use Rattle.wrap.proofs.SizeLaws.{data_size}
 use Rattle.writer.proofs.Sizes.{within}
 use Rattle.wrap.proofs.write_wrapped.Statement.{statement}
 use Rattle.wrap.proofs.write_wrapped.Tie as tie
-use Rattle.wrap.proofs.write_wrapped.Reads as reads
-use Rattle.wrap.proofs.write_wrapped.Lts as lts
-use Rattle.recording_check.proofs.check.Reads as check-reads
-use Rattle.share.proofs.own_size.Reads as own-size-reads
-use Rattle.wrap.proofs.put_wrapped.Reads as put-wrapped-reads
-use Rattle.wrap.proofs.settle_wrapped.Reads as settle-wrapped-reads
 
 -- ── the places on the way, and what is known there
 -- what the call was given

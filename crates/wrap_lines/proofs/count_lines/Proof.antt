@@ -8,9 +8,6 @@ use lib.ListN.{length}
 use Prim.Native.Nat.{◌-◌}
 use Rattle.wrap_lines.proofs.count_lines.Statement.{statement}
 use Rattle.wrap_lines.proofs.count_lines.Tie as tie
-use Rattle.wrap_lines.proofs.count_lines.Reads as reads
-use Rattle.wrap_lines.proofs.count_lines.Lts as lts
-use Rattle.line.proofs.next_line.Reads as next-line-reads
 
 abbrev invariant-loop : tie.invariant-loop-l
 invariant-loop t «data» width break-words count₀ bytes₀ at₀ count bytes at = laws.Counted width break-words «data» count bytes at

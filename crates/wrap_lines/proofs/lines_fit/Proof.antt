@@ -13,10 +13,6 @@ use mathlib.Core.Path.{sym, ap, ◌∙◌}
 use Prim.Native.Nat.{ℕ, ◌*◌}
 use Rattle.wrap_lines.proofs.lines_fit.Statement.{statement}
 use Rattle.wrap_lines.proofs.lines_fit.Tie as tie
-use Rattle.wrap_lines.proofs.lines_fit.Reads as reads
-use Rattle.wrap_lines.proofs.lines_fit.Lts as lts
-use Rattle.wrap_lines.proofs.count_lines.Reads as count-lines-reads
-use Rattle.wrap_lines.proofs.numbers_of.Reads as numbers-of-reads
 
 add-numbers-of : tie.Need-overflow_add-data
 add-numbers-of c = search rules

@@ -6,8 +6,6 @@ use lib.ListN.{length-set}
 use mathlib.Core.Path.{refl}
 use Rattle.wrap_lines.proofs.set_line.Statement.{statement}
 use Rattle.wrap_lines.proofs.set_line.Tie as tie
-use Rattle.wrap_lines.proofs.set_line.Reads as reads
-use Rattle.wrap_lines.proofs.set_line.Lts as lts
 
 mul-lines : tie.Need-offset_bounds-lines-k
 mul-lines c = search rules

@@ -1,7 +1,7 @@
 -- Refusal 1, refusal 24 or the lines: where the code stops, the outcome is that one (`outcome_long`, `outcome_short`, `outcome_done`).
 use native.Mathlib.Omega.{arith}
 use borrow.Author.Rules.{rules}
-use borrow.Author.Tests.{leb-true, leb-false, not-true, not-false}
+use borrow.Author.Tests.{leb-true, leb-false}
 use Rattle.wrap_lines.proofs.WrapLaws as laws
 use Rattle.wrap_lines.proofs.BoundLaws.{lines_few}
 use Rattle.recording.specs.Outcome.{answer_of, returned, lent_after, lent_lines}
@@ -11,10 +11,6 @@ use lib.ListN.{length}
 use mathlib.Core.Path.{refl, sym, ◌∙◌}
 use Rattle.wrap_lines.proofs.wrap_bytes.Statement.{statement}
 use Rattle.wrap_lines.proofs.wrap_bytes.Tie as tie
-use Rattle.wrap_lines.proofs.wrap_bytes.Reads as reads
-use Rattle.wrap_lines.proofs.wrap_bytes.Lts as lts
-use Rattle.wrap_lines.proofs.lines_fit.Reads as lines-fit-reads
-use Rattle.wrap_lines.proofs.write_lines.Reads as write-lines-reads
 
 returns : tie.Need-returns-then-data-gt-DATA_LIMIT
 unfolding answer_of returned lent_after

@@ -7,10 +7,6 @@ use mathlib.Core.Path.{◌∙◌}
 use Prim.Native.Nat.{◌-◌}
 use Rattle.wrap_lines.proofs.write_lines.Statement.{statement}
 use Rattle.wrap_lines.proofs.write_lines.Tie as tie
-use Rattle.wrap_lines.proofs.write_lines.Reads as reads
-use Rattle.wrap_lines.proofs.write_lines.Lts as lts
-use Rattle.line.proofs.next_line.Reads as next-line-reads
-use Rattle.wrap_lines.proofs.set_line.Reads as set-line-reads
 
 abbrev invariant-loop : tie.invariant-loop-l
 invariant-loop t «data» width break-words lines₀ k₀ at₀ lines k at = laws.Written width break-words «data» lines₀ lines k at

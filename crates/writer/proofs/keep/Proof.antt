@@ -17,11 +17,6 @@ use Rattle.writer.proofs.Carry.{front-plain, back-plain, bytes_wrote}
 use Rattle.writer.proofs.keep.Code.Mir as code
 use Rattle.writer.proofs.keep.Statement.{statement}
 use Rattle.writer.proofs.keep.Tie as tie
-use Rattle.writer.proofs.keep.Reads as reads
-use Rattle.writer.proofs.keep.Lts as lts
-use Rattle.writer.proofs.keep_entries.Reads as keep-entries-reads
-use Rattle.writer.proofs.place_at.Reads as place-at-reads
-use Rattle.writer.proofs.put_bytes.Reads as put-bytes-reads
 
 -- once the next entry is known to stand behind n
 abbrev start : tie.Then-n-place_at → tie.Start

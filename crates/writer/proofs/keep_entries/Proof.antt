@@ -23,12 +23,6 @@ use Prim.Native.Nat.{ℕ, ◌+◌, ◌-◌, ◌≤◌, ◌<◌}
 use Rattle.writer.proofs.keep_entries.Code.Mir as code
 use Rattle.writer.proofs.keep_entries.Statement.{statement}
 use Rattle.writer.proofs.keep_entries.Tie as tie
-use Rattle.writer.proofs.keep_entries.Reads as reads
-use Rattle.writer.proofs.keep_entries.Lts as lts
-use Rattle.recording.proofs.entry_at.Reads as entry-at-reads
-use Rattle.writer.proofs.place_at.Reads as place-at-reads
-use Rattle.writer.proofs.put_bytes.Reads as put-bytes-reads
-use Rattle.writer.proofs.put_entry.Reads as put-entry-reads
 
 abbrev same : List Item → List Item
 same x = x

@@ -4,11 +4,8 @@ use borrow.Author.Rules.{rules}
 use Rattle.writer.specs.Write.{place_for}
 use Rattle.recording.proofs.EntryLaws.{entries_few, entries_next}
 use lib.ListN.{drop, length-drop}
-use Prim.Native.Nat.{◌-◌}
 use Rattle.writer.proofs.place_at.Statement.{statement}
 use Rattle.writer.proofs.place_at.Tie as tie
-use Rattle.writer.proofs.place_at.Reads as reads
-use Rattle.writer.proofs.place_at.Lts as lts
 
 sub-if1 : tie.Need-overflow_sub-entries
 sub-if1 c = search rules

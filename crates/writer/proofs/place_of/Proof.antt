@@ -1,13 +1,9 @@
 -- `place_of`: the place by the entry's kind.
-use native.Mathlib.Omega.{arith}
 use borrow.Author.Rules.{rules}
 use Rattle.recording.specs.Recording.{entries_of}
 use Rattle.writer.proofs.Laws.{place_label_lem, place-pop, place-raw}
 use Rattle.writer.proofs.place_of.Statement.{statement}
 use Rattle.writer.proofs.place_of.Tie as tie
-use Rattle.writer.proofs.place_of.Reads as reads
-use Rattle.writer.proofs.place_of.Lts as lts
-use Rattle.share.proofs.place_in_result.Reads as place-in-result-reads
 
 -- src/lib.rt:67:9
 place-in-result-requires : tie.Need-place_in_result-requires

@@ -10,11 +10,6 @@ use Rattle.buffer.specs.LendsOn.{LendsOn, own_arrays, acts, touches, loops, call
 use Rattle.writer.proofs.put_entry.Code.Mir as code
 use Rattle.writer.proofs.put_entry.Statement.{statement}
 use Rattle.writer.proofs.put_entry.Tie as tie
-use Rattle.writer.proofs.put_entry.Reads as reads
-use Rattle.writer.proofs.put_entry.Lts as lts
-use Rattle.buffer.proofs.put.Reads as put_reads
-use Rattle.writer.proofs.place_of.Reads as place-of-reads
-use Rattle.share.proofs.set_entry.Reads as set-entry-reads
 
 -- src/lib.rt:107:17
 cast-start : tie.Need-overflow_cast-start

@@ -13,9 +13,6 @@ use mathlib.Core.List.{List, [], ◌∷◌}
 use Rattle.writer.proofs.put_recording.Code.Mir as code
 use Rattle.writer.proofs.put_recording.Statement.{statement}
 use Rattle.writer.proofs.put_recording.Tie as tie
-use Rattle.writer.proofs.put_recording.Reads as reads
-use Rattle.writer.proofs.put_recording.Lts as lts
-use Rattle.writer.proofs.keep.Reads as keep-reads
 
 keep-requires : tie.Need-keep-r-requires
 unfolding out

@@ -5,8 +5,6 @@ use Rattle.recording.specs.Refusals.{number_of_refusal}
 use mathlib.Core.Path.{sym}
 use Rattle.writer.proofs.settle.Statement.{statement}
 use Rattle.writer.proofs.settle.Tie as tie
-use Rattle.writer.proofs.settle.Reads as reads
-use Rattle.writer.proofs.settle.Lts as lts
 
 returns : tie.Need-returns-then-d-gt1048576
 unfolding settled_fault number_of_refusal

@@ -1,23 +1,19 @@
 -- `skip`: where no entry is left up to the byte n, nothing is written (`front-plain`); else `skip_entries` promises the same.
 use native.Mathlib.Omega.{arith}
 use borrow.Author.Rules.{rules}
-use Prim.Native.Nat.{◌-◌, ◌<◌}
-use mathlib.Core.Path.{◌≡◌, refl, sym, ap, ◌∙◌}
+use Prim.Native.Nat.{◌<◌}
+use mathlib.Core.Path.{refl, sym, ap, ◌∙◌}
 use mathlib.Core.List.{List, [], ◌∷◌}
 use lib.ListN.{drop}
 use Rattle.buffer.specs.Place.{part}
 use Rattle.buffer.specs.LendsOn.{LendsOn, own_arrays, acts, touches, loops, calls, called}
 use Rattle.recording.specs.Recording.{Item, entries_of}
-use Rattle.recording.specs.Edit.{front, entries_only}
-use Rattle.writer.specs.Write.{out, add, left, place_for}
+use Rattle.recording.specs.Edit.{entries_only}
+use Rattle.writer.specs.Write.{out, add, place_for}
 use Rattle.writer.proofs.Carry.{front-plain, back-plain, add-nil, only_none}
 use Rattle.writer.proofs.skip.Code.Mir as code
 use Rattle.writer.proofs.skip.Statement.{statement}
 use Rattle.writer.proofs.skip.Tie as tie
-use Rattle.writer.proofs.skip.Reads as reads
-use Rattle.writer.proofs.skip.Lts as lts
-use Rattle.writer.proofs.skip_entries.Reads as skip-entries-reads
-use Rattle.writer.proofs.place_at.Reads as place-at-reads
 
 -- once the next entry is known to stand behind n
 abbrev start : tie.Then-n-place_at → tie.Start

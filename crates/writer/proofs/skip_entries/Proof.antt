@@ -21,11 +21,6 @@ use Prim.Native.Nat.{ℕ, ◌+◌, ◌-◌, ◌≤◌, ◌<◌}
 use Rattle.writer.proofs.skip_entries.Code.Mir as code
 use Rattle.writer.proofs.skip_entries.Statement.{statement}
 use Rattle.writer.proofs.skip_entries.Tie as tie
-use Rattle.writer.proofs.skip_entries.Reads as reads
-use Rattle.writer.proofs.skip_entries.Lts as lts
-use Rattle.recording.proofs.entry_at.Reads as entry-at-reads
-use Rattle.writer.proofs.place_at.Reads as place-at-reads
-use Rattle.writer.proofs.put_entry.Reads as put-entry-reads
 
 module _ (ds ns ts : List ℕ) (n : ℕ) (c₀ : Cursor) (od oe₀ ot₀ oe ot : List ℕ) (c : Cursor) (p : ℕ)
     (s : State entries_only ds ns ts n (out od oe₀ ot₀ c₀) c₀ (out od oe ot c) c p) (l : n ≤ length ds) (room : Fits (entries_only (front (n - c₀.at) (left ds ns ts c₀))) (out od oe₀ ot₀ c₀)) where
