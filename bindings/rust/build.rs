@@ -1,4 +1,4 @@
-//! Links the archive that `rt staticlib capi` wrote, or the one that RUSZVEDOK_STATICLIB names (a relative path counts from the
+//! Links the archive that `rt lib` wrote in `crates/capi_c`, or the one that RUSZVEDOK_STATICLIB names (a relative path counts from the
 //! repository's folder). What is missing is said in one line.
 use std::env;
 use std::fs;
@@ -25,7 +25,7 @@ fn machine(archive: &[u8]) -> Option<u16> {
 fn take(archive: &Path, out: &Path) -> Result<(), String> {
     let path = archive.display();
     let bytes = fs::read(archive)
-        .map_err(|e| format!("no archive {path} ({e}): run `rt staticlib capi`, or set RUSZVEDOK_STATICLIB to its path"))?;
+        .map_err(|e| format!("no archive {path} ({e}): run `rt lib` in crates/capi_c, or set RUSZVEDOK_STATICLIB to its path"))?;
     let found = machine(&bytes).ok_or_else(|| format!("{path} is no archive of ELF files"))?;
     let name = MACHINES.iter().find(|(_, number)| *number == found).map_or("another architecture", |(name, _)| name);
     let target = env::var("CARGO_CFG_TARGET_ARCH").unwrap_or_default();
@@ -38,7 +38,7 @@ fn take(archive: &Path, out: &Path) -> Result<(), String> {
 fn main() {
     println!("cargo::rerun-if-env-changed=RUSZVEDOK_STATICLIB");
     let repository = PathBuf::from(env::var("CARGO_MANIFEST_DIR").expect("set by Cargo")).join("../..");
-    let named = env::var("RUSZVEDOK_STATICLIB").unwrap_or_else(|_| "target/staticlib/libcapi.a".into());
+    let named = env::var("RUSZVEDOK_STATICLIB").unwrap_or_else(|_| "crates/capi_c/out/libcapi_c.a".into());
     let archive = repository.join(named);
     println!("cargo::rerun-if-changed={}", archive.display());
     let out = PathBuf::from(env::var("OUT_DIR").expect("set by Cargo"));
