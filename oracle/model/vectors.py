@@ -11,7 +11,7 @@ import ruszvedok_model as model
 NAMES = ("text_width well_formed truncate_end_pos truncate_start_pos zero_width_len replay write_truncated_start write_truncated_end write_padded_start write_padded_end "
          "write_padded_centered write_indented wrap_bytes write_wrapped write_replaced elide_start elide_end complete_newline write push_label pop_label raw "
          "char_width read_char trim_start_zero_width_chars write_tabs_expanded write_unindented write_for_office write_for_floor "
-         "build_line_index extend_line_index line_at place_of write_truncated_cells write_tally").split()
+         "build_line_index extend_line_index line_at place_of write_truncated_cells").split()
 KEYS = ("data entries text second second_entries second_text records new added used width break code answer out out_entries out_text lines characters "
         "label index at").split()
 # How many numbers a line or a cell has in the list that is lent, where these are not three.

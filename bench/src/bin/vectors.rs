@@ -37,7 +37,7 @@ const CALLS: &[(&str, Maker)] = &[
 ];
 
 /// The program's names after these calls; only the first part of the list has lines of them.
-const OTHERS: [&str; 13] = [
+const OTHERS: [&str; 12] = [
     "char_width",
     "read_char",
     "trim_start_zero_width_chars",
@@ -50,7 +50,6 @@ const OTHERS: [&str; 13] = [
     "line_at",
     "place_of",
     "write_truncated_cells",
-    "write_tally",
 ];
 
 /// What the first line of the second part starts with.

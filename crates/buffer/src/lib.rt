@@ -1,5 +1,5 @@
 // Writing into lent buffers: what is written stands from an offset on, and all around it is untouched.
-// Each piece goes to the copying leaf, the kit's `bytes::copy`, by `&mut out[at..]`: the rest of the buffer from its current end. A byte that comes many times is stored.
+// Each piece goes by one `copy_from_slice` to the part of the buffer that it takes. A byte that comes many times is stored.
 #![tactic(auto)]
 
 ghost use Rattle.std.specs.Prelude.{◌≡◌, ◌+◌, ◌-◌, ◌≤◌, length, replicate};

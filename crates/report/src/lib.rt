@@ -1,5 +1,6 @@
 // Printing for the programs that are run: numbers, lists of them, bytes and answers, each with a space before it.
 // Proved to be safe and no more: what a program prints is held to its file `stdout`.
+// A write that fails is told: an `Err` is that of the write, some of the bytes may be printed then, and nothing else has changed.
 #![tactic(auto)]
 
 use recording::{Answer, number_of};

@@ -3,6 +3,7 @@ use Prim.Native.Nat.{ℕ, ◌≤◌}
 use native.Mathlib.Omega.{arith}
 use mathlib.Core.Bool.{Bool, true, false, cond, ◌||◌, false≢true}
 use mathlib.Core.Path.{◌≡◌, refl, ◌∙◌}
+use mathlib.Core.List.{[], ◌∷◌, ◌++◌}
 use Rattle.chars.specs.Utf8.{within, table37, row_of, tail_len, complete}
 use Rattle.chars.specs.Width.{nineteen_ranges, faces_and_trucks, ranges, width_in, char_width_of}
 use Rattle.chars.specs.Chars.{char_at, chars, text_width_of, well_formed_of}
@@ -16,12 +17,12 @@ use Rattle.layout.specs.Wrap.{split_words_at_width, first_fit_of}
 use Rattle.layout.specs.Layout.{fill_count_of, result_items, lines_left, number, result_of, second_fault, own_fault, faults_of, outcome}
 use Rattle.view.specs.View.{view_fault, view_faults}
 use Rattle.elide.specs.Elide.{fit_at_start}
-use Rattle.tally.specs.Tally.{tilde, space}
+use Rattle.tally.specs.Tally.{tilde, space, tally_outcome}
 use Rattle.width_tables.specs.ByTable as By
 use Rattle.width_tables.specs.ByTable.{chars_by}
-use Rattle.width_tables.specs.Tables.{library, SameOn, TextsOf}
-use Rattle.width_tables.specs.FacesAndTrucks.{face_or_truck, Other, before, AsItWas, Joined, FacesAndTrucks}
-use Rattle.width_tables.proofs.TablesLaws.{unchanged, answered, lists}
+use Rattle.width_tables.specs.Tables.{library, SameOn, TextsOf, TallySameOn}
+use Rattle.width_tables.specs.FacesAndTrucks.{face_or_truck, Other, as_before_of, before, faces, AsItWas, Joined, FacesAndTrucks, TallyAsBefore}
+use Rattle.width_tables.proofs.TablesLaws.{unchanged, answered, lists, tally_unchanged, tally_answered}
 
 -- ── the widths
 in_either : (c : ℕ) → face_or_truck c ≡ true → (0x1F600 ≤ c) × (c ≤ 0x1F6C5) × (width_in faces_and_trucks c ≡ 2)
@@ -52,8 +53,8 @@ others c h = as_before c h
 
 -- ── the rows
 as_it_was : AsItWas
-unfolding ranges table37 row_of tail_len complete char_width_of char_at chars chars_by well_formed_of items pushed_in start_in encode bad_shape_of entry_fault recording_fault over_limit no_room refusal_of settle split_words_at_width first_fit_of fit_at_start second_fault own_fault faults_of By.text_width_of By.truncate_end_pos_of By.truncate_end_width By.truncate_start_pos_of By.truncate_start_width By.zero_width_len_of By.trimmed_start_pos By.fill_count_of By.wrapped_line By.wrap_lines_of By.result_items By.lines_left By.number By.result_of By.outcome coloured balanced view_fault view_faults By.hidden By.floor_items By.floor_outcome By.trimmed By.elide_start_of tilde space By.cell_text By.laid_cell_of
-as_it_was = record { width = refl; cuts = (refl, refl); kept = (refl, refl); fill = refl; spaced = refl; unbroken = refl; listed = refl; tabs = refl; star = refl; short = refl; laid = refl }
+unfolding ranges table37 row_of tail_len complete char_width_of char_at chars chars_by well_formed_of items pushed_in start_in encode bad_shape_of entry_fault recording_fault over_limit no_room refusal_of settle split_words_at_width first_fit_of fit_at_start second_fault own_fault faults_of By.text_width_of By.truncate_end_pos_of By.truncate_end_width By.truncate_start_pos_of By.truncate_start_width By.zero_width_len_of By.trimmed_start_pos By.fill_count_of By.wrapped_line By.wrap_lines_of By.result_items By.lines_left By.number By.result_of By.outcome coloured balanced view_fault view_faults By.hidden By.floor_items By.floor_outcome By.trimmed By.elide_start_of
+as_it_was = record { width = refl; cuts = (refl, refl); kept = (refl, refl); fill = refl; spaced = refl; unbroken = refl; listed = refl; tabs = refl; star = refl; short = refl }
 
 joined : Joined
 unfolding ranges table37 row_of tail_len complete char_width_of char_at chars text_width_of chars_by well_formed_of items pushed_in start_in encode bad_shape_of entry_fault recording_fault over_limit no_room refusal_of settle second_fault own_fault faults_of fill_count_of result_items lines_left number result_of outcome By.text_width_of By.fill_count_of By.result_items By.lines_left By.number By.result_of By.outcome
@@ -71,4 +72,19 @@ faces_and_trucks_lem = record {
   lists = lists (TextsOf Other) library before calls_as_before;
   rows = as_it_was;
   joined = joined;
+}
+
+-- ── the tally sheet
+laid : By.laid_cell_of as_before_of (record { width = 3; alignment = 0 }) faces ≡ faces ++ 0x20 ∷ []
+unfolding ranges table37 row_of tail_len complete char_width_of char_at chars chars_by well_formed_of items pushed_in start_in encode bad_shape_of entry_fault recording_fault over_limit no_room refusal_of settle split_words_at_width first_fit_of fit_at_start second_fault own_fault faults_of By.text_width_of By.truncate_end_pos_of By.truncate_end_width By.truncate_start_pos_of By.truncate_start_width By.zero_width_len_of By.trimmed_start_pos By.fill_count_of By.wrapped_line By.wrap_lines_of By.result_items By.lines_left By.number By.result_of By.outcome coloured balanced view_fault view_faults By.hidden By.floor_items By.floor_outcome By.trimmed By.elide_start_of tilde space By.cell_text By.laid_cell_of
+laid = refl
+
+tally_as_before : TallySameOn (TextsOf Other) tally_outcome (By.tally_outcome (chars_by nineteen_ranges))
+tally_as_before = tally_unchanged nineteen_ranges Other as_before
+
+pub tally_as_before_lem : TallyAsBefore
+tally_as_before_lem = record {
+  calls = tally_as_before;
+  running = tally_answered (TextsOf Other) (By.tally_outcome (chars_by nineteen_ranges)) tally_as_before;
+  laid = laid;
 }

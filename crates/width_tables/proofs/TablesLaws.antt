@@ -8,15 +8,16 @@ use Rattle.chars.specs.Chars.{Character, chars}
 use Rattle.buffer.specs.Place.{over}
 use Rattle.recording.specs.Lists.{AllOf}
 use Rattle.recording.specs.Recording.{Bytes}
-use Rattle.recording.specs.Outcome.{Outcome, room_in, Promised, lent_lines}
+use Rattle.recording.specs.Outcome.{Room, Outcome, room_in, Promised, lent_lines}
 use Rattle.layout.specs.Layout.{content_after}
 use Rattle.layout.specs.Lent.{call_in}
 use Rattle.cells.specs.Cells.{parts}
 use Rattle.elide.specs.Elide.{lent}
 use Rattle.sheet.specs.Sheet.{sheet_lines}
+use Rattle.tally.specs.Tally.{tally_outcome}
 use Rattle.width_tables.specs.ByTable as By
 use Rattle.width_tables.specs.ByTable.{chars_by}
-use Rattle.width_tables.specs.Tables.{Answers, library, by_table, lent_to, tally_texts, value_texts, SameOn, EachIs, TextsOf, AsWide, TablesAlike, Published, Unchanged, AnsweredBy, run_by, outcomes_by, ListsAlike}
+use Rattle.width_tables.specs.Tables.{Answers, library, by_table, lent_to, tally_texts, value_texts, SameOn, EachIs, TextsOf, AsWide, TablesAlike, Published, Unchanged, AnsweredBy, run_by, outcomes_by, ListsAlike, TallySameOn, TallyAlike, TallyPublished, TallyUnchanged, TallyAnsweredBy}
 use Rattle.width_tables.proofs.CharacterLaws.{own_chars}
 use Rattle.width_tables.proofs.AlikeLaws as two
 use Rattle.width_tables.proofs.PublishedLaws as own
@@ -38,7 +39,6 @@ alike t u =
       floor = λ l o r h. two.floor t u l o r (one r.data_bytes h);
       wrap_bytes_of = λ w b d room h. two.wrap-bytes t u w b d room (one d h);
       cells = λ m ends e d o h. let p = texts t u (e ∷ parts ends d) h in two.cells t u m ends e d o p.0 p.1;
-      tally = λ ns s o h. let p = texts t u (tally_texts s) h in two.tally t u ns s o p.0 p.1;
       elide_end_of = λ room s e m h. let p = texts t u (s ∷ e ∷ []) h in two.elide_end_lem t u room s e m p.0 p.1.0;
       elide_start_of = λ room s e m h. let p = texts t u (s ∷ e ∷ []) h in two.elide_start_lem t u room s e m p.0 p.1.0;
       width = λ d h. two.width t u d (one d h);
@@ -61,7 +61,6 @@ published = record {
   floor = λ l o r h. own.floor l o r ∙ ap (λ (x : Bytes → List Character). By.floor_outcome x l o r) own_reading;
   wrap_bytes_of = λ w b d room h. own.wrap-bytes w b d room ∙ ap (λ (x : Bytes → List Character). By.wrap_bytes_outcome x w b d room) own_reading;
   cells = λ m ends e d o h. own.cells m ends e d o ∙ ap (λ (x : Bytes → List Character). By.cells_outcome x m ends e d o) own_reading;
-  tally = λ ns s o h. own.tally ns s o ∙ ap (λ (x : Bytes → List Character). By.tally_outcome x ns s o) own_reading;
   elide_end_of = λ room s e m h. own.elide_end_lem room s e m ∙ ap (λ (x : Bytes → List Character). By.elide_end_outcome x room s e m) own_reading;
   elide_start_of = λ room s e m h. own.elide_start_lem room s e m ∙ ap (λ (x : Bytes → List Character). By.elide_start_outcome x room s e m) own_reading;
   width = λ d h. own.width d ∙ ap (λ (x : Bytes → List Character). By.text_width_of x d) own_reading;
@@ -81,7 +80,6 @@ joined Ok Fine f a b c p q = record {
   floor = λ l o r h. p.floor l o r tt ∙ q.floor l o r (f _ h);
   wrap_bytes_of = λ w t d room h. p.wrap_bytes_of w t d room tt ∙ q.wrap_bytes_of w t d room (f _ h);
   cells = λ m ends e d o h. p.cells m ends e d o tt ∙ q.cells m ends e d o (f _ h);
-  tally = λ ns s o h. p.tally ns s o tt ∙ q.tally ns s o (f _ h);
   elide_end_of = λ room s e m h. p.elide_end_of room s e m tt ∙ q.elide_end_of room s e m (f _ h);
   elide_start_of = λ room s e m h. p.elide_start_of room s e m tt ∙ q.elide_start_of room s e m (f _ h);
   width = λ d h. p.width d tt ∙ q.width d (f _ h);
@@ -113,7 +111,6 @@ answered Ok b p = record {
   floor = λ l r old new x h k. subst (λ (o : Outcome). Promised o old new x) (p.floor l (room_in old) r h) k;
   wrap_bytes_of = λ w t d old new x h k. subst (λ (o : Outcome). Promised o (lent_lines old) (lent_lines new) x) (p.wrap_bytes_of w t d (length old) h) k;
   cells = λ m ends e d old new x h k. subst (λ (o : Outcome). Promised o old new x) (p.cells m ends e d (room_in old) h) k;
-  tally = λ ns s old new x h k. subst (λ (o : Outcome). Promised o old new x) (p.tally ns s (room_in old) h) k;
   elide_end_of = λ s e old new m x h k. subst (λ (o : Outcome). Promised o (lent old) (lent new) x) (p.elide_end_of (length old) s e m h) k;
   elide_start_of = λ s e old new m x h k. subst (λ (o : Outcome). Promised o (lent old) (lent new) x) (p.elide_start_of (length old) s e m h) k;
   wraplist = λ s old new n h k. (k.0 ∙ ap length (p.wraplist s h), k.1 ∙ ap (λ (y : Bytes). over y old) (p.wraplist s h));
@@ -128,3 +125,17 @@ lists Ok a b p (c ∷ cs) r h =
       ap (λ (os : List Outcome). a.layout c r ∷ os) k.0 ∙ ap (λ (o : Outcome). o ∷ outcomes_by b cs (content_after o r)) e,
       k.1 ∙ ap (λ (o : Outcome). run_by b cs (content_after o r)) e,
     )
+
+-- ── the tally sheet
+pub tally_alike : TallyAlike
+tally_alike t u ns s o h = let p = texts t u (tally_texts s) h in two.tally t u ns s o p.0 p.1
+
+pub tally_published : TallyPublished
+tally_published ns s o h = own.tally ns s o ∙ ap (λ (x : Bytes → List Character). By.tally_outcome x ns s o) own_reading
+
+pub tally_unchanged : TallyUnchanged
+tally_unchanged t Ok f ns s o h =
+    tally_published ns s o tt ∙ tally_alike ranges t ns s o (all_texts Ok (AsWide ranges t) f (tally_texts s) h)
+
+pub tally_answered : (Ok : List Bytes → Type 0) (b : List ℕ → Bytes → Room → Outcome) → TallySameOn Ok tally_outcome b → TallyAnsweredBy b Ok
+tally_answered Ok b p ns s old new x h k = subst (λ (o : Outcome). Promised o old new x) (p ns s (room_in old) h) k

@@ -11,9 +11,10 @@ use Rattle.layout.specs.Wrap.{line_of}
 use Rattle.layout.specs.Layout.{pad_end, replace, expand_tabs, Call}
 use Rattle.layout.specs.Pins.{roomy, replacement}
 use Rattle.elide.specs.Elide.{elided}
+use Rattle.tally.specs.Tally.{tally_outcome}
 use Rattle.width_tables.specs.ByTable as By
 use Rattle.width_tables.specs.ByTable.{chars_by}
-use Rattle.width_tables.specs.Tables.{Answers, library, by_table, SameOn, TextsOf, AnsweredBy, run_by, ListsAlike}
+use Rattle.width_tables.specs.Tables.{Answers, library, by_table, SameOn, TextsOf, AnsweredBy, run_by, ListsAlike, TallySameOn, TallyAnsweredBy}
 
 -- a face or a truck
 abbrev pub face_or_truck : ℕ → Bool
@@ -48,7 +49,6 @@ pub record AsItWas : Type 0 where
   pub star : before.floor x roomy (recording face (0 ∷ 0 ∷ 0 ∷ 1 ∷ 4 ∷ 1 ∷ 0 ∷ 0 ∷ []) x)
       ≡ done (record { recording = recording (0x2A ∷ []) (0 ∷ 0 ∷ 0 ∷ 1 ∷ 1 ∷ 1 ∷ 0 ∷ 0 ∷ []) x; lines = []; number = 0 })
   pub short : By.elide_start_of as_before_of 2 (0x61 ∷ 0x62 ∷ face) (0x2E ∷ []) ≡ elided (0x2E ∷ face) 2
-  pub laid : By.laid_cell_of as_before_of (record { width = 3; alignment = 0 }) faces ≡ faces ++ 0x20 ∷ []
 
 -- ── over a list: F0 9F, with 98 80 put behind it, then padded at the end to 3 by `.`
 abbrev pub cut_off : Recording
@@ -80,3 +80,9 @@ pub record FacesAndTrucks : Type 0 where
   pub lists : ListsAlike (TextsOf Other) library before
   pub rows : AsItWas
   pub joined : Joined
+
+-- and the tally sheet, which came later
+pub record TallyAsBefore : Type 0 where
+  pub calls : TallySameOn (TextsOf Other) tally_outcome (By.tally_outcome (chars_by nineteen_ranges))
+  pub running : TallyAnsweredBy (By.tally_outcome (chars_by nineteen_ranges)) (TextsOf Other)
+  pub laid : By.laid_cell_of as_before_of (record { width = 3; alignment = 0 }) faces ≡ faces ++ 0x20 ∷ []

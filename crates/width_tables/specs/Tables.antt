@@ -31,8 +31,6 @@ pub record Answers : Type 0 where
   pub wrap_bytes_of : ℕ → Bool → Bytes → ℕ → Outcome
   -- a page of cells: width, part ends, ellipsis, data, lengths of the lent buffers
   pub cells : ℕ → List ℕ → Bytes → Bytes → Room → Outcome
-  -- the tally sheet: the columns' numbers, input, lengths of the lent buffers
-  pub tally : List ℕ → Bytes → Room → Outcome
   -- plain text: length of the lent buffer, text, ellipsis, width; `complete_newline` asks no width
   pub elide_end_of : ℕ → Bytes → Bytes → ℕ → Outcome
   pub elide_start_of : ℕ → Bytes → Bytes → ℕ → Outcome
@@ -54,7 +52,6 @@ library = record {
   floor = floor_outcome;
   wrap_bytes_of = wrap_bytes_outcome;
   cells = cells_outcome;
-  tally = tally_outcome;
   elide_end_of = elide_end_outcome;
   elide_start_of = elide_start_outcome;
   width = text_width_of;
@@ -74,7 +71,6 @@ by_table t = record {
   floor = By.floor_outcome (chars_by t);
   wrap_bytes_of = By.wrap_bytes_outcome (chars_by t);
   cells = By.cells_outcome (chars_by t);
-  tally = By.tally_outcome (chars_by t);
   elide_end_of = By.elide_end_outcome (chars_by t);
   elide_start_of = By.elide_start_outcome (chars_by t);
   width = By.text_width_of (chars_by t);
@@ -94,14 +90,6 @@ lent_to (alone (wrapped_lines w b)) r = r.data_bytes ∷ []
 lent_to (alone (replaced_parts xs t)) r = r.data_bytes ∷ t ∷ []
 lent_to (alone (tabs_expanded s)) r = r.data_bytes ∷ []
 
--- of the tally sheet: the cells of all lines, each a text by itself, and the `~` that they are cut with; no width is asked of the space that they are padded with
-abbrev pub all_cells : List Bytes → List Bytes
-all_cells [] = []
-all_cells (l ∷ ls) = cells_of l ++ all_cells ls
-
-abbrev pub tally_texts : Bytes → List Bytes
-tally_texts s = tilde ∷ all_cells (lines_of s)
-
 -- of `wraplist`: the bytes that the good value lines of a sheet stand for; the sheet has them in hexadecimal
 abbrev pub value_text : SheetLine → Bytes
 value_text l = cond (l.ended && good_line l.text) (data_of (data_field l.text)) []
@@ -117,7 +105,6 @@ pub record SameOn (Ok : List Bytes → Type 0) (a b : Answers) : Type 0 where
   pub wrap_bytes_of : (w : ℕ) (t : Bool) (d : Bytes) (room : ℕ) → Ok (d ∷ []) → a.wrap_bytes_of w t d room ≡ b.wrap_bytes_of w t d room
   -- each cell is a text by itself
   pub cells : (m : ℕ) (ends : List ℕ) (e d : Bytes) (o : Room) → Ok (e ∷ parts ends d) → a.cells m ends e d o ≡ b.cells m ends e d o
-  pub tally : (ns : List ℕ) (s : Bytes) (o : Room) → Ok (tally_texts s) → a.tally ns s o ≡ b.tally ns s o
   pub elide_end_of : (room : ℕ) (s e : Bytes) (m : ℕ) → Ok (s ∷ e ∷ []) → a.elide_end_of room s e m ≡ b.elide_end_of room s e m
   pub elide_start_of : (room : ℕ) (s e : Bytes) (m : ℕ) → Ok (s ∷ e ∷ []) → a.elide_start_of room s e m ≡ b.elide_start_of room s e m
   pub width : (d : Bytes) → Ok (d ∷ []) → a.width d ≡ b.width d
@@ -164,8 +151,6 @@ pub record AnsweredBy (b : Answers) (Ok : List Bytes → Type 0) : Type 0 where
       → Promised (b.wrap_bytes_of w t d (length old)) (lent_lines old) (lent_lines new) x
   pub cells : (m : ℕ) (ends : List ℕ) (e d : Bytes) (old new : Lent) (x : Answer) → Ok (e ∷ parts ends d) → Promised (cells_outcome m ends e d (room_in old)) old new x
       → Promised (b.cells m ends e d (room_in old)) old new x
-  pub tally : (ns : List ℕ) (s : Bytes) (old new : Lent) (x : Answer) → Ok (tally_texts s) → Promised (tally_outcome ns s (room_in old)) old new x
-      → Promised (b.tally ns s (room_in old)) old new x
   pub elide_end_of : (s e old new : Bytes) (m : ℕ) (x : Answer) → Ok (s ∷ e ∷ []) → Promised (elide_end_outcome (length old) s e m) (lent old) (lent new) x
       → Promised (b.elide_end_of (length old) s e m) (lent old) (lent new) x
   pub elide_start_of : (s e old new : Bytes) (m : ℕ) (x : Answer) → Ok (s ∷ e ∷ []) → Promised (elide_start_outcome (length old) s e m) (lent old) (lent new) x
@@ -191,3 +176,30 @@ EachFinds Ok a (c ∷ cs) r = Ok (lent_to c.job r) × EachFinds Ok a cs (content
 -- then each call has the same outcome, and what the list leaves is the same
 abbrev pub ListsAlike : (List Bytes → Type 0) → Answers → Answers → Type 0
 ListsAlike Ok a b = (cs : List Call) (r : Recording) → EachFinds Ok a cs r → (outcomes_by a cs r ≡ outcomes_by b cs r) × (run_by a cs r ≡ run_by b cs r)
+
+-- ── the tally sheet, beside the calls above
+-- its texts: the cells of all lines, each a text by itself, and the `~` that they are cut with; no width is asked of the space that they are padded with
+abbrev pub all_cells : List Bytes → List Bytes
+all_cells [] = []
+all_cells (l ∷ ls) = cells_of l ++ all_cells ls
+
+abbrev pub tally_texts : Bytes → List Bytes
+tally_texts s = tilde ∷ all_cells (lines_of s)
+
+-- the same answers, wherever the texts lent are Ok: the columns' numbers, input, lengths of the lent buffers
+abbrev pub TallySameOn : (List Bytes → Type 0) → (List ℕ → Bytes → Room → Outcome) → (List ℕ → Bytes → Room → Outcome) → Type 0
+TallySameOn Ok a b = (ns : List ℕ) (s : Bytes) (o : Room) → Ok (tally_texts s) → a ns s o ≡ b ns s o
+
+-- THE THEOREM of it, over any two tables; by its own table the library answers so; so it does as by another table
+abbrev pub TallyAlike : Type 0
+TallyAlike = (t u : List Range) → TallySameOn (TextsOf (AsWide t u)) (By.tally_outcome (chars_by t)) (By.tally_outcome (chars_by u))
+
+abbrev pub TallyPublished : Type 0
+TallyPublished = TallySameOn (λ ts. Unit {0}) tally_outcome (By.tally_outcome (chars_by ranges))
+
+abbrev pub TallyUnchanged : Type 1
+TallyUnchanged = (t : List Range) (Ok : ℕ → Type 0) → ((c : ℕ) → Ok c → AsWide ranges t c) → TallySameOn (TextsOf Ok) tally_outcome (By.tally_outcome (chars_by t))
+
+-- of what running code leaves
+abbrev pub TallyAnsweredBy : (List ℕ → Bytes → Room → Outcome) → (List Bytes → Type 0) → Type 0
+TallyAnsweredBy b Ok = (ns : List ℕ) (s : Bytes) (old new : Lent) (x : Answer) → Ok (tally_texts s) → Promised (tally_outcome ns s (room_in old)) old new x → Promised (b ns s (room_in old)) old new x
