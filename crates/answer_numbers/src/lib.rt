@@ -6,40 +6,26 @@ ghost use Rattle.std.specs.Prelude.{◌≡◌};
 ghost use Rattle.recording.specs.Outcome.{answer_of, reply_of};
 ghost use Rattle.answer_numbers.specs.Five.{five, three};
 
-use recording::{Answer, Reply, number_of};
+use recording::{Done, Found, Refusal};
 
 // Stores an answer as its five numbers.
-pub fn store(a: Answer, res: &mut [u64; 5])
+#[tactic(auto, unfolding(crate::specs::Five::five))]
+pub fn store(a: Result<Done, Refusal>, res: &mut [u64; 5])
     ensures { res.new ≡ five (answer_of a) }
 {
-    match a {
-        Answer::Refused(f) => {
-            *res = [number_of(f), 0, 0, 0, 0];
-        }
-        Answer::Done {
-            data: d,
-            entries: e,
-            text: t,
-            number: n,
-        } => {
-            *res = [0, d as u64, e as u64, t as u64, n];
-        }
-    }
+    *res = match a {
+        Err(f) => [u64::from(f), 0, 0, 0, 0],
+        Ok(d) => [0, d.data as u64, d.entries as u64, d.text as u64, d.number],
+    };
 }
 
 // Stores a reply as its three numbers.
-pub fn store_reply(a: Reply, res: &mut [u64; 3])
+#[tactic(auto, unfolding(crate::specs::Five::three))]
+pub fn store_reply(a: Result<Found, Refusal>, res: &mut [u64; 3])
     ensures { res.new ≡ three (reply_of a) }
 {
-    match a {
-        Reply::Refused(f) => {
-            *res = [number_of(f), 0, 0];
-        }
-        Reply::Found {
-            first: m,
-            second: n,
-        } => {
-            *res = [0, m as u64, n as u64];
-        }
-    }
+    *res = match a {
+        Err(f) => [u64::from(f), 0, 0],
+        Ok(r) => [0, r.first as u64, r.second as u64],
+    };
 }

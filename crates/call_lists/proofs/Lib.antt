@@ -1,4 +1,3 @@
-pub mod Stores
 pub mod StateLaws
 pub mod RunLaws
 pub mod PromiseLaws

@@ -1,5 +1,7 @@
 -- The promise of `run_calls`, from what its parts promise: refused with nothing touched (`refuses`), or run (`finishes`).
 -- The idea: the front of the first set at the end is the content of the last state, which is `run` of the calls (`StateLaws.run-content`), and `demand3` holds of every list of calls.
+use Rattle.recording.specs.Check.{fault_of}
+use Rattle.std.specs.Prelude as Std
 use Prim.Native.Nat.{ℕ, ◌-◌, ◌*◌, ◌/◌, ◌%◌, ◌≤◌}
 use native.Mathlib.Omega.{arith}
 use mathlib.Core.Bool.{Bool, true, false, cond, not, ◌||◌, ◌&&◌}
@@ -11,18 +13,14 @@ use lib.Seq.{length-take-le}
 use borrow.Author.Tests.{eqb-true, ltb-false, ne_eqb}
 use Rattle.buffer.specs.Place.{over, over_at, part}
 use Rattle.buffer.proofs.Laws.{take_over}
-use Rattle.recording.specs.declared.Answer.TheVariants.{Refused, Done}
 use Rattle.recording.specs.declared.Refusal.{Refusal}
 use Rattle.recording.specs.Recording.{recording}
 use Rattle.recording.specs.Refusals.{number_of_refusal, refuse_if}
-use Rattle.recording.specs.Outcome.{Lent, answer_of}
+use Rattle.recording.specs.Outcome.{Lent}
 use Rattle.recording.proofs.OutcomeLaws.{number_pos}
 use Rattle.recording.proofs.Lists.{or_left, or_right, not_false}
 use Rattle.recording.proofs.FaultLaws.{first_of-zero, refuse_if-zero}
 use Rattle.layout.specs.Lent.{lent_of, front_of}
-use Rattle.writer.specs.declared.Settled.{Settled}
-use Rattle.writer.specs.declared.Settled.TheVariants as S
-use Rattle.writer.specs.Sizes.{settled_fault}
 use Rattle.layout.proofs.Demand3.{demand3}
 use Rattle.call_lists.specs.declared.Held.{Held}
 use Rattle.requests.specs.Requests.{requests_of, all_fit_in}
@@ -80,22 +78,20 @@ accepted g b h =
     }
 
 -- ── what `check_input` found is the fault of the whole list
-pub input_fault_lem : (g : Given) (b : Buffers) (long same : Bool) (v : Settled) → long ≡ used_too_long g b.first → same ≡ alike_sets b.first b.other
-    → settled_fault v ≡ input_fault long same g.calls (length g.pool) (length g.pool_numbers) (length b.answers) → settled_fault v ≡ run_fault g b
+pub input_fault_lem : (g : Given) (b : Buffers) (long same : Bool) (v : Std.Result Unit Refusal) → long ≡ used_too_long g b.first → same ≡ alike_sets b.first b.other
+    → fault_of v ≡ input_fault long same g.calls (length g.pool) (length g.pool_numbers) (length b.answers) → fault_of v ≡ run_fault g b
 unfolding run_fault
 input_fault_lem g b long same v p q h =
     h ∙ ap (λ (x : Bool). input_fault x same g.calls (length g.pool) (length g.pool_numbers) (length b.answers)) p
     ∙ ap (λ (x : Bool). input_fault (used_too_long g b.first) x g.calls (length g.pool) (length g.pool_numbers) (length b.answers)) q
 
-pub is_room : (n : ℕ) (v : Settled) → v ≡ S.Room → settled_fault v ≡ n → n ≡ 0
-unfolding settled_fault
-is_room n v e h = sym h ∙ ap settled_fault e
+pub is_room : (n : ℕ) (v : Std.Result Unit Refusal) → v ≡ (Std.Ok tt) → fault_of v ≡ n → n ≡ 0
+is_room n v e h = sym h ∙ ap fault_of e
 
 -- ── refused
-pub refuses : (g : Given) (b : Buffers) (f : Refusal) (v : Settled) → v ≡ S.Refused f → settled_fault v ≡ run_fault g b → RunsCalls g b b (Refused f)
-unfolding answer_of settled_fault
+pub refuses : (g : Given) (b : Buffers) (f : Refusal) (v : Std.Result Unit Refusal) → v ≡ Std.Err f → fault_of v ≡ run_fault g b → RunsCalls g b b (Std.Err f)
 refuses g b f v e k =
-    let h : number_of_refusal f ≡ run_fault g b = sym (ap settled_fault e) ∙ k in
+    let h : number_of_refusal f ≡ run_fault g b = sym (ap fault_of e) ∙ k in
     let z : eqb (run_fault g b) 0 ≡ false = ne_eqb (run_fault g b) 0 (λ e. omega (arith, number_pos f, h, e)) in
     (rw (z, sym h), (rw z, λ e. absurd (omega (arith, number_pos f, h, e))))
 
@@ -108,7 +104,7 @@ front_kept n xs ys h = subst (λ (i : ℕ). take i (over (take n xs) ys) ≡ tak
 pub stays : (h : Held) (a b : Lent) → h.first ≡ true → a ≡ first_at_end (state h a b [] [])
 stays h a b e = subst (λ (f : Bool). a ≡ cond f a (over_set (front_of h.bytes h.numbers h.texts (cond f a b)) a)) (sym e) refl
 
-whole_part : (n : ℕ) (xs ys : List ℕ) → over_at 0 (part 0 n xs) ys ≡ over (take n xs) ys
+pub whole_part : (n : ℕ) (xs ys : List ℕ) → over_at 0 (part 0 n xs) ys ≡ over (take n xs) ys
 unfolding over_at
 whole_part n xs ys = let z : n - 0 ≡ n = omega arith in rw z
 
@@ -134,8 +130,7 @@ front_at_end h a b k = go h.first
 pub finishes : (g : Given) (b : Buffers) → run_fault g b ≡ 0 → (h : Held) (d e t d' e' t' l n ans x y z : List ℕ)
     → Ran g.pool g.pool_numbers g.calls (at_start g b) b.answers (state h (lent_of d e t) (lent_of d' e' t') l n) ans
     → lent_of x y z ≡ first_at_end (state h (lent_of d e t) (lent_of d' e' t') [] [])
-    → RunsCalls g b (buffers (lent_of x y z) (lent_of d' e' t') l ans) (Done h.bytes h.numbers h.texts h.made)
-unfolding answer_of
+    → RunsCalls g b (buffers (lent_of x y z) (lent_of d' e' t') l ans) (Std.Ok (record { «data» = h.bytes; entries = h.numbers; text = h.texts; number = h.made }))
 finishes g b none h d e t d' e' t' l n ans x y z r back =
     let q : state h (lent_of d e t) (lent_of d' e' t') l n ≡ at_end g b = r.reached in (
       rw none (λ i. record { refusal = 0; data_bytes = (q i).held.bytes; entry_numbers = (q i).held.numbers; text = (q i).held.texts; number = (q i).held.made }),

@@ -1,5 +1,6 @@
 -- The loop over the calls (`Running`): what is left of the list, run from the state as it stands, leads where the whole list leads, and the answers so far are the front of the list of answers.
 -- The idea: one turn makes the first of the calls that are left (`StateLaws.turned`), and its two numbers come after those before.
+use Rattle.recording.specs.Outcome.{Answer}
 use Prim.Native.Nat.{ℕ, ◌+◌, ◌*◌, ◌/◌, ◌≤◌, ◌<◌}
 use native.Mathlib.Omega.{arith}
 use mathlib.Core.Bool.{Bool, true, false, cond, not}
@@ -9,7 +10,6 @@ use lib.Dec.{eqb}
 use lib.ListN.{length, take, drop, length-append, take-append-drop}
 use lib.Seq.{take-append_seam, drop-append_seam, drop-drop, length-take-le}
 use Rattle.buffer.specs.Place.{over, over_at}
-use Rattle.recording.specs.declared.Answer.{Answer}
 use Rattle.recording.specs.Recording.{Bytes}
 use Rattle.recording.specs.Outcome.{Lent, Returned, answer_of}
 use Rattle.layout.specs.Layout.{Job}

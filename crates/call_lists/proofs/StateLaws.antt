@@ -1,5 +1,7 @@
 -- One call, and all calls, on the two sets: the content after a call is `after`, so that of all calls is `run`; sets keep their lengths, so that each call has the same room.
 -- The idea: a call that is not refused fits its room, and the front of what it has written, up to the lengths that it returns, is its result.
+use Rattle.recording.specs.Outcome.{Answer}
+use Rattle.std.specs.Prelude as Std
 use Prim.Native.Nat.{ℕ, ◌≤◌}
 use native.Mathlib.Omega.{arith}
 use mathlib.Core.Bool.{Bool, true, false, cond}
@@ -10,8 +12,6 @@ use lib.Dec.{eqb}
 use lib.ListN.{length}
 use borrow.Author.Tests.{eqb-true, eqb-false, ne_eqb, ltb-false}
 use Rattle.buffer.proofs.Laws.{take_over, length_over}
-use Rattle.recording.specs.declared.Answer.{Answer}
-use Rattle.recording.specs.declared.Answer.TheVariants.{Refused}
 use Rattle.recording.specs.declared.Refusal.{Refusal}
 use Rattle.recording.specs.Recording.{Recording, recording}
 use Rattle.recording.specs.Outcome.{Room, Result, Faults, Outcome, refused, done, refusal_of, settle, Lent, lent_after, room_in, Returned, returned, answer_of}
@@ -72,9 +72,8 @@ held_kept : (n : Returned) (h : Held) → n.refusal ≢ 0 → held_by n h ≡ h
 unfolding held_by
 held_kept n h z = rw (ne_eqb n.refusal 0 z)
 
-pub held_refused : (f : Refusal) (h : Held) → h ≡ held_by (answer_of (Refused f)) h
-unfolding answer_of
-held_refused f h = sym (held_kept (answer_of (Refused f)) h (λ e. omega (arith, number_pos f, e)))
+pub held_refused : (f : Refusal) (h : Held) → h ≡ held_by (answer_of (Std.Err f)) h
+held_refused f h = sym (held_kept (answer_of (Std.Err f)) h (λ e. omega (arith, number_pos f, e)))
 
 -- the line list is no part of a set
 unlisted_other : (h : Held) (a b : Lent) → Sound h a b → Sound h a (three b)

@@ -1,7 +1,7 @@
 -- A list of layout calls on two sets of lent buffers: where the content stands, what each call leaves, what is answered, and the promise of `run_calls`.
+use Rattle.recording.specs.Outcome.{Answer}
 use Rattle.std.specs.Prelude.{ℕ, ◌+◌, ◌*◌, ◌/◌, ◌%◌, ◌≤◌, Bool, true, cond, ◌||◌, ◌&&◌, not, ◌≡◌, List, [], ◌∷◌, ◌++◌, ltb, eqb, length}
 use Rattle.buffer.specs.Place.{over}
-use Rattle.recording.specs.declared.Answer.{Answer}
 use Rattle.recording.specs.Recording.{Bytes, Recording}
 use Rattle.recording.specs.Coloured.{balanced}
 use Rattle.recording.specs.Refusals.{first_of, refuse_if}

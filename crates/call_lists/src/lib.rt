@@ -5,19 +5,19 @@
 ghost use Rattle.std.specs.Prelude.{◌≡◌, [], ◌∷◌, ◌+◌, ◌≤◌, ◌<◌, length, take};
 ghost use Rattle.buffer.specs.Place.{over, over_at};
 ghost use Rattle.recording.specs.Outcome.{answer_of};
-ghost use Rattle.writer.specs.Sizes.{settled_fault};
+ghost use Rattle.recording.specs.Check.{fault_of};
 ghost use Rattle.layout.specs.Lent.{lent_of};
 ghost use Rattle.call_lists.specs.Runs as runs;
 ghost use Rattle.call_lists.specs.Runs.{held_by, two_of, input_fault, state, Sound, first_at_end};
 
 use buffer::put;
-use recording::{Answer, Refusal, number_of};
+use recording::{Done, Refusal};
 use requests::all_fit;
-use writer::Settled;
 
 // Where the content stands: in the first set or in the other one, and up to which lengths; and how many calls were not refused.
 #[derive(Clone, Copy)]
 pub struct Held {
+    // kept: no Option: the lengths beside it are of either set.
     pub first: bool,
     pub bytes: usize,
     pub numbers: usize,
@@ -28,72 +28,63 @@ pub struct Held {
 // ── refusals of the list itself
 
 // Whether one of three used lengths is above its buffer.
+#[tactic(auto, unfolding(crate::specs::Runs::too_long_in))]
 pub fn too_long(d: usize, e: usize, t: usize, bytes: usize, numbers: usize, texts: usize) -> bool
     ensures { result ≡ runs.too_long_in d e t bytes numbers texts }
 {
-    if bytes < d {
-        return true;
-    }
-    if numbers < e {
-        return true;
-    }
-    texts < t
+    bytes < d || numbers < e || texts < t
 }
 
 // Whether two sets have the same lengths.
+#[tactic(auto, unfolding(crate::specs::Runs::alike))]
 pub fn alike(d: usize, e: usize, t: usize, bytes: usize, numbers: usize, texts: usize) -> bool
     ensures { result ≡ runs.alike d e t bytes numbers texts }
 {
-    if d != bytes {
-        return false;
-    }
-    if e != numbers {
-        return false;
-    }
-    t == texts
+    d == bytes && e == numbers && t == texts
 }
 
 // What is refused before any call, in order; `long` and `same` are what the two tests of lengths say, p and q the lengths of the pools, n that of the list of answers.
-pub fn check_input(long: bool, same: bool, calls: &[u32], p: usize, q: usize, n: usize) -> Settled
-    ensures { settled_fault result ≡ input_fault long same calls.now p q n }
+#[tactic(auto, unfolding(crate::specs::Runs::input_fault))]
+pub fn check_input(
+    long: bool,
+    same: bool,
+    calls: &[u32],
+    p: usize,
+    q: usize,
+    n: usize,
+) -> Result<(), Refusal>
+    ensures { fault_of result ≡ input_fault long same calls.now p q n }
 {
     if long {
-        return Settled::Refused(Refusal::LengthOverBuffer);
+        return Err(Refusal::LengthOverBuffer);
     }
     if !same {
-        return Settled::Refused(Refusal::SetsDiffer);
+        return Err(Refusal::SetsDiffer);
     }
-    if calls.len() % 8 != 0 {
-        return Settled::Refused(Refusal::CallNumbers);
-    }
-    if !all_fit(calls, p, q) {
-        return Settled::Refused(Refusal::CallNumbers);
+    if calls.len() % 8 != 0 || !all_fit(calls, p, q) {
+        return Err(Refusal::CallNumbers);
     }
     if n < 2 * (calls.len() / 8) {
-        return Settled::Refused(Refusal::AnswerListTooShort);
+        return Err(Refusal::AnswerListTooShort);
     }
-    Settled::Room
+    Ok(())
 }
 
 // ── between two calls
 
 // Where the content stands after an answer: in the other set if the call is done.
-pub fn moved(s: Held, a: Answer) -> Held
+#[tactic(auto, unfolding(crate::specs::Runs::held_by))]
+pub fn moved(s: Held, a: Result<Done, Refusal>) -> Held
     requires { s.made < 18446744073709551615 }
     ensures { result ≡ held_by (answer_of a) s }
 {
     match a {
-        Answer::Refused(_) => s,
-        Answer::Done {
-            data: d,
-            entries: e,
-            text: t,
-            number: _,
-        } => Held {
+        Err(_) => s,
+        Ok(d) => Held {
             first: !s.first,
-            bytes: d,
-            numbers: e,
-            texts: t,
+            bytes: d.data,
+            numbers: d.entries,
+            texts: d.text,
             made: s.made + 1,
         },
     }
@@ -108,34 +99,17 @@ fn put_two(answers: &mut [u64], k: usize, x: u64, y: u64)
 }
 
 // A call's two numbers: its refusal or 0, and its width or count.
-pub fn put_answer(answers: &mut [u64], k: usize, a: Answer)
+pub fn put_answer(answers: &mut [u64], k: usize, a: Result<Done, Refusal>)
     requires { k + 2 ≤ length answers.old }
     ensures { answers.new ≡ over_at k (two_of (answer_of a)) answers.old }
 {
     match a {
-        Answer::Refused(f) => put_two(answers, k, number_of(f), 0),
-        Answer::Done {
-            data: _,
-            entries: _,
-            text: _,
-            number: n,
-        } => put_two(answers, k, 0, n),
+        Err(f) => put_two(answers, k, u64::from(f), 0),
+        Ok(d) => put_two(answers, k, 0, d.number),
     }
 }
 
 // ── after the last one
-
-// Copies the first n numbers of `from` over the front of `to`.
-pub fn put_numbers(to: &mut [u32], from: &[u32], n: usize)
-    requires { (n ≤ length from.now) × (n ≤ length to.old) }
-    ensures { to.new ≡ over (take n from.now) to.old }
-{
-    let mut i = 0;
-    while i < n {
-        to[i] = from[i];
-        i += 1;
-    }
-}
 
 // Copies a result that stands in the other set to the first one.
 pub fn bring_back(
@@ -156,6 +130,6 @@ pub fn bring_back(
         return;
     }
     put(bytes, 0, other_bytes, 0, s.bytes);
-    put_numbers(numbers, other_numbers, s.numbers);
+    put(numbers, 0, other_numbers, 0, s.numbers);
     put(texts, 0, other_texts, 0, s.texts);
 }

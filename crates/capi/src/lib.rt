@@ -33,6 +33,7 @@ use line_index::{build_line_index, extend_line_index, line_at, place_of};
 use pad::{write_padded_centered, write_padded_end, write_padded_start};
 use readers::{write_for_floor, write_for_office};
 use recorder::{pop_label, push_label, raw, replay, write};
+use recording::Recording;
 use replace::write_replaced_flat;
 use runs::run_calls;
 use tabs::write_tabs_expanded;
@@ -115,8 +116,12 @@ pub extern "C" fn ruszvedok_replay(
         (lent_of out_data.old out_entries.old out_text.old)
         (lent_of out_data.new out_entries.new out_text.new) res.new }
 {
-    let a = replay(content, entries, text, out_data, out_entries, out_text);
-    store(a, res);
+    let content = Recording {
+        bytes: content,
+        entries,
+        text,
+    };
+    store(replay(content, out_data, out_entries, out_text), res);
 }
 
 // Cuts a content wider than max_width at its start and writes the ellipsis before it. The number is the width kept.
@@ -138,19 +143,20 @@ pub extern "C" fn ruszvedok_write_truncated_start(
         (recording content.now entries.now text.now)
         (lent_of bytes.old numbers.old texts.old) (lent_of bytes.new numbers.new texts.new) res.new }
 {
-    let a = write_truncated_start(
-        content,
+    let content = Recording {
+        bytes: content,
         entries,
         text,
-        ellipsis,
-        ellipsis_entries,
-        ellipsis_text,
-        max_width,
-        bytes,
-        numbers,
-        texts,
+    };
+    let ellipsis = Recording {
+        bytes: ellipsis,
+        entries: ellipsis_entries,
+        text: ellipsis_text,
+    };
+    store(
+        write_truncated_start(content, ellipsis, max_width, bytes, numbers, texts),
+        res,
     );
-    store(a, res);
 }
 
 // Cuts a content wider than max_width at its end and writes the ellipsis after it. The number is the width kept.
@@ -172,19 +178,20 @@ pub extern "C" fn ruszvedok_write_truncated_end(
         (recording content.now entries.now text.now)
         (lent_of bytes.old numbers.old texts.old) (lent_of bytes.new numbers.new texts.new) res.new }
 {
-    let a = write_truncated_end(
-        content,
+    let content = Recording {
+        bytes: content,
         entries,
         text,
-        ellipsis,
-        ellipsis_entries,
-        ellipsis_text,
-        max_width,
-        bytes,
-        numbers,
-        texts,
+    };
+    let ellipsis = Recording {
+        bytes: ellipsis,
+        entries: ellipsis_entries,
+        text: ellipsis_text,
+    };
+    store(
+        write_truncated_end(content, ellipsis, max_width, bytes, numbers, texts),
+        res,
     );
-    store(a, res);
 }
 
 // Writes the fill before a content that is narrower than min_width.
@@ -206,19 +213,20 @@ pub extern "C" fn ruszvedok_write_padded_start(
         (recording content.now entries.now text.now)
         (lent_of bytes.old numbers.old texts.old) (lent_of bytes.new numbers.new texts.new) res.new }
 {
-    let a = write_padded_start(
-        content,
+    let content = Recording {
+        bytes: content,
         entries,
         text,
-        fill,
-        fill_entries,
-        fill_text,
-        min_width,
-        bytes,
-        numbers,
-        texts,
+    };
+    let fill = Recording {
+        bytes: fill,
+        entries: fill_entries,
+        text: fill_text,
+    };
+    store(
+        write_padded_start(content, fill, min_width, bytes, numbers, texts),
+        res,
     );
-    store(a, res);
 }
 
 // Writes the fill behind a content that is narrower than min_width.
@@ -240,19 +248,20 @@ pub extern "C" fn ruszvedok_write_padded_end(
         (recording content.now entries.now text.now)
         (lent_of bytes.old numbers.old texts.old) (lent_of bytes.new numbers.new texts.new) res.new }
 {
-    let a = write_padded_end(
-        content,
+    let content = Recording {
+        bytes: content,
         entries,
         text,
-        fill,
-        fill_entries,
-        fill_text,
-        min_width,
-        bytes,
-        numbers,
-        texts,
+    };
+    let fill = Recording {
+        bytes: fill,
+        entries: fill_entries,
+        text: fill_text,
+    };
+    store(
+        write_padded_end(content, fill, min_width, bytes, numbers, texts),
+        res,
     );
-    store(a, res);
 }
 
 // Writes half of the fill, rounded down, before a content that is narrower than min_width and the rest behind it.
@@ -274,19 +283,20 @@ pub extern "C" fn ruszvedok_write_padded_centered(
         (recording content.now entries.now text.now)
         (lent_of bytes.old numbers.old texts.old) (lent_of bytes.new numbers.new texts.new) res.new }
 {
-    let a = write_padded_centered(
-        content,
+    let content = Recording {
+        bytes: content,
         entries,
         text,
-        fill,
-        fill_entries,
-        fill_text,
-        min_width,
-        bytes,
-        numbers,
-        texts,
+    };
+    let fill = Recording {
+        bytes: fill,
+        entries: fill_entries,
+        text: fill_text,
+    };
+    store(
+        write_padded_centered(content, fill, min_width, bytes, numbers, texts),
+        res,
     );
-    store(a, res);
 }
 
 // Writes the prefix before every line that is not empty.
@@ -307,18 +317,17 @@ pub extern "C" fn ruszvedok_write_indented(
         (recording content.now entries.now text.now)
         (lent_of bytes.old numbers.old texts.old) (lent_of bytes.new numbers.new texts.new) res.new }
 {
-    let a = write_indented(
-        content,
+    let content = Recording {
+        bytes: content,
         entries,
         text,
-        prefix,
-        prefix_entries,
-        prefix_text,
-        bytes,
-        numbers,
-        texts,
-    );
-    store(a, res);
+    };
+    let prefix = Recording {
+        bytes: prefix,
+        entries: prefix_entries,
+        text: prefix_text,
+    };
+    store(write_indented(content, prefix, bytes, numbers, texts), res);
 }
 
 // Takes the prefix's bytes out of every line that is not empty.
@@ -339,18 +348,20 @@ pub extern "C" fn ruszvedok_write_unindented(
         (recording content.now entries.now text.now)
         (lent_of bytes.old numbers.old texts.old) (lent_of bytes.new numbers.new texts.new) res.new }
 {
-    let a = write_unindented(
-        content,
+    let content = Recording {
+        bytes: content,
         entries,
         text,
-        prefix,
-        prefix_entries,
-        prefix_text,
-        bytes,
-        numbers,
-        texts,
+    };
+    let prefix = Recording {
+        bytes: prefix,
+        entries: prefix_entries,
+        text: prefix_text,
+    };
+    store(
+        write_unindented(content, prefix, bytes, numbers, texts),
+        res,
     );
-    store(a, res);
 }
 
 // The lines of a text broken at the width, three numbers each: first byte, end and width. The number is how many.
@@ -365,8 +376,7 @@ pub extern "C" fn ruszvedok_wrap_bytes(
     ensures { PromisedNumbers (wrap_bytes_outcome width break_words «data».now (length lines.old))
         (lent_lines lines.old) (lent_lines lines.new) res.new }
 {
-    let a = wrap_bytes(data, width, break_words, lines);
-    store(a, res);
+    store(wrap_bytes(data, width, break_words, lines), res);
 }
 
 // Writes a recording broken at the width. The number is how many lines.
@@ -387,18 +397,15 @@ pub extern "C" fn ruszvedok_write_wrapped(
         (lent_lined bytes.old numbers.old texts.old lines.old)
         (lent_lined bytes.new numbers.new texts.new lines.new) res.new }
 {
-    let a = write_wrapped(
-        content,
+    let content = Recording {
+        bytes: content,
         entries,
         text,
-        width,
-        break_words,
-        bytes,
-        numbers,
-        texts,
-        lines,
+    };
+    store(
+        write_wrapped(content, width, break_words, bytes, numbers, texts, lines),
+        res,
     );
-    store(a, res);
 }
 
 // Writes the content with each record's stretch gone and its part of the replacement text in its stead; a record is four numbers.
@@ -417,8 +424,15 @@ pub extern "C" fn ruszvedok_write_replaced(
     ensures { LeavesNumbers (replace (records_of records.now) new.now) (recording content.now entries.now text.now)
         (lent_of bytes.old numbers.old texts.old) (lent_of bytes.new numbers.new texts.new) res.new }
 {
-    let a = write_replaced_flat(content, entries, text, records, new, bytes, numbers, texts);
-    store(a, res);
+    let content = Recording {
+        bytes: content,
+        entries,
+        text,
+    };
+    store(
+        write_replaced_flat(content, records, new, bytes, numbers, texts),
+        res,
+    );
 }
 
 // Writes the content with each byte 09 replaced by spaces up to the next of the stops, which are `stop` columns apart, from 1 to 64; the spaces carry the tab's labels.
@@ -436,8 +450,15 @@ pub extern "C" fn ruszvedok_write_tabs_expanded(
     ensures { LeavesNumbers (expand_tabs stop) (recording content.now entries.now text.now)
         (lent_of bytes.old numbers.old texts.old) (lent_of bytes.new numbers.new texts.new) res.new }
 {
-    let a = write_tabs_expanded(content, entries, text, stop, bytes, numbers, texts);
-    store(a, res);
+    let content = Recording {
+        bytes: content,
+        entries,
+        text,
+    };
+    store(
+        write_tabs_expanded(content, stop, bytes, numbers, texts),
+        res,
+    );
 }
 
 // Writes what the office reads of a recording: all of it, as replaying leaves it. `label` is the one that hides from the floor.
@@ -457,8 +478,12 @@ pub extern "C" fn ruszvedok_write_for_office(
         (recording content.now entries.now text.now))
         (lent_of bytes.old numbers.old texts.old) (lent_of bytes.new numbers.new texts.new) res.new }
 {
-    let a = write_for_office(content, entries, text, label, bytes, numbers, texts);
-    store(a, res);
+    let content = Recording {
+        bytes: content,
+        entries,
+        text,
+    };
+    store(write_for_office(content, label, bytes, numbers, texts), res);
 }
 
 // Writes what the floor reads of a recording: instead of each character with any byte under the label as many `*` as it is wide, under the labels of its first byte, and no raw sequence that is
@@ -479,8 +504,12 @@ pub extern "C" fn ruszvedok_write_for_floor(
         (recording content.now entries.now text.now))
         (lent_of bytes.old numbers.old texts.old) (lent_of bytes.new numbers.new texts.new) res.new }
 {
-    let a = write_for_floor(content, entries, text, label, bytes, numbers, texts);
-    store(a, res);
+    let content = Recording {
+        bytes: content,
+        entries,
+        text,
+    };
+    store(write_for_floor(content, label, bytes, numbers, texts), res);
 }
 
 // Puts the line index of a recording's data into `index`: 0, and the place after each 0A. The number is how many lines there are.
@@ -495,8 +524,12 @@ pub extern "C" fn ruszvedok_build_line_index(
     ensures { PromisedNumbers (build_outcome (recording content.now entries.now text.now) (length index.old))
         (lent_lines index.old) (lent_lines index.new) res.new }
 {
-    let a = build_line_index(content, entries, text, index);
-    store(a, res);
+    let content = Recording {
+        bytes: content,
+        entries,
+        text,
+    };
+    store(build_line_index(content, index), res);
 }
 
 // Makes a line index that of the data after an append: the first `used` numbers of `index` are that of the first `earlier` bytes. The number is how many lines there are.
@@ -513,8 +546,12 @@ pub extern "C" fn ruszvedok_extend_line_index(
     ensures { PromisedNumbers (extend_outcome (recording content.now entries.now text.now) earlier index.old used)
         (lent_lines index.old) (lent_lines index.new) res.new }
 {
-    let a = extend_line_index(content, entries, text, earlier, index, used);
-    store(a, res);
+    let content = Recording {
+        bytes: content,
+        entries,
+        text,
+    };
+    store(extend_line_index(content, earlier, index, used), res);
 }
 
 // Where line n is, counted from 0: its first byte, and its end, which is the place of its 0A or the data's end. `index` is the line index of the data.
@@ -529,8 +566,12 @@ pub extern "C" fn ruszvedok_line_at(
 )
     ensures { res.new ≡ three (line_replied (recording content.now entries.now text.now) index.now n) }
 {
-    let a = line_at(content, entries, text, index, n);
-    store_reply(a, res);
+    let content = Recording {
+        bytes: content,
+        entries,
+        text,
+    };
+    store_reply(line_at(content, index, n), res);
 }
 
 // The line of an offset and its byte column there, both counted from 0. `index` is the line index of the data.
@@ -545,8 +586,12 @@ pub extern "C" fn ruszvedok_place_of(
 )
     ensures { res.new ≡ three (place_replied (recording content.now entries.now text.now) index.now offset) }
 {
-    let a = place_of(content, entries, text, index, offset);
-    store_reply(a, res);
+    let content = Recording {
+        bytes: content,
+        entries,
+        text,
+    };
+    store_reply(place_of(content, index, offset), res);
 }
 
 // Cuts the parts of a content that end at `ends`, each to max_width at its end with the ellipsis, and joins them; `cells` gets two numbers a cell, its end there and its width.
@@ -565,8 +610,10 @@ pub extern "C" fn ruszvedok_write_truncated_cells(
         (cells_outcome max_width ends.now ellipsis.now content.now (room_in (lent_cells bytes.old cells.old)))
         (lent_cells bytes.old cells.old) (lent_cells bytes.new cells.new) res.new }
 {
-    let a = write_truncated_cells(content, ends, ellipsis, max_width, bytes, cells);
-    store(a, res);
+    store(
+        write_truncated_cells(content, ends, ellipsis, max_width, bytes, cells),
+        res,
+    );
 }
 
 // Lays out a tally sheet: a line of names and lines of values with commas between, in columns of two numbers each, a width and an alignment (0 start, 1 end, 2 centre).
@@ -580,8 +627,7 @@ pub extern "C" fn ruszvedok_write_tally(
     ensures { PromisedNumbers (tally_outcome columns.now input.now (room_in (lent_sheet out.old)))
         (lent_sheet out.old) (lent_sheet out.new) res.new }
 {
-    let a = write_tally(input, columns, out);
-    store(a, res);
+    store(write_tally(input, columns, out), res);
 }
 
 // Runs all layout calls of a list, back and forth between two sets of lent buffers. The number is how many were not refused.
@@ -609,23 +655,25 @@ pub extern "C" fn ruszvedok_run_calls(
         (buffers (lent_of bytes.new numbers.new texts.new) (lent_of other_bytes.new other_numbers.new other_texts.new)
         lines.new answers.new) res.new }
 {
-    let a = run_calls(
-        calls,
-        pool,
-        pool_numbers,
-        data_len,
-        entries_len,
-        text_len,
-        bytes,
-        numbers,
-        texts,
-        other_bytes,
-        other_numbers,
-        other_texts,
-        lines,
-        answers,
+    store(
+        run_calls(
+            calls,
+            pool,
+            pool_numbers,
+            data_len,
+            entries_len,
+            text_len,
+            bytes,
+            numbers,
+            texts,
+            other_bytes,
+            other_numbers,
+            other_texts,
+            lines,
+            answers,
+        ),
+        res,
     );
-    store(a, res);
 }
 
 // The text, shortened at its start to max_width with the ellipsis. The number is its width.
@@ -640,8 +688,7 @@ pub extern "C" fn ruszvedok_elide_start(
     ensures { PromisedNumbers (elide_start_outcome (length out.old) text.now ellipsis.now max_width)
         (lent out.old) (lent out.new) res.new }
 {
-    let a = elide_start(text, ellipsis, max_width, out);
-    store(a, res);
+    store(elide_start(text, ellipsis, max_width, out), res);
 }
 
 // The text, shortened at its end to max_width with the ellipsis. The number is its width.
@@ -656,8 +703,7 @@ pub extern "C" fn ruszvedok_elide_end(
     ensures { PromisedNumbers (elide_end_outcome (length out.old) text.now ellipsis.now max_width)
         (lent out.old) (lent out.new) res.new }
 {
-    let a = elide_end(text, ellipsis, max_width, out);
-    store(a, res);
+    store(elide_end(text, ellipsis, max_width, out), res);
 }
 
 // The text with 0A at its end, which is added unless the text is empty or ends in it.
@@ -666,8 +712,7 @@ pub extern "C" fn ruszvedok_complete_newline(text: &[u8], out: &mut [u8], res: &
     ensures { PromisedNumbers (complete_newline_outcome (length out.old) text.now)
         (lent out.old) (lent out.new) res.new }
 {
-    let a = complete_newline(text, out);
-    store(a, res);
+    store(complete_newline(text, out), res);
 }
 
 // Appends bytes to the data of a recording, of whose buffers the lengths are used.
@@ -685,16 +730,18 @@ pub extern "C" fn ruszvedok_write(
     ensures { PromisedNumbers (written added.now (lent_of content.old entries.now text.now) content_len entries_len text_len)
         (lent_of content.old entries.now text.now) (lent_of content.new entries.now text.now) res.new }
 {
-    let a = write(
-        content,
-        content_len,
-        entries,
-        entries_len,
-        text,
-        text_len,
-        added,
+    store(
+        write(
+            content,
+            content_len,
+            entries,
+            entries_len,
+            text,
+            text_len,
+            added,
+        ),
+        res,
     );
-    store(a, res);
 }
 
 // Pushes a label, at the current end. Where the label was pushed before, the first such push's part of the text is taken and no text is added.
@@ -712,16 +759,18 @@ pub extern "C" fn ruszvedok_push_label(
     ensures { PromisedNumbers (pushed label.now (lent_of content.now entries.old text.old) content_len entries_len text_len)
         (lent_of content.now entries.old text.old) (lent_of content.now entries.new text.new) res.new }
 {
-    let a = push_label(
-        content,
-        content_len,
-        entries,
-        entries_len,
-        text,
-        text_len,
-        label,
+    store(
+        push_label(
+            content,
+            content_len,
+            entries,
+            entries_len,
+            text,
+            text_len,
+            label,
+        ),
+        res,
     );
-    store(a, res);
 }
 
 // A pop of the last label, at the current end.
@@ -738,8 +787,10 @@ pub extern "C" fn ruszvedok_pop_label(
     ensures { PromisedNumbers (popped (lent_of content.now entries.old text.now) content_len entries_len text_len)
         (lent_of content.now entries.old text.now) (lent_of content.now entries.new text.now) res.new }
 {
-    let a = pop_label(content, content_len, entries, entries_len, text, text_len);
-    store(a, res);
+    store(
+        pop_label(content, content_len, entries, entries_len, text, text_len),
+        res,
+    );
 }
 
 // Appends a raw sequence as one entry at the current end.
@@ -757,14 +808,16 @@ pub extern "C" fn ruszvedok_raw(
     ensures { PromisedNumbers (raw_added sequence.now (lent_of content.now entries.old text.old) content_len entries_len text_len)
         (lent_of content.now entries.old text.old) (lent_of content.now entries.new text.new) res.new }
 {
-    let a = raw(
-        content,
-        content_len,
-        entries,
-        entries_len,
-        text,
-        text_len,
-        sequence,
+    store(
+        raw(
+            content,
+            content_len,
+            entries,
+            entries_len,
+            text,
+            text_len,
+            sequence,
+        ),
+        res,
     );
-    store(a, res);
 }

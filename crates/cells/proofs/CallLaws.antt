@@ -1,7 +1,10 @@
--- Where the call returns, and what it has then answered and left: each return gives both clauses of the contract, the second of which follows from the first (`left_in_order`).
+-- Where the call returns, and what it has then answered and left: each return keeps the promise, from which the other clause of the contract follows (`left_in_order`).
+use Rattle.recording.specs.Check.{fault_of}
+use Rattle.std.specs.Prelude as Std
 use Prim.Native.Nat.{ℕ, ◌*◌, ◌≤◌, ◌<◌}
 use native.Mathlib.Omega.{arith}
 use mathlib.Core.Bool.{true, false}
+use mathlib.Core.Logic.{◌⊎◌, inl, inr}
 use mathlib.Core.Path.{◌≡◌, refl, ◌∙◌}
 use mathlib.Core.List.{List, [], ◌∷◌}
 use lib.ListN.{length}
@@ -9,23 +12,17 @@ use borrow.Author.Tests.{lt-ltb}
 use Rattle.buffer.specs.Place.{over}
 use Rattle.recording.specs.declared.Refusal.{Refusal}
 use Rattle.recording.specs.declared.Refusal.TheVariants.{DataTooLong, CellEnds}
-use Rattle.recording.specs.declared.Answer.{Answer}
-use Rattle.recording.specs.declared.Answer.TheVariants.{Refused, Done}
 use Rattle.recording.specs.Recording.{Bytes}
 use Rattle.recording.specs.Refusals.{number_of_refusal, data_limit, first_of, recording_fault}
 use Rattle.recording.specs.Outcome.{Result, Faults, Outcome, over_limit, no_room, refusal_of, Lent, room_in, lent_after, Promised}
 use Rattle.recording.proofs.OutcomeLaws.{stops_content, stops_second, stops_own, stops_sizes, is_refused, is_done, done_answer, promise_refused}
-use Rattle.writer.specs.declared.Settled.{Settled}
-use Rattle.writer.specs.declared.Settled.TheVariants as S
-use Rattle.writer.specs.Sizes.{sizes_fault, settled_fault, room_of_state}
+use Rattle.writer.specs.Sizes.{sizes_fault, room_of_state}
 use Rattle.writer.proofs.Sizes.{Fitting, fitting, size_refused, size_granted}
 use Rattle.cells.specs.Cells.{bare, parts, joined, cell_numbers, wrong_ends_of, cells_faults, cells_result, cells_outcome, lent_cells}
-use Rattle.cells.specs.Measured.{mark_of, length_with}
 use Rattle.cells.specs.Shown.{LeftInOrder}
-use Rattle.cells.proofs.PlanLaws.{joined_length}
+use Rattle.cells.proofs.Shown.{left_in_order}
 use Rattle.cells.proofs.PutLaws.{numbers_length, as_many}
 use Rattle.cells.proofs.CellLaws.{bare_fault, bare_fine}
-use Rattle.cells.proofs.Shown.{left_in_order}
 
 module _ (m : ℕ) (ends : List ℕ) (e d : Bytes) (od on : List ℕ) where
   abbrev b : Lent
@@ -40,47 +37,40 @@ module _ (m : ℕ) (ends : List ℕ) (e d : Bytes) (od on : List ℕ) where
   abbrev u : Outcome
   u = cells_outcome m ends e d (room_in b)
 
-  -- the two clauses of the contract: the second follows from the first
-  abbrev Kept : Lent → Answer → Type 0
-  Kept b' a = Promised u b b' a × LeftInOrder m ends e d b' a
-
-  kept : (b' : Lent) (a : Answer) → Promised u b b' a → Kept b' a
-  kept b' a p = (p, left_in_order m ends e d b b' a p)
-
-  stopped : (f : Refusal) → refusal_of F (room_in b) X ≡ number_of_refusal f → Kept b (Refused f)
+  stopped : (f : Refusal) → refusal_of F (room_in b) X ≡ number_of_refusal f → Promised u b b (Std.Err f)
   unfolding cells_outcome
-  stopped f h = kept b (Refused f) (promise_refused u f b (is_refused F (room_in b) X f h))
+  stopped f h = promise_refused u f b (is_refused F (room_in b) X f h)
 
   -- ── what the call is given
   over_limit_lem : (s : Bytes) → data_limit < length s → recording_fault (bare s) ≡ 1
   over_limit_lem s h = bare_fault s ∙ rw (lt-ltb data_limit (length s) h)
 
-  pub data_refused : data_limit < length d → Kept b (Refused DataTooLong)
-  unfolding cells_faults number_of_refusal
+  data_refused : data_limit < length d → Promised u b b (Std.Err DataTooLong)
+  unfolding cells_faults
   data_refused h = stopped DataTooLong (stops_content F (room_in b) X refl (omega (arith, over_limit_lem d h)) ∙ over_limit_lem d h)
 
   module _ (data_short : length d ≤ data_limit) where
-    pub ellipsis_refused : data_limit < length e → Kept b (Refused DataTooLong)
-    unfolding cells_faults number_of_refusal
+    ellipsis_refused : data_limit < length e → Promised u b b (Std.Err DataTooLong)
+    unfolding cells_faults
     ellipsis_refused h = stopped DataTooLong (stops_second F (room_in b) X refl (bare_fine d data_short) (omega (arith, over_limit_lem e h)) ∙ over_limit_lem e h)
 
     module _ (mark-short : length e ≤ data_limit) where
-      pub ends_refused : wrong_ends_of ends (length d) ≡ true → Kept b (Refused CellEnds)
-      unfolding cells_faults number_of_refusal
+      pub ends_refused : wrong_ends_of ends (length d) ≡ true → Promised u b b (Std.Err CellEnds)
+      unfolding cells_faults
       ends_refused h =
           let own : F.own ≡ 38 = rw h in
           stopped CellEnds (stops_own F (room_in b) X refl (bare_fine d data_short) (bare_fine e mark-short) refl refl (omega (arith, own)) ∙ own)
 
       -- ── only the result is left to be judged: v settles the sizes
-      module _ (right : wrong_ends_of ends (length d) ≡ false) (v : Settled)
-          (g : settled_fault v ≡ sizes_fault (length_with (mark_of m e) m (parts ends d)) 0 0 (length ends * 2) (room_of_state (length od) 0 0 (length on))) where
+      module _ (right : wrong_ends_of ends (length d) ≡ false) (v : Std.Result Unit Refusal)
+          (g : fault_of v ≡ sizes_fault (length (joined m e (parts ends d))) 0 0 (length ends * 2) (room_of_state (length od) 0 0 (length on))) where
         judged : refusal_of F (room_in b) X ≡ first_of (over_limit X.recording ∷ no_room (room_in b) X ∷ [])
         unfolding cells_faults
         judged = stops_sizes F (room_in b) X refl (bare_fine d data_short) (bare_fine e mark-short) refl refl (rw right)
 
-        long : length_with (mark_of m e) m (parts ends d) ≡ length X.recording.data_bytes
+        long : length (joined m e (parts ends d)) ≡ length X.recording.data_bytes
         unfolding cells_result
-        long = joined_length m e (parts ends d)
+        long = refl
 
         many : length ends * 2 ≡ length X.lines
         unfolding cells_result
@@ -94,10 +84,10 @@ module _ (m : ℕ) (ends : List ℕ) (e d : Bytes) (od on : List ℕ) where
         unfolding cells_result
         no_text = refl
 
-        pub sizes_refused : (f : Refusal) → v ≡ S.Refused f → Kept b (Refused f)
+        pub sizes_refused : (f : Refusal) → v ≡ Std.Err f → Promised u b b (Std.Err f)
         sizes_refused f q = stopped f (judged ∙ size_refused X (room_in b) v f _ 0 0 _ g q long none no_text many)
 
-        module _ (q : v ≡ S.Room) where
+        module _ (q : v ≡ (Std.Ok tt)) where
           fit : Fitting X (room_in b)
           fit = fitting X (room_in b) (size_granted X (room_in b) v _ 0 0 _ g q long none no_text many)
 
@@ -110,10 +100,21 @@ module _ (m : ℕ) (ends : List ℕ) (e d : Bytes) (od on : List ℕ) where
           is_result = judged ∙ size_granted X (room_in b) v _ 0 0 _ g q long none no_text many
 
           -- and it is written
-          pub written : (n : ℕ) (nd nn : List ℕ) → n ≡ length (joined m e (parts ends d)) → nd ≡ over (joined m e (parts ends d)) od → nn ≡ over (cell_numbers m e 0 (parts ends d)) on
-              → Kept (lent_cells nd nn) (Done n 0 0 (length ends))
+          leaves : (n : ℕ) (nd nn : List ℕ) → n ≡ length (joined m e (parts ends d)) → nd ≡ over (joined m e (parts ends d)) od → nn ≡ over (cell_numbers m e 0 (parts ends d)) on
+              → Promised u b (lent_cells nd nn) (Std.Ok (record { «data» = n; entries = 0; text = 0; number = length ends }))
           unfolding cells_outcome cells_result lent_after over
-          written n nd nn en ed el = kept (lent_cells nd nn) (Done n 0 0 (length ends)) (
+          leaves n nd nn en ed el = (
             done_answer F (room_in b) X n 0 0 (length ends) is_result en refl refl refl,
             rw (is_done F (room_in b) X is_result) (λ i. lent_cells (ed i) (el i)),
           )
+
+          -- both clauses of the contract: the second follows from the first
+          pub written : (n : ℕ) (nd nn : List ℕ) → n ≡ length (joined m e (parts ends d)) → nd ≡ over (joined m e (parts ends d)) od → nn ≡ over (cell_numbers m e 0 (parts ends d)) on
+              → Promised u b (lent_cells nd nn) (Std.Ok (record { «data» = n; entries = 0; text = 0; number = length ends }))
+              × LeftInOrder m ends e d (lent_cells nd nn) (Std.Ok (record { «data» = n; entries = 0; text = 0; number = length ends }))
+          written n nd nn en ed el = let p = leaves n nd nn en ed el in (p, left_in_order m ends e d b (lent_cells nd nn) (Std.Ok (record { «data» = n; entries = 0; text = 0; number = length ends })) p)
+
+  -- either text is too long
+  pub long_refused : (data_limit < length d) ⊎ ((length d ≤ data_limit) × (data_limit < length e)) → Promised u b b (Std.Err DataTooLong)
+  long_refused (inl h) = data_refused h
+  long_refused (inr h) = ellipsis_refused h.0 h.1

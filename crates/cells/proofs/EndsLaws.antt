@@ -1,38 +1,55 @@
 -- The ends of the cells: what is known where some of them are behind (`Ahead`), and that the cells are the data, all of it.
 -- The idea: ends that never fall and end at the data's end cut the data into neighbouring parts.
-use Prim.Native.Nat.{ℕ, ◌+◌, ◌-◌, ◌≤◌, ◌<◌}
+use Prim.Native.Nat.{ℕ, zero, suc, ◌+◌, ◌-◌, ◌≤◌, ◌<◌}
 use native.Mathlib.Omega.{arith}
 use native.Mathlib.Numerals.{add-one}
 use mathlib.Core.Bool.{Bool, true, false, ◌&&◌, ◌||◌, not}
 use mathlib.Core.Path.{◌≡◌, refl, sym, ap, ◌∙◌}
 use mathlib.Core.List.{List, [], ◌∷◌, ◌++◌, flatten}
+use Rattle.std.specs.Prelude.{Some, unwrap_or, slice_get}
+use Rattle.std.specs.List.{IsAllAdjacentAnswer}
+use Rattle.std.specs.Ordering.{nat_cmp, is_le, is_some_and}
+use Rattle.std.proofs.lemmas.List.Sorted.{non_decreasing_from_is_sorted}
 use lib.Dec.{leb, ltb, eqb}
 use lib.ListN.{length, take, drop, get_or, take-append-drop, drop_of_length-le}
 use lib.Seq.{drop-drop, drop-cons}
-use borrow.Author.Tests.{leb-true, lt-ltb, le-ltb, lt-leb, le-leb, eqb-true, ltb-false}
+use borrow.Author.Tests.{leb-true, lt-leb, le-leb, eqb-true, ltb-false}
 use Rattle.buffer.specs.Place.{part}
 use Rattle.recording.specs.Recording.{Bytes}
 use Rattle.recording.proofs.Lists.{and_left, and_right, or_left, or_right, not_false}
 use Rattle.cells.specs.Cells.{parts_from, parts, cell_limit, never_fall, last_end, wrong_ends_of}
 
+-- ── whether ends fall, told by neighbours, and the last of them by its place
+rises : (from : ℕ) (ends : List ℕ) → never_fall from ends ≡ true → (k : ℕ) → k + 1 < length ends → get_or ends k 0 ≤ get_or ends (k + 1) 0
+rises from [] h k l = absurd (omega arith)
+rises from (a ∷ []) h k l = absurd (omega arith)
+rises from (a ∷ b ∷ ends) h zero l = leb-true a b (and_left (leb a b) (never_fall b ends) (and_right (leb from a) (never_fall a (b ∷ ends)) h))
+rises from (a ∷ b ∷ ends) h (suc k) l = rw add-one (rw add-one at (rises a (b ∷ ends) (and_right (leb from a) (never_fall a (b ∷ ends)) h) k (omega arith)))
+
+in_order : (from : ℕ) (ends : List ℕ) → (0 < length ends → from ≤ get_or ends 0 0) → ((k : ℕ) → k + 1 < length ends → get_or ends k 0 ≤ get_or ends (k + 1) 0) → never_fall from ends ≡ true
+in_order from [] up h = refl
+in_order from (a ∷ ends) up h = rw (le-leb from a (up (omega arith))) (in_order a ends (λ l. h 0 (omega arith)) (λ k l. rw add-one (rw add-one at (h (suc k) (omega arith)))))
+
+pub sorted_is : (ends : List ℕ) (r : Bool) → IsAllAdjacentAnswer (λ x y b. is_some_and is_le (Some (nat_cmp x y)) ≡ b) ends r → r ≡ never_fall 0 ends
+sorted_is ends true h = sym (in_order 0 ends (λ l. omega arith) (λ k l. (non_decreasing_from_is_sorted ends true h) k (k + 1) 0 (omega arith) l))
+sorted_is ends false h = go (never_fall 0 ends) refl
+  where
+    go : (t : Bool) → never_fall 0 ends ≡ t → false ≡ t
+    go true z =
+        let w = non_decreasing_from_is_sorted ends false h in
+        absurd (omega (arith, w.2 0, rises 0 ends z w.0 w.1))
+    go false z = refl
+
+last_from : (from : ℕ) (ends : List ℕ) → last_end from ends ≡ unwrap_or (slice_get (from ∷ ends) (length ends)) 0
+last_from from [] = refl
+last_from from (a ∷ ends) = last_from a ends
+
+pub last_is : (ends : List ℕ) → last_end 0 ends ≡ unwrap_or (slice_get ends (length ends - 1)) 0
+last_is [] = refl
+last_is (a ∷ ends) = let e : length (a ∷ ends) - 1 ≡ length ends = omega arith in rw e (last_from a ends)
+
 -- ── the test of all ends, and what it says
 module _ (ends : List ℕ) (n : ℕ) where
-  pub too_many : 64 < length ends → true ≡ wrong_ends_of ends n
-  unfolding wrong_ends_of
-  too_many h = rw (lt-ltb 64 (length ends) h)
-
-  pub falls : never_fall 0 ends ≡ false → true ≡ wrong_ends_of ends n
-  unfolding wrong_ends_of
-  falls h = go (ltb cell_limit (length ends))
-    where
-      go : (t : Bool) → true ≡ (t || not (never_fall 0 ends) || not (eqb (last_end 0 ends) n))
-      go true = refl
-      go false = rw h
-
-  pub judged : length ends ≤ 64 → never_fall 0 ends ≡ true → not (eqb (last_end 0 ends) n) ≡ wrong_ends_of ends n
-  unfolding wrong_ends_of
-  judged a b = rw (le-ltb 64 (length ends) a, b)
-
   pub few : wrong_ends_of ends n ≡ false → length ends ≤ 64
   unfolding wrong_ends_of
   few h = ltb-false 64 (length ends) (or_left (ltb cell_limit (length ends)) (not (never_fall 0 ends)) (or_left (ltb cell_limit (length ends) || not (never_fall 0 ends)) (not (eqb (last_end 0 ends) n)) h))

@@ -1,4 +1,5 @@
 pub mod Cells
 pub mod Measured
+pub mod OnPage
 pub mod Shown
 pub mod Pins

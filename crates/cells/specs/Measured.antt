@@ -1,5 +1,5 @@
--- What the code knows of the ellipsis once it is measured, and what it then keeps of a cell and of all cells. `proofs/PlanLaws.antt` joins it to the truncating call's plan and to the definitions.
-use Rattle.std.specs.Prelude.{ℕ, ◌+◌, ◌-◌, true, false, cond, List, [], ◌∷◌, ltb, length}
+-- What the code knows of the ellipsis once it is measured, and what it then keeps of a cell. `proofs/PlanLaws.antt` joins it to the truncating call's plan and to the definitions.
+use Rattle.std.specs.Prelude.{ℕ, ◌+◌, ◌-◌, true, false, cond, ltb, length}
 use Rattle.chars.specs.Chars.{text_width_of}
 use Rattle.chars.specs.Cut.{truncate_end_pos_of, truncate_end_width}
 use Rattle.recording.specs.Recording.{Bytes}
@@ -16,8 +16,3 @@ plan_with k m cell =
     cond (ltb m (text_width_of cell))
     (record { cut = true; content = truncate_end_pos_of k.room cell; ellipsis = k.kept; width = truncate_end_width k.room cell + k.width })
     (record { cut = false; content = length cell; ellipsis = 0; width = text_width_of cell })
-
--- how long the joined cells are
-abbrev pub length_with : Mark → ℕ → List Bytes → ℕ
-length_with k m [] = 0
-length_with k m (cell ∷ cells) = ((plan_with k m cell).content + (plan_with k m cell).ellipsis) + length_with k m cells

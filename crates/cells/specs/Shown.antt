@@ -1,8 +1,8 @@
 -- What Q-9 asks to be shown, clause by clause; `proofs/Shown.antt` has all of it, and the call's contract has `LeftInOrder`.
-use Rattle.std.specs.Prelude.{ℕ, ◌+◌, ◌*◌, ◌≤◌, true, ◌≡◌, ltb, length, take}
+use Rattle.recording.specs.Outcome.{Answer}
+use Rattle.std.specs.Prelude.{ℕ, ◌*◌, ◌≤◌, true, ◌≡◌, ltb, length, take}
 use mathlib.Core.List.{List, [], ◌∷◌, ◌++◌, flatten}
 use Rattle.chars.specs.Chars.{Character, chars, text_width_of, well_formed_of}
-use Rattle.recording.specs.declared.Answer.{Answer}
 use Rattle.recording.specs.Lists.{AllOf}
 use Rattle.recording.specs.Recording.{Bytes}
 use Rattle.recording.specs.Refusals.{data_limit, first_of, refuse_if}

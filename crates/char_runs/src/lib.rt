@@ -1,9 +1,8 @@
 // Stretches of whole characters of a text: where the last one ends at or before a place, and how wide those up to a place are.
-// A stretch starts where a character starts. `t` is the table of lead bytes, made once by the public call (`chars`).
+// A stretch starts where a character starts.
 #![tactic(auto)]
 
 ghost use Rattle.std.specs.Prelude.{◌≡◌, true, ◌+◌, ◌-◌, ◌*◌, ◌≤◌, ◌<◌, length, drop};
-ghost use Rattle.chars.specs.Leads.{lead_table};
 ghost use Rattle.chars.specs.Utf8.{within};
 ghost use Rattle.chars.specs.Chars.{Seam};
 ghost use Rattle.char_runs.specs.Runs.{WholeUpTo, VisibleFrom, Covered};
@@ -21,44 +20,38 @@ pub struct Stretch {
 fn continues(b: u8) -> bool
     ensures { result ≡ within 0x80 0xBF b }
 {
-    if b < 0x80 {
-        return false;
-    }
-    b <= 0xBF
+    (0x80..=0xBF).contains(&b)
 }
 
 // A place before `end` at which a character starts: the last byte there that continues no sequence, or `at`.
+#[tactic(auto, using(crate::proofs::RunLaws::seam_before, crate::proofs::RunLaws::seam_none))]
 fn near_start(s: &[u8], at: usize, end: usize) -> usize
     requires { (at < end) × (end ≤ length s.now) }
     ensures { (at ≤ result) × (result < end) × Seam (drop at s.now) (result - at) }
 {
-    let mut i = end - 1;
-    while at < i {
+    for i in (at + 1..end).rev() {
         if !continues(s[i]) {
             return i;
         }
-        i -= 1;
     }
     at
 }
 
 // Where the last whole character ends from `at` up to `end`. Only if the byte at `end` continues a sequence are characters read, the few before it.
-pub fn whole_end(t: &[u16; 256], s: &[u8], at: usize, end: usize) -> usize
-    requires t_value { t.now ≡ lead_table }
-    requires at_lt_end { (at < end) × (end ≤ length s.now) }
+#[tactic(auto, using(crate::proofs::RunLaws::seam_end, crate::proofs::RunLaws::seam_before, crate::proofs::RunLaws::char_further))]
+pub fn whole_end(s: &[u8], at: usize, end: usize) -> usize
+    requires { (at < end) × (end ≤ length s.now) }
     ensures { WholeUpTo s.now at end result }
 {
-    if end == s.len() {
-        return end;
-    }
-    if !continues(s[end]) {
+    if end == s.len() || !continues(s[end]) {
         return end;
     }
     let mut i = near_start(s, at, end);
+    // kept: no `for`: a step is as long as the character that is read.
     while i < end {
-        let c = seen_at(t, s, i);
+        let c = seen_at(s, i);
         if end < i + c.len {
-            return i;
+            break;
         }
         i += c.len;
     }
@@ -70,47 +63,29 @@ fn visible_end(s: &[u8], at: usize, end: usize) -> usize
     requires { (at ≤ end) × (end ≤ length s.now) }
     ensures { (at ≤ result) × (result ≤ end) × VisibleFrom s.now at result }
 {
-    let mut i = at;
-    while i < end {
-        if s[i] < 0x20 {
-            break;
-        }
-        if 0x7F <= s[i] {
-            break;
-        }
-        i += 1;
-    }
-    i
+    at + s[at..end]
+        .iter()
+        .take_while(|b| (0x20..=0x7E).contains(*b))
+        .count()
 }
 
 // The whole characters from `at` up to `end`, or up to the first 0A among them.
-pub fn covered(t: &[u16; 256], s: &[u8], at: usize, end: usize) -> Stretch
-    requires t_value { t.now ≡ lead_table }
-    requires at_lt_end { (at < end) × (end ≤ length s.now) × (length s.now ≤ 1048576) }
+#[tactic(auto, using(crate::proofs::RunLaws::plain_covered, crate::proofs::RunLaws::newline_covered))]
+pub fn covered(s: &[u8], at: usize, end: usize) -> Stretch
+    requires { (at < end) × (end ≤ length s.now) × (length s.now ≤ 1048576) }
     ensures covered { Covered s.now at end result }
     ensures width_bound { result.width ≤ 2 * length s.now }
 {
     let mut i = visible_end(s, at, end);
     let mut width = i - at;
-    while i < end {
-        if s[i] == 0x0A {
-            return Stretch {
-                end: i,
-                width: width,
-            };
-        }
-        let c = seen_at(t, s, i);
+    // kept: no `for`: a step is as long as the character that is read.
+    while i < end && s[i] != b'\n' {
+        let c = seen_at(s, i);
         if end < i + c.len {
-            return Stretch {
-                end: i,
-                width: width,
-            };
+            break;
         }
         width += c.width as usize;
         i += c.len;
     }
-    Stretch {
-        end: i,
-        width: width,
-    }
+    Stretch { end: i, width }
 }

@@ -31,7 +31,7 @@ module _ (s : List ℕ) (at : ℕ) (ascii : get_or s at 0 < 128) where
   unfolding char_in char_at tail_len complete
   ascii_ok = simp (ascii_row (get_or s at 0) ascii)
 
-  ascii_code : (char_in at s).code ≡ get_or s at 0
+  pub ascii_code : (char_in at s).code ≡ get_or s at 0
   unfolding char_in char_at tail_len complete
   ascii_code = simp (ascii_row (get_or s at 0) ascii)
 

@@ -6,6 +6,7 @@ pub mod Table
 pub mod Leads
 pub mod ReaderLaws
 pub mod RangeLaws
+pub mod RowLaws
 pub mod WidthLaws
 pub mod FoldLaws
 pub mod FitLaws

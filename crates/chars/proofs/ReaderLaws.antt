@@ -7,7 +7,7 @@ use mathlib.Core.List.{List, [], ◌∷◌, tail}
 use lib.Dec.{leb, eqb, T, leb→le}
 use lib.ListN.{length, take, drop, get_or}
 use lib.Seq.{get_or-drop}
-use borrow.Author.Tests.{ne_eqb, le-leb, lt-leb}
+use borrow.Author.Tests.{le-leb, lt-leb}
 use Rattle.chars.specs.Utf8.{Row, within, table37, leads, row_in, row_of, matched, tail_len, complete, code_point}
 use Rattle.chars.specs.Leads.{columns}
 use Rattle.chars.specs.Width.{char_width_of}
@@ -50,35 +50,50 @@ module _ (a b c d low high : ℕ) where
   abbrev By : ℕ → Read
   By n = read_by n (columns n low high) a (b ∷ c ∷ d ∷ [])
 
-  pub no_lead : (n : ℕ) → n ≡ 0 → bad 1 ≡ By n
-  no_lead n e = rw e
-
-  pub one_byte : (n : ℕ) → n ≡ 1 → good a 1 ≡ By n
-  one_byte n e = rw e
-
-  pub no_second : (n : ℕ) → 2 ≤ n → within low high b ≡ false → bad 1 ≡ By n
-  no_second zero h f = absurd (omega arith)
-  no_second (suc zero) h f = absurd (omega arith)
-  no_second (suc (suc n)) h f = simp (f, ne_eqb 1 (suc (suc n)) (λ e. omega arith))
-
   pub two_bytes : (n : ℕ) → n ≡ 2 → within low high b ≡ true → good (a % 32 * 64 + b % 64) 2 ≡ By n
   two_bytes n e f = rw e (simp f)
-
-  pub no_third : (n : ℕ) → 3 ≤ n → within low high b ≡ true → within 0x80 0xBF c ≡ false → bad 2 ≡ By n
-  no_third zero h f g = absurd (omega arith)
-  no_third (suc zero) h f g = absurd (omega arith)
-  no_third (suc (suc zero)) h f g = absurd (omega arith)
-  no_third (suc (suc (suc n))) h f g = simp (f, g, ne_eqb 2 (suc (suc (suc n))) (λ e. omega arith))
 
   pub three_bytes : (n : ℕ) → n ≡ 3 → within low high b ≡ true → within 0x80 0xBF c ≡ true → good (a % 16 * 4096 + b % 64 * 64 + c % 64) 3 ≡ By n
   three_bytes n e f g = rw e (simp (f, g))
 
-  pub no_fourth : (n : ℕ) → n ≡ 4 → within low high b ≡ true → within 0x80 0xBF c ≡ true → within 0x80 0xBF d ≡ false → bad 3 ≡ By n
-  no_fourth n e f g h = rw e (simp (f, g, h))
-
   pub four_bytes : (n : ℕ) → n ≡ 4 → within low high b ≡ true → within 0x80 0xBF c ≡ true → within 0x80 0xBF d ≡ true
       → good (a % 8 * 262144 + b % 64 * 4096 + c % 64 * 64 + d % 64) 4 ≡ By n
   four_bytes n e f g h = rw e (simp (f, g, h))
+
+-- ── the same by tests, one after the other: of n, and of the bytes b, c and d, whose tests give p, q and r
+abbrev tested : ℕ → Bool → Bool → Bool → ℕ → ℕ → ℕ → ℕ → Read
+tested n p q r a b c d =
+    cond (eqb n 0) (bad 1) (cond (eqb n 1) (good a 1) (cond p (cond (eqb n 2) (good (a % 32 * 64 + b % 64) 2)
+    (cond q (cond (eqb n 3) (good (a % 16 * 4096 + b % 64 * 64 + c % 64) 3)
+    (cond r (good (a % 8 * 262144 + b % 64 * 4096 + c % 64 * 64 + d % 64) 4) (bad 3))) (bad 2))) (bad 1)))
+
+by_tests : (n low high a b c d : ℕ) → n ≤ 4
+    → read_by n (columns n low high) a (b ∷ c ∷ d ∷ []) ≡ tested n (within low high b) (within 0x80 0xBF c) (within 0x80 0xBF d) a b c d
+by_tests zero low high a b c d h = refl
+by_tests (suc zero) low high a b c d h = refl
+by_tests (suc (suc zero)) low high a b c d h = go (within low high b) (within 0x80 0xBF c) (within 0x80 0xBF d)
+  where
+    go : (p q r : Bool) → answer 2 a (take (cond p 1 0) (b ∷ c ∷ d ∷ [])) ≡ tested 2 p q r a b c d
+    go true q r = refl
+    go false q r = refl
+by_tests (suc (suc (suc zero))) low high a b c d h = go (within low high b) (within 0x80 0xBF c) (within 0x80 0xBF d)
+  where
+    go : (p q r : Bool) → answer 3 a (take (cond p (suc (cond q 1 0)) 0) (b ∷ c ∷ d ∷ [])) ≡ tested 3 p q r a b c d
+    go true true r = refl
+    go true false r = refl
+    go false q r = refl
+by_tests (suc (suc (suc (suc zero)))) low high a b c d h = go (within low high b) (within 0x80 0xBF c) (within 0x80 0xBF d)
+  where
+    go : (p q r : Bool) → answer 4 a (take (cond p (suc (cond q (suc (cond r 1 0)) 0)) 0) (b ∷ c ∷ d ∷ [])) ≡ tested 4 p q r a b c d
+    go true true true = refl
+    go true true false = refl
+    go true false r = refl
+    go false q r = refl
+by_tests (suc (suc (suc (suc (suc n))))) low high a b c d h = absurd (omega arith)
+
+pub decoded : (a b c d n low high : ℕ) → (n ≡ length (row_of a)) × (tail (row_of a) ≡ columns n low high) × (n ≤ 4)
+    → read_of (char_at a (b ∷ c ∷ d ∷ [])) ≡ tested n (within low high b) (within 0x80 0xBF c) (within 0x80 0xBF d) a b c d
+decoded a b c d n low high l = sym (read_by_lem a (b ∷ c ∷ d ∷ []) n low high l.0 l.1) ∙ by_tests n low high a b c d l.2
 
 -- ── no column after the first has the byte 0
 abbrev solid : Row → Bool

@@ -33,12 +33,3 @@ width_in (r ∷ rs) c = cond (within r.first r.last c) r.columns (width_in rs c)
 
 unfoldable pub char_width_of : ℕ → ℕ
 char_width_of c = width_in ranges c
-
--- the numbers of these ranges in a row: first, last, columns
-abbrev pub numbers_of_ranges : List Range → List ℕ
-numbers_of_ranges [] = []
-numbers_of_ranges (r ∷ rs) = r.first ∷ r.last ∷ r.columns ∷ numbers_of_ranges rs
-
-unfoldable pub range_numbers : List ℕ
-unfolding ranges
-range_numbers = numbers_of_ranges ranges

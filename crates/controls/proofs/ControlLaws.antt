@@ -1,55 +1,65 @@
--- Clean texts: one character further in a loop (`clean_next`, `clean_ill`, `clean_control`); joined they are clean, and so is the beginning that a cut keeps.
+-- Clean texts: one character further in a loop (`clean_read`), and along printable ASCII (`clean_run`); joined they are clean, and so is the beginning that a cut keeps.
 -- The idea: what is asked of a text is asked of each of its characters, and well-formed texts that are joined keep their characters.
-use Prim.Native.Nat.{ℕ, ◌+◌, ◌≤◌, ◌<◌}
+use Prim.Native.Nat.{ℕ, zero, suc, ◌+◌, ◌≤◌, ◌<◌}
 use native.Mathlib.Omega.{arith}
-use mathlib.Core.Bool.{Bool, true, false, cond, ◌||◌, not, false≢true}
+use mathlib.Core.Bool.{Bool, true, false, ◌&&◌, ◌||◌, not, false≢true}
 use mathlib.Core.Path.{◌≡◌, refl, sym, ap, ◌∙◌}
 use mathlib.Core.List.{List, [], ◌∷◌, ◌++◌}
 use lib.ListN.{length, take, drop, get_or}
 use borrow.Author.Tests.{not-true}
+use Rattle.chars.specs.Utf8.{within}
 use Rattle.chars.specs.Chars.{Character, char_in, chars, all_ok, well_formed_of}
 use Rattle.chars.specs.Cut.{kept_within, truncate_end_pos_of}
+use Rattle.chars.specs.Read.{read_of}
+use Rattle.chars.specs.declared.Read.{Read}
 use Rattle.chars.proofs.CharsLaws.{char_next, chars_beginning}
 use Rattle.chars.proofs.CutLaws.{kept_rest, split_kept, kept_end}
-use Rattle.chars.proofs.FoldLaws.{ascii_len, ascii_ok}
+use Rattle.chars.proofs.FoldLaws.{ascii_len, ascii_ok, ascii_code}
 use Rattle.chars.proofs.JoinLaws.{and_both, chars-append}
-use Rattle.chars.proofs.ReaderLaws.{and_false, in_span, below, above}
-use Rattle.controls.proofs.CodeLaws.{ascii_code}
+use Rattle.chars.proofs.RangeLaws.{bounds}
+use Rattle.chars.proofs.ReaderLaws.{and_false, below, above}
 use Rattle.controls.specs.Controls.{is_control, any_control, all_clean, is_clean_text}
 
--- ── what a test of a code point says
-pub control_low : (c : ℕ) → c < 0x20 → is_control c ≡ true
-control_low c h = simp (in_span 0x00 0x1F c (omega arith) (omega arith))
-
-pub control_between : (c : ℕ) → 0x20 ≤ c → c < 0x7F → is_control c ≡ false
-control_between c p q = simp (above 0x00 0x1F c p, below 0x7F 0x9F c q)
-
--- whether a character is well-formed, as the reader of characters tells it
-pub is_false : (b : Bool) → ◌≡◌ {A = ℕ} (cond b 1 0) 0 → b ≡ false
-is_false true e = absurd (omega arith)
-is_false false e = refl
-
-pub is_true : (b : Bool) → (◌≡◌ {A = ℕ} (cond b 1 0) 0 → ⊥) → b ≡ true
-is_true true e = refl
-is_true false e = absurd (e refl)
-
 -- ── one character further
+control_between : (c : ℕ) → 0x20 ≤ c → c ≤ 0x7E → is_control c ≡ false
+control_between c p q = simp (above 0x00 0x1F c p, below 0x7F 0x9F c (omega arith))
+
 module _ (s : List ℕ) (at n : ℕ) (more : at < length s) (e : n ≡ length (char_in at s).text) where
-  pub clean_next : (char_in at s).ok ≡ true → is_control (char_in at s).code ≡ false → all_clean (chars (drop at s)) ≡ all_clean (chars (drop (at + n) s))
-  clean_next h g = rw (char_next s at more, e, h, g)
+  clean_char : (o k : Bool) → (char_in at s).ok ≡ o → is_control (char_in at s).code ≡ k → all_clean (chars (drop at s)) ≡ ((o && not k) && all_clean (chars (drop (at + n) s)))
+  clean_char o k h g = rw (char_next s at more, e, h, g) (go o k)
+    where
+      a : Bool
+      a = all_ok (chars (drop (at + length (char_in at s).text) s))
 
-module _ (s : List ℕ) (at : ℕ) (more : at < length s) where
-  pub clean_ill : (char_in at s).ok ≡ false → all_clean (chars (drop at s)) ≡ false
-  clean_ill h = rw (char_next s at more, h)
+      b : Bool
+      b = any_control (chars (drop (at + length (char_in at s).text) s))
 
-  pub clean_control : is_control (char_in at s).code ≡ true → all_clean (chars (drop at s)) ≡ false
-  clean_control h = rw (char_next s at more, h) (and_false (all_ok (char_in at s ∷ chars (drop (at + length (char_in at s).text) s))))
+      go : (o k : Bool) → ((o && a) && not (k || b)) ≡ ((o && not k) && (a && not b))
+      go true true = and_false a
+      go true false = refl
+      go false k = refl
 
-  -- printable ASCII is a clean character of one byte
-  pub clean_printable : 0x20 ≤ get_or s at 0 → get_or s at 0 < 0x7F → all_clean (chars (drop at s)) ≡ all_clean (chars (drop (at + 1) s))
-  clean_printable p q =
-      let ascii : get_or s at 0 < 128 = omega arith in
-      clean_next s at 1 more (sym (ascii_len s at ascii)) (ascii_ok s at ascii) (ap is_control (ascii_code s at ascii) ∙ control_between (get_or s at 0) p q)
+-- the character that was read decides with those after it
+pub clean_read : (s : List ℕ) (at : ℕ) (r : Read) → at < length s → r ≡ read_of (char_in at s)
+    → all_clean (chars (drop at s)) ≡ ((r.ok && not (is_control r.code)) && all_clean (chars (drop (at + r.len) s)))
+clean_read s at r more e =
+    clean_char s at r.len more (ap (λ (x : Read). x.len) e) r.ok (is_control r.code) (sym (ap (λ (x : Read). x.ok) e)) (sym (ap (λ (x : Read). is_control x.code) e))
+
+-- printable ASCII is a clean character of one byte
+pub clean_printable : (s : List ℕ) (at : ℕ) → at < length s → within 0x20 0x7E (get_or s at 0) ≡ true → all_clean (chars (drop at s)) ≡ all_clean (chars (drop (at + 1) s))
+clean_printable s at more w =
+    let b = bounds 0x20 0x7E (get_or s at 0) w in
+    let ascii : get_or s at 0 < 128 = omega (arith, b.1) in
+    let code = ascii_code s at ascii in
+    clean_char s at 1 more (sym (ascii_len s at ascii)) true false (ascii_ok s at ascii) (ap is_control code ∙ control_between (get_or s at 0) b.0 b.1)
+
+-- and so are more of them
+pub clean_run : (k : ℕ) (s : List ℕ) → k ≤ length s → ((i : ℕ) → i < k → within 0x20 0x7E (get_or s i 0) ≡ true) → all_clean (chars (drop k s)) ≡ is_clean_text s
+unfolding is_clean_text well_formed_of
+clean_run zero s h p = refl
+clean_run (suc k) s h p =
+    let e : suc k ≡ k + 1 = omega arith in
+    rw e (sym (clean_printable s k (omega arith) (p k (omega arith))) ∙ clean_run k s (omega arith) (λ i q. p i (omega arith)))
 
 -- ── clean characters
 pub record Clean (cs : List Character) : Type 0 where

@@ -1,6 +1,6 @@
 -- Reading a well-formed text from its end back: the character before a place starts at the last byte there that is not in 80..BF.
 -- The idea: table 3-7 has only 80..BF in each column after the first (`more_trails`), and none of it in the first one (`no_row`).
-use Prim.Native.Nat.{ℕ, suc, ◌+◌, ◌-◌, ◌≤◌, ◌<◌}
+use Prim.Native.Nat.{ℕ, suc, ◌+◌, ◌-◌, ◌*◌, ◌≤◌, ◌<◌}
 use native.Mathlib.Omega.{arith}
 use mathlib.Core.Bool.{Bool, true, false, cond}
 use mathlib.Core.Path.{◌≡◌, refl, sym, ap, ◌∙◌, subst}
@@ -11,7 +11,7 @@ use lib.Seq.{drop-append_seam, get_or-append-add}
 use borrow.Author.Tests.{leb-true, leb-false, le-leb, lt-leb, eqb-true}
 use Rattle.chars.specs.Utf8.{table37, row_of, Trails, complete}
 use Rattle.chars.specs.Chars.{Character, char_in, chars, bytes_of, wide, width_of, all_ok, well_formed_of}
-use Rattle.chars.specs.Cut.{kept_within}
+use Rattle.chars.specs.Cut.{kept_within, truncate_start_pos_of, truncate_start_width}
 use Rattle.chars.proofs.ReaderLaws.{below, above}
 use Rattle.chars.proofs.TrailLaws.{more_trails, trails_at}
 use Rattle.chars.proofs.JoinLaws.{and_both}
@@ -96,20 +96,20 @@ pub record UpTo (s : List ℕ) (at : ℕ) (back : List Character) : Type 0 where
   pub here : at ≡ length (bytes_of (reverse back))
 
 -- the last of them starts at r, and `rest` are those before it
-pub record Last (s : List ℕ) (at r : ℕ) (back : List Character) : Type 0 where
-  pub last : Character
-  pub rest : List Character
-  pub is : back ≡ last ∷ rest
-  pub up_to : UpTo s r rest
-  pub far : at ≡ r + length last.text
-  pub reads : char_in r s ≡ last
+record Last (s : List ℕ) (at r : ℕ) (back : List Character) : Type 0 where
+  last : Character
+  rest : List Character
+  is : back ≡ last ∷ rest
+  up_to : UpTo s r rest
+  far : at ≡ r + length last.text
+  reads : char_in r s ≡ last
 
-pub up_to_end : (s : List ℕ) → UpTo s (length s) (reverse (chars s))
+up_to_end : (s : List ℕ) → UpTo s (length s) (reverse (chars s))
 up_to_end s =
     let e : reverse (reverse (chars s)) ≡ chars s = reverse-reverse (chars s) in
     record { after = []; split = sym (append-nil (reverse (reverse (chars s))) ∙ e); here = sym (ap (λ (l : List Character). length (bytes_of l)) e ∙ ap length (bytes-chars s)) }
 
-pub last_before : (s : List ℕ) (at r : ℕ) (back : List Character) → well_formed_of s ≡ true → UpTo s at back → 0 < at → StartBefore s at r → Last s at r back
+last_before : (s : List ℕ) (at r : ℕ) (back : List Character) → well_formed_of s ≡ true → UpTo s at back → 0 < at → StartBefore s at r → Last s at r back
 unfolding well_formed_of
 last_before s at r [] ok u some b = absurd (omega (arith, u.here))
 last_before s at r (c ∷ back) ok u some b =
@@ -133,7 +133,7 @@ module _ (s : List ℕ) (at r w m : ℕ) (back : List Character) (l : Last s at 
   kept_last : kept_within m back ≡ cond (leb w m) (l.last ∷ kept_within (m - w) l.rest) []
   kept_last = ap (kept_within m) l.is ∙ rw (e ∙ ap wide l.reads)
 
-  pub last_kept : w ≤ m
+  last_kept : w ≤ m
       → (length (bytes_of (kept_within m back)) ≡ (at - r) + length (bytes_of (kept_within (m - w) l.rest))) × (width_of (kept_within m back) ≡ w + width_of (kept_within (m - w) l.rest))
   last_kept h =
       let k : kept_within m back ≡ l.last ∷ kept_within (m - w) l.rest = kept_last ∙ simp (le-leb w m h) in (
@@ -142,11 +142,52 @@ module _ (s : List ℕ) (at r w m : ℕ) (back : List Character) (l : Last s at 
             (arith, e, ap wide l.reads, ap width_of k),
       )
 
-  pub last_passes : m < w → kept_within m back ≡ []
+  last_passes : m < w → kept_within m back ≡ []
   last_passes h = kept_last ∙ simp (lt-leb w m h)
 
 -- nothing is wide before the first place
-pub none_before : (s : List ℕ) (m : ℕ) (back : List Character) → UpTo s 0 back → width_of (kept_within m back) ≡ 0
+none_before : (s : List ℕ) (m : ℕ) (back : List Character) → UpTo s 0 back → width_of (kept_within m back) ≡ 0
 none_before s m back u =
     let v : Valid (reverse back) = valid_prefix (reverse back) u.after (rw u.split at (valid-chars s)) in
     omega (arith, u.here, width_bound (reverse back) v, width_reverse back, ap width_of (split_kept m back), width_append (kept_within m back) (kept_rest m back))
+
+-- ── the cut at a text's start, read from its end back: `left` is left of max
+pub record SoFar (s : List ℕ) (max at left : ℕ) : Type 0 where
+  pub back : List Character
+  pub up_to : UpTo s at back
+  pub within : at ≤ length s
+  pub room : left ≤ max
+  pub small : max - left ≤ 2 * (length s - at)
+  -- what is still to be kept reaches the cut's place; and the widths
+  pub bytes : at - length (bytes_of (kept_within left back)) ≡ truncate_start_pos_of max s
+  pub columns : max - left + width_of (kept_within left back) ≡ truncate_start_width max s
+
+pub back_start : (s : List ℕ) (max : ℕ) → SoFar s max (length s) max
+unfolding truncate_start_pos_of truncate_start_width
+back_start s max = record { back = reverse (chars s); up_to = up_to_end s; within = omega arith; room = omega arith; small = omega arith; bytes = omega arith; columns = omega arith }
+
+module _ (s : List ℕ) (max at left r w : ℕ) (ok : well_formed_of s ≡ true) (f : SoFar s max at left) (some : 0 < at) (b : StartBefore s at r) (e : w ≡ wide (char_in r s)) where
+  -- the character before `at` is kept
+  pub back_on : w ≤ 2 → w ≤ left → SoFar s max r (left - w)
+  back_on two h =
+      let l = last_before s at r f.back ok f.up_to some b in
+      let n = last_kept s at r w left f.back l e h in
+      record {
+        back = l.rest;
+        up_to = l.up_to;
+        within = omega (arith, b.before, f.within);
+        room = omega (arith, f.room);
+        small = omega (arith, b.before, f.within, f.small, f.room, two, h);
+        bytes = omega (arith, n.0, f.bytes, b.before);
+        columns = omega (arith, n.1, f.columns, f.room, h);
+      }
+
+  -- or it would pass max
+  pub back_stops : left < w → (at ≡ truncate_start_pos_of max s) × (max - left ≡ truncate_start_width max s)
+  back_stops h =
+      let none = last_passes s at r w left f.back (last_before s at r f.back ok f.up_to some b) e h in
+      (omega (arith, ap (λ (cs : List Character). length (bytes_of cs)) none, f.bytes), omega (arith, ap width_of none, f.columns))
+
+-- the text's start
+pub back_end : (s : List ℕ) (max left : ℕ) → SoFar s max 0 left → (0 ≡ truncate_start_pos_of max s) × (max - left ≡ truncate_start_width max s)
+back_end s max left f = (omega (arith, f.bytes), omega (arith, none_before s left f.back f.up_to, f.columns))

@@ -3,96 +3,82 @@ use Prim.Native.Nat.{ℕ, suc, ◌+◌, ◌-◌, ◌≤◌, ◌<◌}
 use native.Mathlib.Omega.{arith}
 use mathlib.Core.Bool.{true, cond}
 use mathlib.Core.Path.{◌≡◌, refl, sym, ap, ◌∙◌}
-use mathlib.Core.List.{[], ◌∷◌, ◌++◌, reverse, append-nil}
+use mathlib.Core.List.{[], ◌∷◌, ◌++◌, reverse}
 use lib.Dec.{eqb}
+use lib.Seq.{take-length}
 use lib.ListN.{length, take, drop, get_or}
-use lib.Seq.{take-length, drop-drop}
 use borrow.Author.Tests.{lt-ltb, le-ltb, eq-eqb, ne_eqb}
-use borrow.Author.Rules.{part_to_end}
 use Rattle.chars.specs.Chars.{chars, width_of, text_width_of, well_formed_of}
-use Rattle.chars.specs.Cut.{kept_within, truncate_end_pos_of, truncate_end_width, truncate_start_pos_of, truncate_start_width, zero_width_len_of}
+use Rattle.chars.specs.Cut.{kept_within, truncate_end_pos_of, truncate_end_width, truncate_start_pos_of, truncate_start_width}
 use Rattle.chars.proofs.CutLaws.{kept_end, width_reverse}
 use Rattle.buffer.specs.Place.{part}
 use Rattle.recording.specs.Recording.{Bytes}
 use Rattle.elide.specs.Elide.{cut_at_start, fit_at_start, trimmed, elide_end_of, elide_start_of, missing_newline}
 use Rattle.elide.proofs.ElideLaws.{cut_start_lem, fit_start, fit_end, cut_bytes, cut_back_on, well_formed_before}
 
--- ── a beginning, an ending, all of it
-front : (k : ℕ) (s : Bytes) → part 0 k s ≡ take k s
-front k s = let e : k - 0 ≡ k = omega arith in rw e
-
+-- all of it
 pub whole : (s : Bytes) → part 0 (length s) s ≡ s
-whole s = front (length s) s ∙ take-length s
+whole s = let e : length s - 0 ≡ length s = omega arith in rw e (take-length s)
 
 -- ── at the end
 module _ (m : ℕ) (s e : Bytes) where
-  pub end_uncut : text_width_of s ≤ m → (part 0 (length s) s ++ part 0 0 e ≡ (elide_end_of m s e).text) × (text_width_of s ≡ (elide_end_of m s e).columns)
+  pub end_uncut : text_width_of s ≤ m → (s ≡ (elide_end_of m s e).text) × (text_width_of s ≡ (elide_end_of m s e).columns)
   unfolding elide_end_of
-  end_uncut h = (simp (le-ltb m (text_width_of s) h) (append-nil (part 0 (length s) s) ∙ whole s), simp (le-ltb m (text_width_of s) h))
+  end_uncut h = (simp (le-ltb m (text_width_of s) h), simp (le-ltb m (text_width_of s) h))
 
-  pub end_alone : m < text_width_of s → m < text_width_of e
-      → (part 0 0 s ++ part 0 (truncate_end_pos_of m e) e ≡ (elide_end_of m s e).text) × (truncate_end_width m e ≡ (elide_end_of m s e).columns)
+  pub end_alone : m < text_width_of s → m < text_width_of e → (take (truncate_end_pos_of m e) e ≡ (elide_end_of m s e).text) × (truncate_end_width m e ≡ (elide_end_of m s e).columns)
   unfolding elide_end_of truncate_end_width
-  end_alone h k =
-      (simp (lt-ltb m (text_width_of s) h, lt-ltb m (text_width_of e) k) (front (truncate_end_pos_of m e) e ∙ kept_end m e), simp (lt-ltb m (text_width_of s) h, lt-ltb m (text_width_of e) k))
+  end_alone h k = (simp (lt-ltb m (text_width_of s) h, lt-ltb m (text_width_of e) k) (kept_end m e), simp (lt-ltb m (text_width_of s) h, lt-ltb m (text_width_of e) k))
 
   pub end_both : m < text_width_of s → text_width_of e ≤ m
-      → (part 0 (truncate_end_pos_of (m - text_width_of e) s) s ++ part 0 (length e) e ≡ (elide_end_of m s e).text) × (truncate_end_width (m - text_width_of e) s + text_width_of e ≡ (elide_end_of m s e).columns)
+      → (take (truncate_end_pos_of (m - text_width_of e) s) s ++ e ≡ (elide_end_of m s e).text) × (truncate_end_width (m - text_width_of e) s + text_width_of e ≡ (elide_end_of m s e).columns)
   unfolding elide_end_of truncate_end_width
   end_both h k =
       let r = m - text_width_of e in
       let f = fit_end m (text_width_of e) (chars s) in (
-        simp (lt-ltb m (text_width_of s) h, le-ltb m (text_width_of e) k, f) (rw (whole e, front (truncate_end_pos_of r s) s, kept_end r s)),
+        simp (lt-ltb m (text_width_of s) h, le-ltb m (text_width_of e) k, f) (rw (kept_end r s)),
         simp (lt-ltb m (text_width_of s) h, le-ltb m (text_width_of e) k, f),
       )
 
 -- ── at the start
 -- a cut to a, which is at most m, and one of what is before it, to what is left of m: together the cut to m
 pub two_cuts_back : (a m : ℕ) (s : Bytes) (p w q v : ℕ) → a ≤ m → p ≡ truncate_start_pos_of a s → w ≡ truncate_start_width a s
-    → q ≡ truncate_start_pos_of (m - w) (part 0 p s) → v ≡ truncate_start_width (m - w) (part 0 p s)
+    → q ≡ truncate_start_pos_of (m - w) (take p s) → v ≡ truncate_start_width (m - w) (take p s)
     → (q ≡ truncate_start_pos_of m s) × (w + v ≡ truncate_start_width m s)
 two_cuts_back a m s p w q v h e f g k =
     let c = cut_back_on a s m h in
-    let r : part 0 p s ≡ take (truncate_start_pos_of a s) s = front p s ∙ ap (λ (j : ℕ). take j s) e in
+    let r : take p s ≡ take (truncate_start_pos_of a s) s = ap (λ (j : ℕ). take j s) e in
     let x : q ≡ truncate_start_pos_of (m - truncate_start_width a s) (take (truncate_start_pos_of a s) s) = g ∙ λ i. truncate_start_pos_of (m - f i) (r i) in
     let y : v ≡ truncate_start_width (m - truncate_start_width a s) (take (truncate_start_pos_of a s) s) = k ∙ λ i. truncate_start_width (m - f i) (r i) in
     (x ∙ sym c.0, omega (arith, f, y, c.1))
 
-pub part_well_formed : (a : ℕ) (s : Bytes) (p : ℕ) → well_formed_of s ≡ true → p ≡ truncate_start_pos_of a s → well_formed_of (part 0 p s) ≡ true
-part_well_formed a s p h e = ap well_formed_of (front p s ∙ ap (λ (j : ℕ). take j s) e) ∙ well_formed_before a s h
+pub front_well_formed : (a : ℕ) (s : Bytes) (p : ℕ) → well_formed_of s ≡ true → p ≡ truncate_start_pos_of a s → well_formed_of (take p s) ≡ true
+front_well_formed a s p h e = ap (λ (j : ℕ). well_formed_of (take j s)) e ∙ well_formed_before a s h
 
 pub cut_width : (m : ℕ) (s : Bytes) → truncate_start_width m s ≡ width_of (cut_at_start m (chars s))
 unfolding truncate_start_width
 cut_width m s = sym (width_reverse (kept_within m (reverse (chars s))))
 
 module _ (m : ℕ) (s e : Bytes) where
-  pub start_uncut : text_width_of s ≤ m → (part 0 0 e ++ part 0 (length s) s ≡ (elide_start_of m s e).text) × (text_width_of s ≡ (elide_start_of m s e).columns)
+  pub start_uncut : text_width_of s ≤ m → (s ≡ (elide_start_of m s e).text) × (text_width_of s ≡ (elide_start_of m s e).columns)
   unfolding elide_start_of
-  start_uncut h = (simp (le-ltb m (text_width_of s) h) (whole s), simp (le-ltb m (text_width_of s) h))
+  start_uncut h = (simp (le-ltb m (text_width_of s) h), simp (le-ltb m (text_width_of s) h))
 
-  pub start_alone : (k : ℕ) → m < text_width_of s → m < text_width_of e → drop k e ≡ trimmed (drop (truncate_start_pos_of m e) e)
-      → (part k (length e) e ++ part 0 0 s ≡ (elide_start_of m s e).text) × (truncate_start_width m e ≡ (elide_start_of m s e).columns)
+  pub start_alone : m < text_width_of s → m < text_width_of e
+      → (trimmed (drop (truncate_start_pos_of m e) e) ≡ (elide_start_of m s e).text) × (truncate_start_width m e ≡ (elide_start_of m s e).columns)
   unfolding elide_start_of
-  start_alone k h j d =
-      let kept = d ∙ ap trimmed (cut_bytes m e) in (
-        simp (lt-ltb m (text_width_of s) h, lt-ltb m (text_width_of e) j) (append-nil (part k (length e) e) ∙ part_to_end e k ∙ kept),
-        simp (lt-ltb m (text_width_of s) h, lt-ltb m (text_width_of e) j) (cut_width m e),
-      )
+  start_alone h k =
+      (simp (lt-ltb m (text_width_of s) h, lt-ltb m (text_width_of e) k) (ap trimmed (cut_bytes m e)), simp (lt-ltb m (text_width_of s) h, lt-ltb m (text_width_of e) k) (cut_width m e))
 
-  pub start_both : (k : ℕ) → m < text_width_of s → text_width_of e ≤ m → drop k s ≡ trimmed (drop (truncate_start_pos_of (m - text_width_of e) s) s)
-      → (part 0 (length e) e ++ part k (length s) s ≡ (elide_start_of m s e).text) × (truncate_start_width (m - text_width_of e) s + text_width_of e ≡ (elide_start_of m s e).columns)
+  pub start_both : m < text_width_of s → text_width_of e ≤ m
+      → (e ++ trimmed (drop (truncate_start_pos_of (m - text_width_of e) s) s) ≡ (elide_start_of m s e).text) × (truncate_start_width (m - text_width_of e) s + text_width_of e ≡ (elide_start_of m s e).columns)
   unfolding elide_start_of
-  start_both k h j d =
+  start_both h k =
       let r = m - text_width_of e in
       let f : fit_at_start m (text_width_of e) (chars s) ≡ cut_at_start r (chars s) = fit_start m (text_width_of e) (chars s) ∙ sym (cut_start_lem r (chars s)) in (
-        simp (lt-ltb m (text_width_of s) h, le-ltb m (text_width_of e) j, f) (rw (whole e, part_to_end s k, d, cut_bytes r s)),
-        simp (lt-ltb m (text_width_of s) h, le-ltb m (text_width_of e) j, f) (rw (cut_width r s)),
+        simp (lt-ltb m (text_width_of s) h, le-ltb m (text_width_of e) k, f) (rw (cut_bytes r s)),
+        simp (lt-ltb m (text_width_of s) h, le-ltb m (text_width_of e) k, f) (rw (cut_width r s)),
       )
-
--- an ending from `at` on, without the bytes of its leading zero-width characters
-pub trimmed_from_lem : (s : Bytes) (at n : ℕ) → n ≡ zero_width_len_of (part at (length s) s) → drop (at + n) s ≡ trimmed (drop at s)
-unfolding trimmed
-trimmed_from_lem s at n q = sym (drop-drop n at s) ∙ ap (λ (j : ℕ). drop j (drop at s)) (q ∙ ap zero_width_len_of (part_to_end s at))
 
 -- ── the newline
 last_byte : (b : ℕ) (s : Bytes) → missing_newline (b ∷ s) ≡ cond (eqb (get_or (b ∷ s) (length s) 0) 0x0A) [] (0x0A ∷ [])

@@ -3,25 +3,27 @@
 #![tactic(auto)]
 
 ghost use Rattle.std.specs.Prelude.{◌≡◌, true, ◌++◌, ◌∷◌, [], ◌+◌, ◌-◌, ◌*◌, ◌≤◌, ◌<◌, length, drop};
-ghost use Rattle.chars.specs.Leads.{lead_table};
 ghost use Rattle.chars.specs.Chars.{well_formed_of};
 ghost use Rattle.chars.specs.Cut.{truncate_start_pos_of, truncate_start_width};
-ghost use Rattle.buffer.specs.Place.{part};
 ghost use Rattle.recording.specs.Outcome.{settle, Promised};
+ghost use Rattle.recording.specs.Check.{fault_of};
 ghost use Rattle.elide.specs.Back.{StartBefore};
 ghost use Rattle.elide.specs.Elide.{trimmed, missing_newline, elide_end_of, elide_start_of, plain_fault, no_faults, plain_room, plain_result, lent, elide_end_outcome, elide_start_outcome};
 ghost use Rattle.elide.specs.Elide.{complete_newline_outcome};
 
+use buffer::put;
+use chars::{Cut, cut_end, display_width, seen_at, trim_start_zero_width_chars};
+use recording::{Done, Refusal};
+use well_formed::long_well_formed;
+
 // The data limit of a recording, which texts keep to.
 const LIMIT: usize = 1048576;
 
-// What is left of a text, its bytes from .. to, and of its ellipsis, its bytes begin .. end; and the width of both.
+// What a result is made of: two parts, one behind the other, and how wide they are.
 #[derive(Clone, Copy)]
-pub struct Pieces {
-    from: usize,
-    to: usize,
-    begin: usize,
-    end: usize,
+struct Parts<'a> {
+    first: &'a [u8],
+    second: &'a [u8],
     width: u64,
 }
 
@@ -30,230 +32,151 @@ fn start_before(s: &[u8], at: usize) -> usize
     requires { (0 < at) × (at ≤ length s.now) }
     ensures { StartBefore s.now at result }
 {
-    let mut i = at - 1;
-    while 0 < i {
-        if s[i] < 0x80 {
+    for i in (1..at).rev() {
+        if !(0x80..=0xBF).contains(&s[i]) {
             return i;
         }
-        if 0xBF < s[i] {
-            return i;
-        }
-        i -= 1;
     }
     0
 }
 
 // Where the longest ending starts that is at most max wide, and its width. Only that ending and one character before it are read.
-fn cut_back(t: &[u16; 256], s: &[u8], max: u64) -> chars::Cut
-    requires t_value { t.now ≡ lead_table }
-    requires s_value { well_formed_of s.now ≡ true }
+fn cut_back(s: &[u8], max: u64) -> Cut
+    requires { well_formed_of s.now ≡ true }
     ensures pos_value { (result.pos ≡ truncate_start_pos_of max s.now) × (result.width ≡ truncate_start_width max s.now) }
     ensures pos_in_bounds { (result.pos ≤ length s.now) × (result.width ≤ max) × (result.width ≤ 2 * length s.now) }
 {
     let mut at = s.len();
     let mut left = max;
+    // kept: no `for`: a step is as long as the character that is read.
     while 0 < at {
         let p = start_before(s, at);
-        let c = chars::seen_at(t, s, p);
-        let w = c.width as u64;
+        let w = u64::from(seen_at(s, p).width);
         if left < w {
-            return chars::Cut {
-                pos: at,
-                width: max - left,
-            };
+            break;
         }
         left -= w;
         at = p;
     }
-    chars::Cut {
-        pos: 0,
+    Cut {
+        pos: at,
         width: max - left,
     }
 }
 
-// Where the ending from `at` on starts without its leading zero-width characters.
-fn trimmed_pos(t: &[u16; 256], s: &[u8], at: usize) -> usize
-    requires t_value { t.now ≡ lead_table }
-    requires at_in_bounds { at ≤ length s.now }
-    ensures s_value { drop result s.now ≡ trimmed (drop at s.now) }
-    ensures upper_bound { result ≤ length s.now }
+// A text of which nothing is cut.
+fn whole(text: &[u8], width: u64) -> Parts<'_>
+    ensures { (result.first.now ++ result.second.now ≡ text.now) × (result.width ≡ width) }
 {
-    let n = chars::zero_width_len(t, &s[at..]);
-    at + n
+    Parts {
+        first: text,
+        second: b"",
+        width,
+    }
 }
 
 // The text's part comes first. The text is cut once, to max less the ellipsis: that leaves what the Rust's two cuts leave.
 // A text fits if its cut to max reaches its end. The second cut goes on from the first, so nothing is read twice, and nothing behind max.
-fn pieces_end(t: &[u16; 256], text: &[u8], ellipsis: &[u8], max: u64) -> Pieces
-    requires { t.now ≡ lead_table }
-    ensures ellipsis_value { (part result.from result.to text.now ++ part result.begin result.end ellipsis.now ≡ (elide_end_of max text.now ellipsis.now).text)
+fn parts_end<'a>(text: &'a [u8], ellipsis: &'a [u8], max: u64) -> Parts<'a>
+    ensures { (result.first.now ++ result.second.now ≡ (elide_end_of max text.now ellipsis.now).text)
         × (result.width ≡ (elide_end_of max text.now ellipsis.now).columns) }
-    ensures from_le_to { (result.from ≤ result.to) × (result.to ≤ length text.now) × (result.begin ≤ result.end) × (result.end ≤ length ellipsis.now) }
 {
-    let n = text.len();
-    let mark = chars::text_width(t, ellipsis);
+    let mark = display_width(ellipsis);
     if max < mark {
-        let all = chars::truncate_end_pos(t, text, max);
-        if all.pos == n {
-            return Pieces {
-                from: 0,
-                to: n,
-                begin: 0,
-                end: 0,
-                width: all.width,
-            };
+        let all = cut_end(text, max);
+        if all.pos == text.len() {
+            return whole(text, all.width);
         }
-        let k = chars::truncate_end_pos(t, ellipsis, max);
-        return Pieces {
-            from: 0,
-            to: 0,
-            begin: 0,
-            end: k.pos,
-            width: k.width,
-        };
+        let k = cut_end(ellipsis, max);
+        return whole(&ellipsis[..k.pos], k.width);
     }
-    let k = chars::truncate_end_pos(t, text, max - mark);
-    let at = k.pos;
-    let more = chars::truncate_end_pos(t, &text[at..], max - k.width);
-    if at + more.pos == n {
-        return Pieces {
-            from: 0,
-            to: n,
-            begin: 0,
-            end: 0,
-            width: k.width + more.width,
-        };
+    let k = cut_end(text, max - mark);
+    let more = cut_end(&text[k.pos..], max - k.width);
+    if k.pos + more.pos == text.len() {
+        return whole(text, k.width + more.width);
     }
-    Pieces {
-        from: 0,
-        to: at,
-        begin: 0,
-        end: ellipsis.len(),
+    Parts {
+        first: &text[..k.pos],
+        second: ellipsis,
         width: k.width + mark,
     }
 }
 
-// The ellipsis's part comes first. As `pieces_end`, from the text's end back: a text fits if its cut to max reaches its start.
-fn pieces_start(t: &[u16; 256], text: &[u8], ellipsis: &[u8], max: u64) -> Pieces
-    requires t_value { t.now ≡ lead_table }
-    requires text_value { (well_formed_of text.now ≡ true) × (well_formed_of ellipsis.now ≡ true) }
-    ensures text_value_2 { (part result.begin result.end ellipsis.now ++ part result.from result.to text.now ≡ (elide_start_of max text.now ellipsis.now).text)
+// The ellipsis's part comes first. As `parts_end`, from the text's end back: a text fits if its cut to max reaches its start.
+fn parts_start<'a>(text: &'a [u8], ellipsis: &'a [u8], max: u64) -> Parts<'a>
+    requires { (well_formed_of text.now ≡ true) × (well_formed_of ellipsis.now ≡ true) }
+    ensures { (result.first.now ++ result.second.now ≡ (elide_start_of max text.now ellipsis.now).text)
         × (result.width ≡ (elide_start_of max text.now ellipsis.now).columns) }
-    ensures from_le_to { (result.from ≤ result.to) × (result.to ≤ length text.now) × (result.begin ≤ result.end) × (result.end ≤ length ellipsis.now) }
 {
-    let n = text.len();
-    let mark = chars::text_width(t, ellipsis);
+    let mark = display_width(ellipsis);
     if max < mark {
-        let all = cut_back(t, text, max);
+        let all = cut_back(text, max);
         if all.pos == 0 {
-            return Pieces {
-                from: 0,
-                to: n,
-                begin: 0,
-                end: 0,
-                width: all.width,
-            };
+            return whole(text, all.width);
         }
-        let k = cut_back(t, ellipsis, max);
-        let begin = trimmed_pos(t, ellipsis, k.pos);
-        return Pieces {
-            from: 0,
-            to: 0,
-            begin: begin,
-            end: ellipsis.len(),
-            width: k.width,
-        };
+        let k = cut_back(ellipsis, max);
+        return whole(trim_start_zero_width_chars(&ellipsis[k.pos..]), k.width);
     }
-    let k = cut_back(t, text, max - mark);
-    let at = k.pos;
-    let more = cut_back(t, &text[0..at], max - k.width);
+    let k = cut_back(text, max - mark);
+    let more = cut_back(&text[..k.pos], max - k.width);
     if more.pos == 0 {
-        return Pieces {
-            from: 0,
-            to: n,
-            begin: 0,
-            end: 0,
-            width: k.width + more.width,
-        };
+        return whole(text, k.width + more.width);
     }
-    let from = trimmed_pos(t, text, at);
-    Pieces {
-        from: from,
-        to: n,
-        begin: 0,
-        end: ellipsis.len(),
+    Parts {
+        first: ellipsis,
+        second: trim_start_zero_width_chars(&text[k.pos..]),
         width: k.width + mark,
     }
 }
 
-// The refusal that comes from the input, as its number; 0 if there is none.
-fn fault(t: &[u16; 256], text: &[u8], ellipsis: &[u8]) -> u8
-    requires { t.now ≡ lead_table }
-    ensures value { result ≡ plain_fault text.now ellipsis.now }
-    ensures text_len_bound { result ≡ 0 → (length text.now ≤ 1048576) × (length ellipsis.now ≤ 1048576) }
+// The refusal that comes from the input.
+#[tactic(auto, unfolding(crate::specs::Elide::plain_fault))]
+fn check(text: &[u8], ellipsis: &[u8]) -> Result<(), Refusal>
+    ensures { fault_of result ≡ plain_fault text.now ellipsis.now }
 {
-    if LIMIT < text.len() {
-        return 1;
+    if LIMIT < text.len() || LIMIT < ellipsis.len() {
+        return Err(Refusal::DataTooLong);
     }
-    if LIMIT < ellipsis.len() {
-        return 1;
+    if !long_well_formed(text) || !long_well_formed(ellipsis) {
+        return Err(Refusal::TextIllFormed);
     }
-    if !well_formed::long_well_formed(t, text) {
-        return 7;
-    }
-    if !well_formed::long_well_formed(t, ellipsis) {
-        return 7;
-    }
-    0
+    Ok(())
 }
 
-// Writes two parts one after the other, unless the result passes the limit or the buffer; width goes into the answer.
-fn write_parts(
-    out: &mut [u8],
-    x: &[u8],
-    a: usize,
-    b: usize,
-    y: &[u8],
-    c: usize,
-    d: usize,
-    width: u64,
-) -> recording::Answer
-    requires { (a ≤ b) × (b ≤ length x.now) × (b ≤ 1048576) × (c ≤ d) × (d ≤ length y.now) × (d ≤ 1048576) }
-    ensures { Promised (settle no_faults (plain_room (length out.old)) (plain_result (part a b x.now ++ part c d y.now) width))
+// Writes the two parts, unless the result passes the limit or the buffer; their width goes into the answer.
+fn write_parts(out: &mut [u8], p: Parts<'_>) -> Result<Done, Refusal>
+    ensures { Promised (settle no_faults (plain_room (length out.old)) (plain_result (p.entry.first.now ++ p.entry.second.now) p.entry.width))
         (lent out.old) (lent out.new) result }
 {
-    let n = (b - a) + (d - c);
+    let n = p.first.len() + p.second.len();
     if LIMIT < n {
-        return recording::Answer::Refused(recording::Refusal::ResultOverLimit);
+        return Err(Refusal::ResultOverLimit);
     }
     if out.len() < n {
-        return recording::Answer::Refused(recording::Refusal::DataBufferTooShort);
+        return Err(Refusal::DataBufferTooShort);
     }
-    let at = buffer::put(out, 0, x, a, b);
-    let end = buffer::put(out, at, y, c, d);
-    recording::Answer::Done {
+    let at = put(out, 0, p.first, 0, p.first.len());
+    let end = put(out, at, p.second, 0, p.second.len());
+    Ok(Done {
         data: end,
         entries: 0,
         text: 0,
-        number: width,
-    }
+        number: p.width,
+    })
 }
 
 // The text, shortened at its end to max_width with the ellipsis, which is added if something was cut.
-pub fn elide_end(text: &[u8], ellipsis: &[u8], max_width: u32, out: &mut [u8]) -> recording::Answer
+pub fn elide_end(
+    text: &[u8],
+    ellipsis: &[u8],
+    max_width: u32,
+    out: &mut [u8],
+) -> Result<Done, Refusal>
     ensures { Promised (elide_end_outcome (length out.old) text.now ellipsis.now max_width)
         (lent out.old) (lent out.new) result }
 {
-    let t = chars::LEADS;
-    let f = fault(&t, text, ellipsis);
-    if f == 1 {
-        return recording::Answer::Refused(recording::Refusal::DataTooLong);
-    }
-    if f == 7 {
-        return recording::Answer::Refused(recording::Refusal::TextIllFormed);
-    }
-    let p = pieces_end(&t, text, ellipsis, max_width as u64);
-    write_parts(out, text, p.from, p.to, ellipsis, p.begin, p.end, p.width)
+    check(text, ellipsis)?;
+    write_parts(out, parts_end(text, ellipsis, u64::from(max_width)))
 }
 
 // The text, shortened at its start.
@@ -262,49 +185,36 @@ pub fn elide_start(
     ellipsis: &[u8],
     max_width: u32,
     out: &mut [u8],
-) -> recording::Answer
+) -> Result<Done, Refusal>
     ensures { Promised (elide_start_outcome (length out.old) text.now ellipsis.now max_width)
         (lent out.old) (lent out.new) result }
 {
-    let t = chars::LEADS;
-    let f = fault(&t, text, ellipsis);
-    if f == 1 {
-        return recording::Answer::Refused(recording::Refusal::DataTooLong);
-    }
-    if f == 7 {
-        return recording::Answer::Refused(recording::Refusal::TextIllFormed);
-    }
-    let p = pieces_start(&t, text, ellipsis, max_width as u64);
-    write_parts(out, ellipsis, p.begin, p.end, text, p.from, p.to, p.width)
+    check(text, ellipsis)?;
+    write_parts(out, parts_start(text, ellipsis, u64::from(max_width)))
 }
 
-// How many bytes are missing for a text that ends in 0A: 0 or 1.
-fn missing(s: &[u8]) -> usize
-    ensures result_value { part 0 result (0x0A ∷ []) ≡ missing_newline s.now }
-    ensures upper_bound { result ≤ 1 }
+// The 0A that is missing for a text that is empty or ends in it, if one is.
+#[tactic(auto, using(crate::proofs::PartLaws::newline_none, crate::proofs::PartLaws::newline_there, crate::proofs::PartLaws::newline_missing))]
+fn missing(s: &[u8]) -> &'static [u8]
+    ensures { result.now ≡ missing_newline s.now }
 {
-    let n = s.len();
-    if n == 0 {
-        return 0;
+    match s.last() {
+        None | Some(0x0A) => b"",
+        Some(_) => b"\n",
     }
-    if s[n - 1] == 0x0A {
-        return 0;
-    }
-    1
 }
 
 // The text with 0A at its end, which is added unless the text is empty or ends in it.
-pub fn complete_newline(text: &[u8], out: &mut [u8]) -> recording::Answer
+pub fn complete_newline(text: &[u8], out: &mut [u8]) -> Result<Done, Refusal>
     ensures { Promised (complete_newline_outcome (length out.old) text.now) (lent out.old) (lent out.new) result }
 {
-    let t = chars::LEADS;
-    let f = fault(&t, text, b"");
-    if f == 1 {
-        return recording::Answer::Refused(recording::Refusal::DataTooLong);
-    }
-    if f == 7 {
-        return recording::Answer::Refused(recording::Refusal::TextIllFormed);
-    }
-    let k = missing(text);
-    write_parts(out, text, 0, text.len(), b"\n", 0, k, 0)
+    check(text, b"")?;
+    write_parts(
+        out,
+        Parts {
+            first: text,
+            second: missing(text),
+            width: 0,
+        },
+    )
 }

@@ -3,19 +3,27 @@
 use mathlib.Core.Path.{◌≡◌, refl, sym, ap, ◌∙◌}
 use mathlib.Core.Bool.{Bool, true, false, cond, ◌&&◌, not}
 use mathlib.Core.List.{List, [], ◌∷◌, ◌++◌, append_assoc}
-use Prim.Native.Nat.{ℕ, suc, ◌+◌, ◌*◌, ◌≤◌, ◌<◌}
+use Prim.Native.Nat.{ℕ, suc, ◌+◌, ◌*◌, ◌≤◌, ◌<◌, zero, ◌/◌}
 use native.Mathlib.Nat.{zero-mul, one-mul, add-mul}
 use native.Mathlib.Numerals.{add-one}
 use native.Mathlib.Omega.{arith}
-use borrow.Author.Tests.{eq-eqb, ne_eqb}
+use borrow.Author.Tests.{eq-eqb, ne_eqb, ltb-false}
 use lib.Dec.{eqb}
-use lib.ListN.{length, drop, get_or, drop_of_length-le}
+use lib.ListN.{length, drop, get_or, length-drop, drop_of_length-le}
 use lib.Seq.{drop-cons, drop-drop}
+use Rattle.std.specs.List.{position_or_len, AllWithin, HoldsAt, list_any}
+use Rattle.std.specs.Prelude.{Option, None, Some}
+use Rattle.std.specs.Option.{MatchOption, unwrap_or}
+use Rattle.std.proofs.lemmas.List.Sums.{position_or_len_is}
+use Rattle.std.proofs.lemmas.List.Recursion.{is_position_or_len}
 use Rattle.recording.specs.Recording.{Item}
 use Rattle.recording.specs.Edit.{keep, put, front, back, edit}
 use Rattle.recording.proofs.EditLaws.{front_with_back, front-add, back-add}
 use Rattle.layout.specs.Layout.{indent_ops}
 use Rattle.newlines.specs.Newlines.{to_break}
+use Rattle.newlines.proofs.BreakLaws.{any_break, break_past}
+use Rattle.std.specs.Simd.{first_chunks}
+use Rattle.std.proofs.Math.Nat.{div-mul-le_self}
 use Rattle.indent.specs.Lines.{filled_lines_of, to_next}
 
 -- ── from line to line
@@ -135,3 +143,70 @@ module _ (at : ℕ) (d : List ℕ) (more : at < length d) where
 pub next_end : (at : ℕ) (d : List ℕ) → length d ≤ at → to_next true (drop at d) ≡ 0
 unfolding to_next
 next_end at d past = rw (drop_of_length-le d {i = at} past)
+
+-- ── the passes are searches
+-- what `position` answers over d, the length where it finds none
+pub found : (p : ℕ → Bool) (d : List ℕ) (r : Option ℕ)
+    → MatchOption r (AllWithin (λ x. p x ≡ false) d 0 (length d)) (λ i. (i < length d) × HoldsAt (λ x. p x ≡ true) d i × AllWithin (λ x. p x ≡ false) d 0 i)
+    → unwrap_or r (length d) ≡ position_or_len p d
+found p d None h = sym (position_or_len_is p d (length d) 0 (omega arith) (λ k lt. h k 0 (omega arith) lt) (λ lt. absurd (omega arith)))
+found p d (Some i) h = sym (position_or_len_is p d i 0 (omega (arith, h.0)) (λ k lt. h.2 k 0 (omega arith) lt) (λ lt. h.1 0))
+
+pub break_position : (d : List ℕ) → position_or_len (λ b. eqb b 0x0A) d ≡ to_break d
+unfolding to_break
+break_position d = sym (is_position_or_len to_break (λ b. eqb b 0x0A) refl (λ b bs. ap (λ (n : ℕ). cond (eqb b 0x0A) 0 n) (omega arith)) d)
+
+pub filled_position : (d : List ℕ) → position_or_len (λ b. not (eqb b 0x0A)) d ≡ to_next true d
+unfolding to_next
+filled_position d = sym (is_position_or_len (to_next true) (λ b. not (eqb b 0x0A)) refl (λ b bs. go (eqb b 0x0A) bs) d)
+  where
+    go : (t : Bool) (bs : List ℕ) → cond (not t) 0 (suc (to_next t bs)) ≡ cond (not t) 0 (1 + to_next true bs)
+    go true bs = omega arith
+    go false bs = refl
+
+-- ── blocks of 16 bytes
+-- the first k of n blocks have no 0A: as many bytes come before the next
+blocks_none : (k n : ℕ) (d : List ℕ) → k ≤ n → n * 16 ≤ length d → ((j : ℕ) → j < k → list_any (λ b. eqb b 0x0A) (get_or (first_chunks 16 n d) j []) ≡ false) → 16 * k ≤ to_break d
+blocks_none zero n d h l p = omega arith
+blocks_none (suc k) zero d h l p = absurd (omega arith)
+blocks_none (suc k) (suc n) d h l p =
+    let a : 16 ≤ to_break d = ltb-false (to_break d) 16 (sym (any_break 16 d (omega arith)) ∙ p 0 (omega arith)) in
+    let r = blocks_none k n (drop 16 d) (omega arith) (omega (arith, length-drop 16 d)) (λ j q. p (suc j) (omega arith)) in
+    omega (arith, break_past 16 0 d a, r)
+
+-- what `position` answers over the blocks of d
+pub blocks_passed : (d : List ℕ) (blocks : List (List ℕ)) (r : Option ℕ) → blocks ≡ first_chunks 16 (length d / 16) d → length blocks ≡ length d / 16
+    → MatchOption r (AllWithin (λ b. list_any (λ x. eqb x 0x0A) b ≡ false) blocks 0 (length blocks))
+    (λ i. (i < length blocks) × HoldsAt (λ b. Unit {0}) blocks i × AllWithin (λ b. list_any (λ x. eqb x 0x0A) b ≡ false) blocks 0 i)
+    → (16 * unwrap_or r (length blocks) ≤ to_break d) × (16 * unwrap_or r (length blocks) ≤ length d)
+blocks_passed d blocks None e c a =
+    let l = div-mul-le_self (length d) 16 in
+    (blocks_none (length blocks) (length d / 16) d (omega (arith, c)) l (λ j q. rw (← e) (a j [] (omega arith) q)), omega (arith, c, l))
+blocks_passed d blocks (Some i) e c a =
+    let l = div-mul-le_self (length d) 16 in
+    (blocks_none i (length d / 16) d (omega (arith, c, a.0)) l (λ j q. rw (← e) (a.2 j [] (omega arith) q)), omega (arith, c, l, a.0))
+
+-- ── the loop that counts: n lines are counted, p is the first place of the next line that is not empty
+pub record Counted (d : List ℕ) (n p : ℕ) : Type 0 where
+  -- up to where the lines are counted, and whether the byte there may start one
+  pub from : ℕ
+  pub start : Bool
+  pub next : p ≡ from + to_next start (drop from d)
+  -- what is left gives the rest of the count
+  pub rest : n + filled_lines_of start (drop from d) ≡ filled_lines_of true d
+  pub within : p ≤ length d
+  pub few : n ≤ p
+
+module _ (d : List ℕ) (n p : ℕ) (s : Counted d n p) where
+  abbrev left : List ℕ
+  left = drop s.from d
+
+  pub one_more : p < length d → (p' : ℕ) → p' ≡ p + to_next false (drop p d) → p' ≤ length d → Counted d (n + 1) p'
+  one_more more p' e l =
+      let here : drop (to_next s.start left) left ≡ drop p d = drop-drop (to_next s.start left) s.from d ∙ ap (λ (m : ℕ). drop m d) (sym s.next) in
+      let one : filled_lines_of s.start left ≡ suc (filled_lines_of false (drop p d)) =
+      filled_next s.start left (omega (arith, s.next, length-drop s.from d)) ∙ ap (λ (l : List ℕ). suc (filled_lines_of false l)) here in
+      record { from = p; start = false; next = e; rest = omega (arith, s.rest, one); within = l; few = omega (arith, s.few, e, next_past p d more) }
+
+  pub all : length d ≤ p → n ≡ filled_lines_of true d
+  all past = omega (arith, s.rest, filled_none s.start left (omega (arith, s.next, length-drop s.from d)))

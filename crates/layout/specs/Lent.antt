@@ -1,6 +1,6 @@
 -- A layout call on lent buffers: what it was lent, with and without a line list, and what it promises.
+use Rattle.recording.specs.Outcome.{Answer}
 use Rattle.std.specs.Prelude.{List, [], ℕ, take}
-use Rattle.recording.specs.declared.Answer.{Answer}
 use Rattle.recording.specs.Recording.{Recording, recording}
 use Rattle.recording.specs.Outcome.{Lent, room_in, Promised}
 use Rattle.layout.specs.Layout.{Job, Call, outcome}

@@ -1,8 +1,8 @@
 -- Indenting and taking the indent off again (document 02, Q-3): what the request asks to be shown, of what the calls leave, in any buffers. `proofs/RoundTripLaws.antt` shows it.
+use Rattle.std.specs.Prelude as Std
 use Rattle.std.specs.Prelude.{ℕ, true, false, ◌≡◌, List, [], ◌∷◌, ◌≢◌}
 use Rattle.recording.specs.Recording.{Bytes, Recording}
 use Rattle.recording.specs.Coloured.{coloured, balanced}
-use Rattle.recording.specs.declared.Answer.TheVariants.{Done}
 use Rattle.recording.specs.Outcome.{Room, no_room, Lent}
 use Rattle.layout.specs.Wrap.{split_lines}
 use Rattle.layout.specs.Unindent.{has_newline_in}
@@ -50,8 +50,8 @@ pub record TwoCalls (first second : Job) (r : Recording) : Type 0 where
   pub d' : ℕ
   pub e' : ℕ
   pub t' : ℕ
-  pub one : Leaves first r b b' (Done d e t 0)
-  pub two : Leaves second (front_of d e t b') c c' (Done d' e' t' 0)
+  pub one : Leaves first r b b' (Std.Ok (record { «data» = d; entries = e; text = t; number = 0 }))
+  pub two : Leaves second (front_of d e t b') c c' (Std.Ok (record { «data» = d'; entries = e'; text = t'; number = 0 }))
 
 -- what the second call left
 abbrev pub left_by_calls : {first second : Job} {r : Recording} → TwoCalls first second r → Recording

@@ -2,6 +2,7 @@
 -- The idea: the rest of a word's bytes has the rest of its characters, and the heads after a head are the heads of what is left.
 use Prim.Native.Nat.{ℕ, zero, suc, ◌+◌, ◌-◌, ◌≤◌, ◌<◌}
 use native.Mathlib.Omega.{arith}
+use native.Mathlib.Numerals.{one-add}
 use mathlib.Core.Bool.{Bool, true, false, cond, ◌||◌}
 use mathlib.Core.Logic.{◌⊎◌, inl, inr}
 use mathlib.Core.Path.{◌≡◌, refl, sym, ap, ◌∙◌}
@@ -93,7 +94,7 @@ unfolding line_text space_len
 space_line [] = refl
 space_line (x ∷ d) = go (eqb x 0x0A) refl (space_line d)
   where
-    go : (t : Bool) → eqb x 0x0A ≡ t → space_len (line_text d) ≡ space_len d → space_len (cond t [] (x ∷ line_text d)) ≡ cond (eqb x 0x20) (suc (space_len d)) 0
+    go : (t : Bool) → eqb x 0x0A ≡ t → space_len (line_text d) ≡ space_len d → space_len (cond t [] (x ∷ line_text d)) ≡ cond (eqb x 0x20) (1 + space_len d) 0
     go true e h = rw (eqb-true x 0x0A e)
     go false e h = rw h
 
@@ -102,7 +103,7 @@ unfolding space_len
 space-le [] = omega arith
 space-le (x ∷ d) = go (eqb x 0x20) (space-le d)
   where
-    go : (t : Bool) → space_len d ≤ length d → cond t (suc (space_len d)) 0 ≤ suc (length d)
+    go : (t : Bool) → space_len d ≤ length d → cond t (1 + space_len d) 0 ≤ suc (length d)
     go true h = omega arith
     go false h = omega arith
 
@@ -119,7 +120,7 @@ word_rest (x ∷ l) h = go (eqb x 0x20) refl (word_rest l h.1)
         × ((drop (length (word_text (x ∷ l))) (x ∷ l) ≡ []) ⊎ (0 < space_len (drop (length (word_text (x ∷ l))) (x ∷ l))))
     go true e k =
         let n : word_text (x ∷ l) ≡ [] = rw e in
-        let p : space_len (x ∷ l) ≡ suc (space_len l) = rw e in
+        let p : space_len (x ∷ l) ≡ 1 + space_len l = rw e in
         rw n (refl, tt, inr (omega (arith, p)))
     go false e k = rw (e, h.0) (ap (λ (r : List ℕ). x ∷ r) k.0, ((e, h.0), k.1), k.2)
 
@@ -130,8 +131,8 @@ spaces_split [] = (refl, refl)
 spaces_split (x ∷ z) = go (eqb x 0x20) refl (spaces_split z)
   where
     go : (t : Bool) → eqb x 0x20 ≡ t → (spaces (space_len z) ++ drop (space_len z) z ≡ z) × (space_len (drop (space_len z) z) ≡ 0)
-        → (spaces (cond t (suc (space_len z)) 0) ++ drop (cond t (suc (space_len z)) 0) (x ∷ z) ≡ x ∷ z) × (space_len (drop (cond t (suc (space_len z)) 0) (x ∷ z)) ≡ 0)
-    go true e k = (rw (k.0, eqb-true x 0x20 e), k.1)
+        → (spaces (cond t (1 + space_len z) 0) ++ drop (cond t (1 + space_len z) 0) (x ∷ z) ≡ x ∷ z) × (space_len (drop (cond t (1 + space_len z) 0) (x ∷ z)) ≡ 0)
+    go true e k = rw one-add (rw (k.0, eqb-true x 0x20 e), k.1)
     go false e k = (refl, rw e)
 
 -- no 20 at the front: the first run has text
@@ -144,14 +145,14 @@ not-space (x ∷ y) h = go (eqb x 0x20) h
     some [] = refl
     some (w ∷ ws) = refl
 
-    go : (t : Bool) → cond t (suc (space_len y)) 0 ≡ 0 → FirstText (cond t (space_before (byte_words y)) (byte_before x (byte_words y)))
+    go : (t : Bool) → cond t (1 + space_len y) 0 ≡ 0 → FirstText (cond t (space_before (byte_words y)) (byte_before x (byte_words y)))
     go true k = absurd (omega (arith, k))
     go false k = some (byte_words y)
 
 spaces_len : (g : ℕ) (y : List ℕ) → space_len y ≡ 0 → space_len (spaces g ++ y) ≡ g
 unfolding space_len
 spaces_len zero y h = h
-spaces_len (suc g) y h = ap suc (spaces_len g y h)
+spaces_len (suc g) y h = rw one-add (ap suc (spaces_len g y h))
 
 spaces-drop : (g : ℕ) (y : List ℕ) → drop g (spaces g ++ y) ≡ y
 spaces-drop zero y = refl

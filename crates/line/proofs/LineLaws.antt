@@ -1,12 +1,13 @@
 -- One line: a character, a head, the bytes 20 after it, and the state of a line under way.
 -- The idea: what is left gives the rest of the lines (`going`), and each step of the loop is one of its four laws. The run is the width of the bytes read so far, since heads and spaces end at seams.
-use Prim.Native.Nat.{ℕ, suc, ◌+◌, ◌-◌, ◌*◌, ◌≤◌, ◌<◌}
+use Prim.Native.Nat.{ℕ, ◌+◌, ◌-◌, ◌*◌, ◌≤◌, ◌<◌}
 use native.Mathlib.Omega.{arith}
 use native.Mathlib.Numerals.{add-one}
 use mathlib.Core.Bool.{Bool, true, false, cond, ◌||◌, not, false≢true}
 use mathlib.Core.Logic.{◌≢◌}
 use mathlib.Core.Path.{◌≡◌, refl, sym, ap, ◌∙◌}
 use mathlib.Core.List.{List, [], ◌∷◌, ◌++◌}
+use Rattle.std.specs.Prelude.{Some, None, IfSome}
 use lib.Dec.{leb, eqb}
 use lib.ListN.{length, take, drop, get_or, length-append, length-drop, drop_of_length-le}
 use lib.Seq.{drop-cons, drop-drop, drop-append_seam}
@@ -20,7 +21,7 @@ use Rattle.chars.proofs.FoldLaws as folds
 use Rattle.chars.proofs.SeamLaws.{width_none, seam_start, seam_next}
 use Rattle.layout.specs.Wrap.{line_of, line_width}
 use Rattle.layout.proofs.WidthLaws.{zero_wide}
-use Rattle.line.specs.Rest.{rest_lines, line_text, ends_word, word_text, leading, space, space_len, one_char_of, head_of, unreached, limit_of_line, going, first_head_of, head_len, head_width}
+use Rattle.line.specs.Rest.{rest_lines, line_text, ends_word, word_text, space_len, one_char_of, head_of, unreached, limit_of_line, going, first_head_of, head_len, head_width}
 use Rattle.line.specs.declared.Next.{Next}
 use Rattle.line.specs.Line.{seen_of, one_head, pick_head, head_from, in_line_text, after_line_of, following}
 use Rattle.line.proofs.HeadLaws.{text_le}
@@ -29,14 +30,11 @@ use Rattle.line.proofs.RestLaws.{word_le, rest_start, going_last, going_line, go
 use Rattle.line.proofs.WordCharLaws.{char_word, word_drop}
 
 -- ── the character at a place of the word
-abbrev nothing : Seen
-nothing = record { len = 0; width = 0 }
-
-seen_nil : (u : List ℕ) → u ≡ [] → nothing ≡ seen_of (chars u)
+seen_nil : (u : List ℕ) → u ≡ [] → None ≡ seen_of (chars u)
 unfolding seen_of chars
 seen_nil u e = rw e
 
-pub past_end : (s : List ℕ) (i : ℕ) → length s ≤ i → nothing ≡ seen_of (chars (drop i (word_text s)))
+pub past_end : (s : List ℕ) (i : ℕ) → length s ≤ i → None ≡ seen_of (chars (drop i (word_text s)))
 past_end s i h = seen_nil (drop i (word_text s)) (drop_of_length-le (word_text s) {i = i} (omega (arith, word_le s)))
 
 end_none : (x : ℕ) (r : List ℕ) → ends_word x ≡ true → word_text (x ∷ r) ≡ []
@@ -48,98 +46,93 @@ unfolding word_text seen_of chars
 seen_word x r e = rw e (rw (char_word x r))
 
 -- a character that was read, as the first one of what is left
-seen_first : (s : List ℕ) (i : ℕ) → i < length s → (g : Seen) → g.len ≡ length (char_in i s).text → g.width ≡ wide (char_in i s) → g ≡ seen_of (chars (drop i s))
+seen_first : (s : List ℕ) (i : ℕ) → i < length s → (g : Seen) → g.len ≡ length (char_in i s).text → g.width ≡ wide (char_in i s) → Some g ≡ seen_of (chars (drop i s))
 unfolding seen_of
-seen_first s i more g p q = rw (char_next s i more) (λ k. record { len = p k; width = q k })
+seen_first s i more g p q = rw (char_next s i more) (λ k. Some (record { len = p k; width = q k }))
 
-first_len : (s : List ℕ) (i : ℕ) → i < length s → (seen_of (chars (drop i s))).len ≡ length (char_in i s).text
+first_seen : (s : List ℕ) (i : ℕ) → i < length s → seen_of (chars (drop i s)) ≡ Some (record { len = length (char_in i s).text; width = wide (char_in i s) })
 unfolding seen_of
-first_len s i more = rw (char_next s i more)
+first_seen s i more = rw (char_next s i more)
 
-first_width : (s : List ℕ) (i : ℕ) → i < length s → (seen_of (chars (drop i s))).width ≡ wide (char_in i s)
+none_seen : (s : List ℕ) (i : ℕ) → length s ≤ i → seen_of (chars (drop i s)) ≡ None
 unfolding seen_of
-first_width s i more = rw (char_next s i more)
-
-none_len : (s : List ℕ) (i : ℕ) → length s ≤ i → (seen_of (chars (drop i s))).len ≡ 0
-unfolding seen_of
-none_len s i h = rw (chars_end s i h)
+none_seen s i h = rw (chars_end s i h)
 
 module _ (s : List ℕ) (i : ℕ) (h : i ≤ length (word_text s)) (more : i < length s) where
   at_word : drop i (word_text s) ≡ word_text (get_or s i 0 ∷ drop (i + 1) s)
   at_word = word_drop i s h ∙ rw (add-one, drop-cons s i 0 more)
 
-  pub at_space : get_or s i 0 ≡ 0x20 → nothing ≡ seen_of (chars (drop i (word_text s)))
+  pub at_space : get_or s i 0 ≡ 0x20 → None ≡ seen_of (chars (drop i (word_text s)))
   at_space e = seen_nil (drop i (word_text s)) (at_word ∙ end_none (get_or s i 0) (drop (i + 1) s) (rw e))
 
-  pub at_newline : get_or s i 0 ≡ 0x0A → nothing ≡ seen_of (chars (drop i (word_text s)))
+  pub at_newline : get_or s i 0 ≡ 0x0A → None ≡ seen_of (chars (drop i (word_text s)))
   at_newline e = seen_nil (drop i (word_text s)) (at_word ∙ end_none (get_or s i 0) (drop (i + 1) s) (rw e))
 
-  pub at_char : get_or s i 0 ≢ 0x20 → get_or s i 0 ≢ 0x0A → (g : Seen) → g.len ≡ length (char_in i s).text → g.width ≡ wide (char_in i s) → g ≡ seen_of (chars (drop i (word_text s)))
+  pub at_char : get_or s i 0 ≢ 0x20 → get_or s i 0 ≢ 0x0A → (g : Seen) → g.len ≡ length (char_in i s).text → g.width ≡ wide (char_in i s) → Some g ≡ seen_of (chars (drop i (word_text s)))
   at_char p q g l w =
       let e : drop i s ≡ get_or s i 0 ∷ drop (i + 1) s = rw (add-one, drop-cons s i 0 more) in
       seen_first s i more g l w ∙ rw (e, at_word) (seen_word (get_or s i 0) (drop (i + 1) s) (rw (ne_eqb (get_or s i 0) 0x20 p, ne_eqb (get_or s i 0) 0x0A q)))
 
 -- ── the characters of a word t from the place i on, where g is the character at i
-module _ (t : List ℕ) (i : ℕ) (g : Seen) (e : g ≡ seen_of (chars (drop i t))) where
-  seen_more : g.len ≢ 0 → i < length t
-  seen_more z = go (leb (length t) i) refl
+module _ (t : List ℕ) (i : ℕ) (g : Seen) (e : Some g ≡ seen_of (chars (drop i t))) where
+  seen_more : i < length t
+  seen_more = go (leb (length t) i) refl
     where
       go : (q : Bool) → leb (length t) i ≡ q → i < length t
-      go true f = absurd (z (ap (λ (x : Seen). x.len) e ∙ none_len t i (leb-true (length t) i f)))
+      go true f = let n = none_seen t i (leb-true (length t) i f) in absurd (cc)
       go false f = leb-false (length t) i f
 
-  seen_len : i < length t → g.len ≡ length (char_in i t).text
-  seen_len more = ap (λ (x : Seen). x.len) e ∙ first_len t i more
+  seen_is : g ≡ record { len = length (char_in i t).text; width = wide (char_in i t) }
+  seen_is = let f = first_seen t i seen_more in cc
 
-  seen_width : i < length t → g.width ≡ wide (char_in i t)
-  seen_width more = ap (λ (x : Seen). x.width) e ∙ first_width t i more
+  seen_len : g.len ≡ length (char_in i t).text
+  seen_len = ap (λ (x : Seen). x.len) seen_is
 
-  pub seen_end : g.len ≡ 0 → chars (drop i t) ≡ []
-  seen_end z = go (leb (length t) i) refl
-    where
-      go : (q : Bool) → leb (length t) i ≡ q → chars (drop i t) ≡ []
-      go true f = chars_end t i (leb-true (length t) i f)
-      go false f =
-          let more : i < length t = leb-false (length t) i f in
-          absurd (omega (arith, z, seen_len more, char_some t i more))
+  seen_width : g.width ≡ wide (char_in i t)
+  seen_width = ap (λ (x : Seen). x.width) seen_is
 
-  pub seen_inside : i ≤ length t → i + g.len ≤ length t
-  seen_inside h = go (leb (length t) i) refl
-    where
-      go : (q : Bool) → leb (length t) i ≡ q → i + g.len ≤ length t
-      go true f = omega (arith, h, ap (λ (x : Seen). x.len) e, none_len t i (leb-true (length t) i f))
-      go false f =
-          let more : i < length t = leb-false (length t) i f in
-          omega (arith, seen_len more, char_inside t i more)
+  pub seen_some : 0 < g.len
+  seen_some = omega (arith, seen_len, char_some t i seen_more)
+
+  pub seen_inside : i + g.len ≤ length t
+  seen_inside = omega (arith, seen_len, char_inside t i seen_more)
 
   -- it is within m
-  pub kept_more : g.len ≢ 0 → (m : ℕ) → g.width ≤ m
+  pub kept_more : (m : ℕ) → g.width ≤ m
       → (truncate_end_pos_of m (drop i t) ≡ g.len + truncate_end_pos_of (m - g.width) (drop (i + g.len) t))
       × (truncate_end_width m (drop i t) ≡ g.width + truncate_end_width (m - g.width) (drop (i + g.len) t))
   unfolding truncate_end_pos_of truncate_end_width
-  kept_more z m h = let more = seen_more z in folds.kept_more t i g.len g.width more (seen_len more) (seen_width more) m h
+  kept_more m h = folds.kept_more t i g.len g.width seen_more seen_len seen_width m h
 
   -- it would pass m
-  pub kept_pass : g.len ≢ 0 → (m : ℕ) → m < g.width → (truncate_end_pos_of m (drop i t) ≡ 0) × (truncate_end_width m (drop i t) ≡ 0)
+  pub kept_pass : (m : ℕ) → m < g.width → (truncate_end_pos_of m (drop i t) ≡ 0) × (truncate_end_width m (drop i t) ≡ 0)
   unfolding truncate_end_pos_of truncate_end_width
-  kept_pass z m h = let more = seen_more z in rw (folds.kept_none t i g.len g.width more (seen_len more) (seen_width more) m h) (refl, refl)
+  kept_pass m h = rw (folds.kept_none t i g.len g.width seen_more seen_len seen_width m h) (refl, refl)
 
-  -- there is none
-  pub kept_end : g.len ≡ 0 → (m : ℕ) → (truncate_end_pos_of m (drop i t) ≡ 0) × (truncate_end_width m (drop i t) ≡ 0)
+  pub zero_more : g.width ≡ 0 → zero_width_len_of (drop i t) ≡ g.len + zero_width_len_of (drop (i + g.len) t)
+  unfolding zero_width_len_of
+  zero_more h = folds.zero_more t i g.len g.width seen_more seen_len seen_width h
+
+  pub zero_pass : g.width ≢ 0 → zero_width_len_of (drop i t) ≡ 0
+  unfolding zero_width_len_of
+  zero_pass h = rw (folds.zero_none t i g.len g.width seen_more seen_len seen_width h)
+
+-- ── where there is none
+module _ (t : List ℕ) (i : ℕ) (e : None ≡ seen_of (chars (drop i t))) where
+  seen_end : chars (drop i t) ≡ []
+  seen_end = go (leb (length t) i) refl
+    where
+      go : (q : Bool) → leb (length t) i ≡ q → chars (drop i t) ≡ []
+      go true f = chars_end t i (leb-true (length t) i f)
+      go false f = let n = first_seen t i (leb-false (length t) i f) in absurd (cc)
+
+  pub kept_end : (m : ℕ) → (truncate_end_pos_of m (drop i t) ≡ 0) × (truncate_end_width m (drop i t) ≡ 0)
   unfolding truncate_end_pos_of truncate_end_width
-  kept_end z m = rw (seen_end z) (refl, refl)
+  kept_end m = rw seen_end (refl, refl)
 
-  pub zero_more : g.len ≢ 0 → g.width ≡ 0 → zero_width_len_of (drop i t) ≡ g.len + zero_width_len_of (drop (i + g.len) t)
+  pub zero_end : zero_width_len_of (drop i t) ≡ 0
   unfolding zero_width_len_of
-  zero_more z h = let more = seen_more z in folds.zero_more t i g.len g.width more (seen_len more) (seen_width more) h
-
-  pub zero_pass : g.len ≢ 0 → g.width ≢ 0 → zero_width_len_of (drop i t) ≡ 0
-  unfolding zero_width_len_of
-  zero_pass z h = let more = seen_more z in rw (folds.zero_none t i g.len g.width more (seen_len more) (seen_width more) h)
-
-  pub zero_end : g.len ≡ 0 → zero_width_len_of (drop i t) ≡ 0
-  unfolding zero_width_len_of
-  zero_end z = rw (seen_end z)
+  zero_end = rw seen_end
 
 -- ── one character, with the zero-width characters after it
 -- the first character of u, and the characters after it
@@ -150,70 +143,28 @@ first_rest u c cs e =
     let d : drop (length c.text) u ≡ bytes_of cs = rw (← b) (drop-append_seam c.text (bytes_of cs)) in
     (sym (valid_clean cs v.1) ∙ ap chars (sym d), omega (arith, ap length v.0.text))
 
-pub one_start : (d : List ℕ) (g : Seen) → g ≡ seen_of (chars (drop 0 (word_text d)))
-    → (g.len + zero_width_len_of (drop g.len (word_text d)) ≡ (one_head d).len) × (g.width ≡ (one_head d).width)
-unfolding one_head one_char_of seen_of zero_width_len_of
-one_start d g e = go (chars (word_text d)) refl e
-  where
-    go : (cs : List Character) → chars (word_text d) ≡ cs → g ≡ seen_of cs
-        → (g.len + zero_width_len_of (drop g.len (word_text d)) ≡ length (bytes_of (one_char_of (chars (word_text d))))) × (g.width ≡ width_of (one_char_of (chars (word_text d))))
-    go [] k f =
-        let n : g.len ≡ 0 = ap (λ (x : Seen). x.len) f in
-        rw (n, k) (refl, ap (λ (x : Seen). x.width) f)
-    go (c ∷ cs) k f =
-        let n : g.len ≡ length c.text = ap (λ (x : Seen). x.len) f in
-        let w : g.width ≡ wide c = ap (λ (x : Seen). x.width) f in
-        rw (n, ← (first_rest (word_text d) c cs k).0, k) (sym (length-append c.text (bytes_of (leading_zero_width_of cs))), omega (arith, w, zero_wide cs))
+module _ (d : List ℕ) where
+  pub one_start : (g : Seen) → Some g ≡ seen_of (chars (drop 0 (word_text d)))
+      → (g.len + zero_width_len_of (drop g.len (word_text d)) ≡ (one_head d).len) × (g.width ≡ (one_head d).width)
+  unfolding one_head one_char_of seen_of zero_width_len_of
+  one_start g e = go (chars (word_text d)) refl e
+    where
+      go : (cs : List Character) → chars (word_text d) ≡ cs → Some g ≡ seen_of cs
+          → (g.len + zero_width_len_of (drop g.len (word_text d)) ≡ length (bytes_of (one_char_of (chars (word_text d))))) × (g.width ≡ width_of (one_char_of (chars (word_text d))))
+      go [] k f = absurd (cc)
+      go (c ∷ cs) k f =
+          let r : g ≡ record { len = length c.text; width = wide c } = cc in
+          let n : g.len ≡ length c.text = ap (λ (x : Seen). x.len) r in
+          let w : g.width ≡ wide c = ap (λ (x : Seen). x.width) r in
+          rw (n, ← (first_rest (word_text d) c cs k).0, k) (sym (length-append c.text (bytes_of (leading_zero_width_of cs))), omega (arith, w, zero_wide cs))
 
--- ── bytes of one kind from a place on
-module _ (so : ℕ → Bool) (s : List ℕ) (i : ℕ) where
-  pub leading_yes : i < length s → so (get_or s i 0) ≡ true → leading so (drop i s) ≡ suc (leading so (drop (i + 1) s))
-  leading_yes more e = rw (add-one, drop-cons s i 0 more, e)
-
-  pub leading_no : i < length s → so (get_or s i 0) ≡ false → leading so (drop i s) ≡ 0
-  leading_no more e = rw (drop-cons s i 0 more, e)
-
-  pub leading_end : length s ≤ i → leading so (drop i s) ≡ 0
-  leading_end h = rw (drop_of_length-le s {i = i} h)
-
-pub space_yes : (s : List ℕ) (i : ℕ) → i < length s → get_or s i 0 ≡ 0x20 → space_len (drop i s) ≡ suc (space_len (drop (i + 1) s))
-unfolding space_len
-space_yes s i more e = leading_yes space s i more (rw e)
-
-pub space_no : (s : List ℕ) (i : ℕ) → i < length s → get_or s i 0 ≢ 0x20 → space_len (drop i s) ≡ 0
-unfolding space_len
-space_no s i more e = leading_no space s i more (ne_eqb (get_or s i 0) 0x20 e)
-
-pub space_end : (s : List ℕ) (i : ℕ) → length s ≤ i → space_len (drop i s) ≡ 0
-unfolding space_len
-space_end s i h = leading_end space s i h
-
--- ── the front of what is left
-pub line_none : (s : List ℕ) → length s ≡ 0 → false ≡ in_line_text s
-unfolding in_line_text
-line_none [] h = refl
-line_none (x ∷ s) h = absurd (omega arith)
-
-pub line_some : (s : List ℕ) → 0 < length s → in_line_text s ≡ not (eqb (get_or s 0 0) 0x0A)
-unfolding in_line_text
-line_some [] h = absurd (omega arith)
-line_some (x ∷ s) h = refl
-
-pub after_none : (end width here : ℕ) (s : List ℕ) → length s ≡ 0 → ◌≡◌ {A = Next} (record { end = end; width = width; next = 0; more = false }) (after_line_of end width here s)
-unfolding after_line_of
-after_none end width here [] h = refl
-after_none end width here (x ∷ s) h = absurd (omega arith)
-
-pub after_newline : (end width here : ℕ) (s : List ℕ) → 0 < length s → get_or s 0 0 ≡ 0x0A
-    → ◌≡◌ {A = Next} (record { end = end; width = width; next = here + 1; more = true }) (after_line_of end width here s)
-unfolding after_line_of
-after_newline end width here [] h e = absurd (omega arith)
-after_newline end width here (x ∷ s) h e = rw e
-
-pub after_word : (end width here : ℕ) (s : List ℕ) → 0 < length s → get_or s 0 0 ≢ 0x0A → ◌≡◌ {A = Next} (record { end = end; width = width; next = here; more = true }) (after_line_of end width here s)
-unfolding after_line_of
-after_word end width here [] h e = absurd (omega arith)
-after_word end width here (x ∷ s) h e = rw (ne_eqb x 0x0A e)
+  pub one_none : None ≡ seen_of (chars (drop 0 (word_text d))) → record { len = 0; width = 0 } ≡ one_head d
+  unfolding one_head one_char_of seen_of
+  one_none e = go (chars (word_text d)) refl e
+    where
+      go : (cs : List Character) → chars (word_text d) ≡ cs → None ≡ seen_of cs → record { len = 0; width = 0 } ≡ one_head d
+      go [] k f = rw k
+      go (c ∷ cs) k f = absurd (cc)
 
 -- ── the head that the search and the case of place 0 give
 head_by : (m : ℕ) (d : List ℕ) (cut width : ℕ) (cs : List Character) → chars (word_text d) ≡ cs → cut ≡ length (bytes_of (kept_within m cs)) → width ≡ width_of (kept_within m cs)
@@ -263,26 +214,28 @@ pub record Search (word : List ℕ) (limit i left : ℕ) : Type 0 where
 pub search_start : (word : List ℕ) (limit : ℕ) → Search word limit 0 limit
 search_start word limit = record { within = omega arith; left_within = omega arith; place = omega arith; width = omega arith; small = omega arith }
 
-module _ (word : List ℕ) (limit i left : ℕ) (S : Search word limit i left) (g : Seen) (e : g ≡ seen_of (chars (drop i (word_text word)))) where
-  -- one more character in the head
-  pub search_more : g.len ≢ 0 → g.width ≤ left → g.width ≤ 2 → i + g.len ≤ length (word_text word) → Search word limit (i + g.len) (left - g.width)
-  search_more z h two n =
-      let k = kept_more (word_text word) i g e z left h in
-      record {
-        within = n;
-        left_within = omega (arith, S.left_within);
-        place = omega (arith, k.0, S.place);
-        width = omega (arith, k.1, S.width, S.left_within);
-        small = omega (arith, S.small, S.left_within, z);
-      }
+module _ (word : List ℕ) (limit i left : ℕ) (S : Search word limit i left) where
+  module _ (g : Seen) (e : Some g ≡ seen_of (chars (drop i (word_text word)))) where
+    -- one more character in the head
+    pub search_more : g.width ≤ left → g.width ≤ 2 → Search word limit (i + g.len) (left - g.width)
+    search_more h two =
+        let k = kept_more (word_text word) i g e left h in
+        let some = seen_some (word_text word) i g e in
+        record {
+          within = seen_inside (word_text word) i g e;
+          left_within = omega (arith, S.left_within);
+          place = omega (arith, k.0, S.place);
+          width = omega (arith, k.1, S.width, S.left_within);
+          small = omega (arith, S.small, S.left_within, some);
+        }
+
+    -- the character would pass the width
+    pub search_pass : left < g.width → (i ≡ truncate_end_pos_of limit (word_text word)) × (limit - left ≡ truncate_end_width limit (word_text word))
+    search_pass h = let k = kept_pass (word_text word) i g e left h in (omega (arith, k.0, S.place), omega (arith, k.1, S.width))
 
   -- the word ends
-  pub search_end : g.len ≡ 0 → (i ≡ truncate_end_pos_of limit (word_text word)) × (limit - left ≡ truncate_end_width limit (word_text word))
-  search_end z = let k = kept_end (word_text word) i g e z left in (omega (arith, k.0, S.place), omega (arith, k.1, S.width))
-
-  -- the character would pass the width
-  pub search_pass : g.len ≢ 0 → left < g.width → (i ≡ truncate_end_pos_of limit (word_text word)) × (limit - left ≡ truncate_end_width limit (word_text word))
-  search_pass z h = let k = kept_pass (word_text word) i g e z left h in (omega (arith, k.0, S.place), omega (arith, k.1, S.width))
+  pub search_end : None ≡ seen_of (chars (drop i (word_text word))) → (i ≡ truncate_end_pos_of limit (word_text word)) × (limit - left ≡ truncate_end_width limit (word_text word))
+  search_end e = let k = kept_end (word_text word) i e left in (omega (arith, k.0, S.place), omega (arith, k.1, S.width))
 
 -- ── a line under way: `word` is left of the data d from `here` on; the line began at `at`, its last word ends at `stop`, and it is `shown` wide up to there; `run` is used
 pub record State (d : List ℕ) (at w : ℕ) (b : Bool) (word : List ℕ) (here stop shown run : ℕ) (first : Bool) : Type 0 where
@@ -385,33 +338,34 @@ module _ (d : List ℕ) (at w : ℕ) (b : Bool) (word : List ℕ) (here stop sho
 -- what `next_line` promises of its answer
 abbrev pub Promise : List ℕ → ℕ → ℕ → Bool → Next → Type 0
 Promise d at w b r = (rest_lines w b at (drop at d) ≡ line_of at r.end ∷ following w b d r)
-    × (((at ≤ r.end) × (r.end ≤ length d) × (r.next ≤ length d) × (r.more ≡ true → (at < r.next) × (r.end ≤ r.next)))
-    × ((r.width ≡ line_width d (line_of at r.end)) × (r.width ≤ 2 * (r.end - at))))
+    × ((at ≤ r.end) × (r.end ≤ length d) × IfSome r.next (λ n. (n ≤ length d) × (at < n) × (r.end ≤ n)))
+    × ((r.width ≡ line_width d (line_of at r.end)) × (r.width ≤ 2 * (r.end - at)))
 
 -- the line of the data ends here
 pub state_end : (d : List ℕ) (at w : ℕ) (b : Bool) (word : List ℕ) (here stop shown run : ℕ) (first : Bool) → State d at w b word here stop shown run first → in_line_text word ≡ false
     → Promise d at w b (after_line_of stop shown here word)
-unfolding after_line_of following in_line_text
+unfolding after_line_of in_line_text
 state_end d at w b [] here stop shown run first S i =
-    (S.lines ∙ going_last w b first at stop here run, ((S.low, omega (arith, S.high, S.within), omega arith, λ e. absurd (false≢true e)), (S.wide_shown, S.small_shown)))
+    (S.lines ∙ going_last w b first at stop here run, (S.low, omega (arith, S.high, S.within), tt), (S.wide_shown, S.small_shown))
 state_end d at w b (x ∷ word) here stop shown run first S i = go (eqb x 0x0A) refl i
   where
-    go : (t : Bool) → eqb x 0x0A ≡ t → not t ≡ false → Promise d at w b (record { end = stop; width = shown; next = cond t (here + 1) here; more = true })
+    go : (t : Bool) → eqb x 0x0A ≡ t → not t ≡ false → Promise d at w b (record { end = stop; width = shown; next = Some (cond t (here + 1) here) })
     go false e k = absurd (false≢true (sym k))
     go true e k =
         let r : drop (here + 1) d ≡ word = sym (drop-drop 1 here d) ∙ rw (← S.is) in
         let l : here + 1 ≤ length d = omega (arith, ap length S.is, length-drop here d) in (
           S.lines ∙ rw r (going_line w b first at stop here run x word (eqb-true x 0x0A e)),
-          ((S.low, omega (arith, S.high, S.within), l, λ e. (omega (arith, S.past), omega (arith, S.high))), (S.wide_shown, S.small_shown)),
+          (S.low, omega (arith, S.high, S.within), (l, omega (arith, S.past), omega (arith, S.high))),
+          (S.wide_shown, S.small_shown),
         )
 
-after_in : (end width here : ℕ) (s : List ℕ) → in_line_text s ≡ true → after_line_of end width here s ≡ record { end = end; width = width; next = here; more = true }
+after_in : (end width here : ℕ) (s : List ℕ) → in_line_text s ≡ true → after_line_of end width here s ≡ record { end = end; width = width; next = Some here }
 unfolding after_line_of in_line_text
 after_in end width here [] h = absurd (false≢true h)
 after_in end width here (x ∷ s) h = go (eqb x 0x0A) h
   where
     go : (t : Bool) → not t ≡ true
-        → ◌≡◌ {A = Next} (record { end = end; width = width; next = cond t (here + 1) here; more = true }) (record { end = end; width = width; next = here; more = true })
+        → ◌≡◌ {A = Next} (record { end = end; width = width; next = Some (cond t (here + 1) here) }) (record { end = end; width = width; next = Some here })
     go true k = absurd (false≢true k)
     go false k = refl
 
@@ -419,14 +373,14 @@ after_in end width here (x ∷ s) h = go (eqb x 0x0A) h
 pub state_new : (d : List ℕ) (at w : ℕ) (b : Bool) (word : List ℕ) (here stop shown run : ℕ) (first : Bool) → State d at w b word here stop shown run first → (n width : ℕ)
     → 2 * length d ≤ unreached → in_line_text word ≡ true
     → n ≡ head_len (limit_of_line w b) word → width ≡ head_width (limit_of_line w b) word → (first || leb (run + width) w) ≡ false → Promise d at w b (after_line_of stop shown here word)
-unfolding following
 state_new d at w b word here stop shown run true S n width s i en ew f = absurd (false≢true (sym f))
 state_new d at w b word here stop shown run false S n width s i en ew f =
     let p : 2 * length word ≤ unreached = omega (arith, left_len_lem d at w b word here stop shown run false S, s) in
     let g = going_new w b at stop here run word n width (space_len (drop n word)) p (in_line_lem word i) en ew refl f in
     rw (after_in stop shown here word i) (
       S.lines ∙ g ∙ ap (λ (x : List ℕ). line_of at stop ∷ rest_lines w b here x) S.is,
-      ((S.low, omega (arith, S.high, S.within), S.within, λ e. (S.some refl, S.high)), (S.wide_shown, S.small_shown)),
+      (S.low, omega (arith, S.high, S.within), (S.within, S.some refl, S.high)),
+      (S.wide_shown, S.small_shown),
     )
 
 -- ── a head that is known not to fit before its end is found

@@ -9,10 +9,14 @@ use lib.Dec.{leb, eqb}
 use lib.ListN.{length, take, drop, length-drop}
 use borrow.Author.Rules.{part_to_end}
 use borrow.Author.Tests.{lt-leb, eqb-true}
+use Rattle.std.specs.Prelude.{Some, None}
+use Rattle.chars.specs.Chars.{chars}
 use Rattle.chars.specs.Cut.{truncate_end_pos_of, truncate_end_width}
+use Rattle.chars.specs.declared.Seen.{Seen}
 use Rattle.line.specs.Rest.{word_text, space_len, unreached, limit_of_line, head_len, head_width}
-use Rattle.line.specs.Line.{room_of_state, in_line_text, goes_on_in, after_line_of}
-use Rattle.line.proofs.LineLaws.{Search, State, Promise, state_start, state_next, state_end, state_new, state_early}
+use Rattle.line.specs.Line.{seen_of, head_from, room_of_state, in_line_text, goes_on_in, after_line_of}
+use Rattle.line.specs.declared.Head.{Head}
+use Rattle.line.proofs.LineLaws.{Search, search_end, search_pass, head_law, State, Promise, state_start, state_next, state_end, state_new, state_early}
 use Rattle.line.proofs.RoomLaws.{limit_ge, cut_full}
 
 -- the same search, with what is left in other words
@@ -104,6 +108,27 @@ module _ (d : List ℕ) (at w : ℕ) (b : Bool) (word : List ℕ) (gap run : ℕ
   pub words_early : (m part : ℕ) → m ≡ limit_of_line w b → 0 < truncate_end_pos_of m (word_text word) → part ≤ truncate_end_width m (word_text word) → (first || leb (run + part) w) ≡ false
       → Promise d at w b (after_line_of ((length d - length word) - gap) (run - gap) (length d - length word) word)
   words_early m part e p q f = state_early d at w b word _ _ _ run first W.state m part e s (W.goes t) p q f
+
+-- h is the first head of the word
+abbrev pub IsHead : ℕ → Bool → List ℕ → Head → Type 0
+IsHead w b word h = (h.len ≡ head_len (limit_of_line w b) word) × (h.width ≡ head_width (limit_of_line w b) word)
+
+-- the head that is taken: `left` is left of the room, so the search has used the rest of it
+module _ (w : ℕ) (b : Bool) (word : List ℕ) (limit room i left cut : ℕ) (head : Head) (m : limit ≡ limit_of_line w b) (S : Search word limit i (limit - (room - left)))
+    (within : left ≤ room) (narrow : room ≤ limit) (at : cut ≡ i) (h : head ≡ head_from cut (room - left) word) where
+  taken : (i ≡ truncate_end_pos_of limit (word_text word)) × (limit - (limit - (room - left)) ≡ truncate_end_width limit (word_text word))
+      → IsHead w b word head
+  taken z =
+      let used : limit - (limit - (room - left)) ≡ room - left = omega (arith, within, narrow) in
+      rw (h, ← m) (head_law limit word cut (room - left) (at ∙ z.0) (sym used ∙ z.1))
+
+  -- the word ends there
+  pub head_end : None ≡ seen_of (chars (drop i (word_text word))) → IsHead w b word head
+  head_end e = taken (search_end word limit i (limit - (room - left)) S e)
+
+  -- the character there passes the width to break at
+  pub head_pass : (g : Seen) → Some g ≡ seen_of (chars (drop i (word_text word))) → limit - (room - left) < g.width → IsHead w b word head
+  head_pass g e p = taken (search_pass word limit i (limit - (room - left)) S g e p)
 
 -- a character that passes the room but not the width to break at: the line has a head already, and it does not take this one
 pub past_room : (first : Bool) (run w limit room part : ℕ) → room ≡ room_of_state first run w limit → room < part → part ≤ limit → (first || leb (run + part) w) ≡ false

@@ -194,7 +194,7 @@ word_cons : (x : ℕ) (d : List ℕ) → eqb x 0x20 ≡ false → eqb x 0x0A ≡
 unfolding word_text
 word_cons x d e f = rw (e, f)
 
-space-cons : (x : ℕ) (d : List ℕ) → eqb x 0x20 ≡ true → space_len (x ∷ d) ≡ suc (space_len d)
+space-cons : (x : ℕ) (d : List ℕ) → eqb x 0x20 ≡ true → space_len (x ∷ d) ≡ 1 + space_len d
 unfolding space_len
 space-cons x d e = rw e
 

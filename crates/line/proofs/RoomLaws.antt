@@ -1,6 +1,6 @@
 -- The room that a head has on its line, and why no head follows one that was cut off its word.
 -- The idea: such a head and the character after it are wider than the width to break at, so the next head is wider than what is left of the line.
-use Prim.Native.Nat.{ℕ, suc, ◌+◌, ◌-◌, ◌≤◌, ◌<◌}
+use Prim.Native.Nat.{ℕ, ◌+◌, ◌-◌, ◌≤◌, ◌<◌}
 use native.Mathlib.Omega.{arith}
 use mathlib.Core.Bool.{Bool, true, false, cond, ◌&&◌, not, false≢true}
 use mathlib.Core.Logic.{◌≢◌}
@@ -106,7 +106,7 @@ unfolding in_line_text space_len word_text
 word_some [] i s = absurd (false≢true i)
 word_some (x ∷ d) i s = go (eqb x 0x20) refl (eqb x 0x0A) refl i s
   where
-    go : (p : Bool) → eqb x 0x20 ≡ p → (q : Bool) → eqb x 0x0A ≡ q → not q ≡ true → cond p (suc (space_len d)) 0 ≡ 0 → 0 < length (word_text (x ∷ d))
+    go : (p : Bool) → eqb x 0x20 ≡ p → (q : Bool) → eqb x 0x0A ≡ q → not q ≡ true → cond p (1 + space_len d) 0 ≡ 0 → 0 < length (word_text (x ∷ d))
     go true e q f i s = absurd (omega (arith, s))
     go false e true f i s = absurd (false≢true i)
     go false e false f i s = rw (e, f) (omega arith)

@@ -1,16 +1,17 @@
 -- What the functions of this crate give, as records.
-use Rattle.std.specs.Prelude.{ℕ, ◌+◌, ◌-◌, Bool, true, false, cond, ◌&&◌, not, List, [], ◌∷◌, leb, eqb, length, drop}
+use Rattle.std.specs.Prelude.{ℕ, ◌+◌, ◌-◌, Bool, true, false, cond, ◌&&◌, not, List, [], ◌∷◌, Option, Some, None, leb, eqb, length, drop}
+use Rattle.std.specs.List.{prefix_len}
 use Rattle.chars.specs.Chars.{Character, chars, bytes_of, wide, width_of}
 use Rattle.chars.specs.declared.Seen.{Seen}
 use Rattle.layout.specs.Wrap.{Line}
-use Rattle.line.specs.Rest.{rest_lines, word_text, leading, one_char_of}
+use Rattle.line.specs.Rest.{rest_lines, word_text, one_char_of}
 use Rattle.line.specs.declared.Head.{Head}
 use Rattle.line.specs.declared.Next.{Next}
 
--- the first character: how many bytes it takes and how wide it is; 0 and 0 if there is none
-unfoldable pub seen_of : List Character → Seen
-seen_of [] = record { len = 0; width = 0 }
-seen_of (c ∷ cs) = record { len = length c.text; width = wide c }
+-- the first character, if there is one: how many bytes it takes and how wide it is
+unfoldable pub seen_of : List Character → Option Seen
+seen_of [] = None
+seen_of (c ∷ cs) = Some (record { len = length c.text; width = wide c })
 
 -- one character of the word that d begins with, with the zero-width characters after it
 unfoldable pub one_head : List ℕ → Head
@@ -34,11 +35,7 @@ visible x = leb 0x21 x && leb x 0x7E
 
 -- how many such bytes d begins with
 unfoldable pub visible_len_of : List ℕ → ℕ
-visible_len_of d = leading visible d
-
--- n, but no more than m
-unfoldable pub at_most_of : ℕ → ℕ → ℕ
-at_most_of m n = cond (leb n m) n m
+visible_len_of d = prefix_len visible d
 
 -- whether the line of the data goes on in d
 unfoldable pub in_line_text : List ℕ → Bool
@@ -51,9 +48,14 @@ goes_on_in gap d = cond (eqb gap 0) false (in_line_text d)
 
 -- what comes after a line that ends at `end` and is `width` wide, where d is left and starts at `here`: nothing, the next line of the data, or a line that starts with the word that did not fit
 unfoldable pub after_line_of : ℕ → ℕ → ℕ → List ℕ → Next
-after_line_of end width here [] = record { end = end; width = width; next = 0; more = false }
-after_line_of end width here (x ∷ d) = record { end = end; width = width; next = cond (eqb x 0x0A) (here + 1) here; more = true }
+after_line_of end width here [] = record { end = end; width = width; next = None }
+after_line_of end width here (x ∷ d) = record { end = end; width = width; next = Some (cond (eqb x 0x0A) (here + 1) here) }
+
+-- the lines of the data d from a place on, if there is one
+abbrev pub lines_on : ℕ → Bool → List ℕ → Option ℕ → List Line
+lines_on w b d None = []
+lines_on w b d (Some n) = rest_lines w b n (drop n d)
 
 -- the lines of the data d that come after the one that was found
-unfoldable pub following : ℕ → Bool → List ℕ → Next → List Line
-following w b d r = cond r.more (rest_lines w b r.next (drop r.next d)) []
+abbrev pub following : ℕ → Bool → List ℕ → Next → List Line
+following w b d r = lines_on w b d r.next

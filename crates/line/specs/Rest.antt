@@ -1,6 +1,7 @@
 -- Wrapping read from any place on: what is left of the data, its first word, the first head of that word, and the lines that are still to come.
 -- The rest from the middle of a word is read as if it were fresh data; `proofs/RestLaws.antt` shows that the lines are the same.
 use Rattle.std.specs.Prelude.{ℕ, suc, ◌+◌, Bool, true, false, cond, ◌&&◌, ◌||◌, List, [], ◌∷◌, ◌++◌, leb, ltb, eqb, length}
+use Rattle.std.specs.List.{prefix_len}
 use Rattle.chars.specs.Chars.{Character, chars, bytes_of, wide, width_of}
 use Rattle.chars.specs.Cut.{kept_within, leading_zero_width_of}
 use Rattle.layout.specs.Wrap.{split_lines, Word, byte_words, words_of, split_words_at_width, fits_line, full_width, Line, line_of, word_len, lines_from}
@@ -27,17 +28,12 @@ unfoldable pub word_text : List ℕ → List ℕ
 word_text [] = []
 word_text (x ∷ d) = cond (ends_word x) [] (x ∷ word_text d)
 
--- how many bytes d begins with that are so
-abbrev pub leading : (ℕ → Bool) → List ℕ → ℕ
-leading so [] = 0
-leading so (x ∷ d) = cond (so x) (suc (leading so d)) 0
-
 abbrev pub space : ℕ → Bool
 space x = eqb x 0x20
 
 -- how many bytes 20 d begins with
 unfoldable pub space_len : List ℕ → ℕ
-space_len d = leading space d
+space_len d = prefix_len space d
 
 -- one character with the zero-width characters after it
 unfoldable pub one_char_of : List Character → List Character

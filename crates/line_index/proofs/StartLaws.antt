@@ -6,8 +6,10 @@ use native.Mathlib.Numerals.{add-one}
 use mathlib.Core.Bool.{Bool, true, false, cond}
 use mathlib.Core.Path.{◌≡◌, refl, sym, ap, ◌∙◌}
 use mathlib.Core.List.{List, [], ◌∷◌, ◌++◌}
-use lib.Dec.{ltb, eqb}
-use borrow.Author.Tests.{ltb-true, ltb-false, eqb-true}
+use lib.Dec.{leb, ltb, eqb}
+use borrow.Author.Tests.{ltb-true, ltb-false, eqb-true, le-leb, leb-true}
+use Rattle.std.specs.List.Sorted.{IsPartitionedBy}
+use Rattle.std.proofs.lemmas.Grind.{get_or_default_zero}
 use lib.ListN.{length, take, drop, get_or, length-append, length-drop, take-append-drop, get_or-append}
 use lib.Seq.{length-take-le, get_or-append-add, drop-cons}
 use Rattle.newlines.specs.Newlines.{newlines}
@@ -100,7 +102,7 @@ module _ (d : List ℕ) (o : ℕ) (h : o ≤ length d) where
       let e : get_or (line_starts d) i 0 ≡ get_or b n 0 = (λ t. get_or (extend_is_build o d h t) (ei t) 0) ∙ get_or-append-add a b n 0 in
       omega (arith, e, (starts_bound o (drop o d) n (omega (arith, ei, ap length (extend_is_build o d h), length-append a b))).0)
 
-  -- what halving ends at is the line
+  -- what a search ends at is the line
   pub halved : (i : ℕ) → i < length (line_starts d) → get_or (line_starts d) i 0 ≤ o → (i + 1 < length (line_starts d) → o < get_or (line_starts d) (i + 1) 0) → i ≡ line_of_offset d o
   halved i l p q =
       elim (ltb i (line_of_offset d o)) as (λ t. ltb i (line_of_offset d o) ≡ t → i ≡ line_of_offset d o) [
@@ -112,6 +114,18 @@ module _ (d : List ℕ) (o : ℕ) (h : o ≤ length d) where
     where
       less : i < line_of_offset d o → ⊥
       less g = omega (arith, start_within (i + 1) (omega arith), q (omega (arith, line_there)))
+
+  -- the starts not past the offset come before those that are
+  pub starts_parted : IsPartitionedBy (λ (n : ℕ). leb n o) (line_starts d)
+  starts_parted i j e l m t =
+      let f : get_or (line_starts d) j e ≡ get_or (line_starts d) j 0 = get_or_default_zero (line_starts d) j e m in
+      let g : get_or (line_starts d) i e ≡ get_or (line_starts d) i 0 = get_or_default_zero (line_starts d) i e (omega (arith, l, m)) in
+      rw g (le-leb _ o (start_within i (not_past i j l m (omega (arith, f, leb-true _ _ t)))))
+    where
+      not_past : (i j : ℕ) → i ≤ j → j < length (line_starts d) → get_or (line_starts d) j 0 ≤ o → i ≤ line_of_offset d o
+      not_past i j l m t =
+          elim (ltb (line_of_offset d o) j) as (λ b. ltb (line_of_offset d o) j ≡ b → i ≤ line_of_offset d o)
+          [ true ↦ λ f. absurd (omega (arith, t, start_beyond j (ltb-true _ _ f) m)) | false ↦ λ f. omega (arith, l, ltb-false (line_of_offset d o) j f) ] refl
 
 -- ── ends: one before the next start, and the data's end
 pub ends_length : (at : ℕ) (d : List ℕ) → length (ends_from at d) ≡ suc (length (starts_from at d))

@@ -1,7 +1,7 @@
 -- What Q-7 asks to be shown, clause by clause; `proofs/Shown.antt` has all of it.
+use Rattle.recording.specs.Outcome.{Answer}
 use Rattle.std.specs.Prelude.{ℕ, ◌+◌, ◌≤◌, ◌<◌, false, ◌≡◌, List, [], ◌∷◌, ◌++◌, length, take, get_or}
 use Rattle.buffer.specs.Place.{over, part}
-use Rattle.recording.specs.declared.Answer.{Answer}
 use Rattle.recording.specs.Recording.{Bytes, Recording}
 use Rattle.recording.specs.Refusals.{first_of, recording_fault}
 use Rattle.recording.specs.Outcome.{returned, answer_of, Promised, lent_lines}

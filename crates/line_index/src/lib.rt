@@ -4,17 +4,18 @@
 #![tactic(auto)]
 
 ghost use Rattle.std.specs.Prelude.{◌≡◌, ◌+◌, ◌≤◌, ◌<◌, leb, length, drop, get_or};
-ghost use Rattle.buffer.specs.Place.{over, over_at, part};
+ghost use Rattle.std.specs.List.Sorted.{IsPartitionedBy};
+ghost use Rattle.buffer.specs.Place.{over, over_at};
 ghost use Rattle.recording.specs.Lists.{same};
-ghost use Rattle.recording.specs.Recording.{recording};
+ghost use Rattle.recording.specs.Read.{recording_of};
 ghost use Rattle.recording.specs.Refusals.{data_limit};
 ghost use Rattle.recording.specs.Outcome.{Promised, lent_lines, reply_of};
 ghost use Rattle.line_index.specs.Starts.{starts_from, line_starts, line_span};
 ghost use Rattle.line_index.specs.Index.{build_outcome, extend_outcome, line_replied, place_replied};
 ghost use Rattle.line_index.specs.Code.{stand_behind_in};
 
-use newlines::{count_newlines, has_break};
-use recording::{Answer, Checked, Refusal, Reply};
+use newlines::count_newlines;
+use recording::{Done, Found, Recording, Refusal};
 use recording_check::check;
 
 // Whether so many numbers take the starts after `from`. There is at most one a byte, so that they need not be counted for a list that takes these.
@@ -22,27 +23,22 @@ fn starts_fit(s: &[u8], from: usize, room: usize) -> bool
     requires { from ≤ length s.now }
     ensures { result ≡ leb (length (starts_from from (drop from s.now))) room }
 {
-    if s.len() - from <= room {
-        return true;
-    }
-    count_newlines(s, from) <= room
+    s.len() - from <= room || count_newlines(s, from) <= room
 }
 
-// Puts the places behind the 0A among the bytes `from` to `to` into the list from k on, and returns the place after them.
-fn put_starts(s: &[u8], from: usize, to: usize, index: &mut [u32], k: usize) -> usize
-    requires from_le_to { (from ≤ to) × (to ≤ length s.now) × (length s.now ≤ data_limit) }
-    requires s_in_bounds { k + length (starts_from from (part from to s.now)) ≤ length index.old }
-    ensures index_after { index.new ≡ over_at k (starts_from from (part from to s.now)) index.old }
-    ensures value { result ≡ k + length (starts_from from (part from to s.now)) }
+// Puts the places behind the 0A among the bytes of a part, which stands from `at` on, into the list from k on, and returns the place after them.
+fn put_starts(part: &[u8], at: usize, index: &mut [u32], k: usize) -> usize
+    requires part_bound { at + length part.now ≤ data_limit }
+    requires part_in_bounds { k + length (starts_from at part.now) ≤ length index.old }
+    ensures index_after { index.new ≡ over_at k (starts_from at part.now) index.old }
+    ensures value { result ≡ k + length (starts_from at part.now) }
 {
     let mut n = k;
-    let mut at = from;
-    while at < to {
-        if s[at] == 10 {
-            index[n] = (at + 1) as u32;
+    for (i, b) in part.iter().enumerate() {
+        if *b == 10 {
+            index[n] = (at + i + 1) as u32;
             n += 1;
         }
-        at += 1;
     }
     n
 }
@@ -54,15 +50,16 @@ fn write_starts(s: &[u8], from: usize, index: &mut [u32], first: usize) -> usize
     ensures index_after { index.new ≡ over_at first (starts_from from (drop from s.now)) index.old }
     ensures value { result ≡ first + length (starts_from from (drop from s.now)) }
 {
+    let (blocks, rest) = s[from..].as_chunks::<16>();
     let mut k = first;
     let mut at = from;
-    while 16 <= s.len() - at {
-        if has_break(s, at) {
-            k = put_starts(s, at, at + 16, index, k);
+    for block in blocks {
+        if block.contains(&10) {
+            k = put_starts(block, at, index, k);
         }
         at += 16;
     }
-    put_starts(s, at, s.len(), index, k)
+    put_starts(rest, at, index, k)
 }
 
 // Puts the whole index into the list, and returns how many lines there are.
@@ -76,25 +73,17 @@ fn write_index(s: &[u8], index: &mut [u32]) -> usize
     write_starts(s, 0, index, 1)
 }
 
-// Whether the numbers after the first rise from 0 on, and each is the place behind a 0A.
-fn stand_behind(s: &[u8], index: &[u32]) -> bool
-    ensures { result ≡ stand_behind_in s.now 0 (drop 1 index.now) }
+// Whether the numbers rise from 0 on, and each is the place behind a 0A.
+fn stand_behind(s: &[u8], starts: &[u32]) -> bool
+    ensures { result ≡ stand_behind_in s.now 0 starts.now }
 {
     let mut last = 0;
-    let mut k = 1;
-    while k < index.len() {
-        let at = index[k] as usize;
-        if at <= last {
-            return false;
-        }
-        if s.len() < at {
-            return false;
-        }
-        if s[at - 1] != 10 {
+    for start in starts {
+        let at = *start as usize;
+        if at <= last || s.len() < at || s[at - 1] != 10 {
             return false;
         }
         last = at;
-        k += 1;
     }
     true
 }
@@ -103,36 +92,23 @@ fn stand_behind(s: &[u8], index: &[u32]) -> bool
 fn is_index(s: &[u8], index: &[u32]) -> bool
     ensures { result ≡ same index.now (line_starts s.now) }
 {
-    if index.len() == 0 {
-        return false;
+    match index {
+        [first, rest @ ..] => *first == 0
+            && stand_behind(s, rest)
+            && count_newlines(s, 0) == rest.len(),
+        [] => false,
     }
-    if index[0] != 0 {
-        return false;
-    }
-    if !stand_behind(s, index) {
-        return false;
-    }
-    count_newlines(s, 0) == index.len() - 1
 }
 
-// The last place of the list whose number is not above the offset, by halving: the number at `low` is not above it, the one at `high` is, if it is there.
+// The last place of the list whose number is not above the offset.
 fn find_line(index: &[u32], offset: usize) -> usize
+    requires index_parted { IsPartitionedBy (λ n. leb n offset) index.now }
     requires index_nonzero { 0 < length index.now }
     requires index_bound { get_or index.now 0 0 ≤ offset }
     ensures { (result < length index.now) × (get_or index.now result 0 ≤ offset)
         × (result + 1 < length index.now → offset < get_or index.now (result + 1) 0) }
 {
-    let mut low = 0;
-    let mut high = index.len();
-    while 1 < high - low {
-        let mid = low + (high - low) / 2;
-        if index[mid] as usize <= offset {
-            low = mid;
-        } else {
-            high = mid;
-        }
-    }
-    low
+    index.partition_point(|start| *start as usize <= offset) - 1
 }
 
 // The end of line n: one before the next start, or the data's end.
@@ -141,122 +117,88 @@ fn end_of(s: &[u8], index: &[u32], n: usize) -> usize
     requires n_in_bounds { n < length index.now }
     ensures { result ≡ (line_span s.now n).end }
 {
-    if n + 1 < index.len() {
-        return index[n + 1] as usize - 1;
+    match index.get(n + 1) {
+        Some(next) => *next as usize - 1,
+        None => s.len(),
     }
-    s.len()
 }
 
 // The index of the data, in `index`; the number that comes back is the count of lines.
-pub fn build_line_index(content: &[u8], entries: &[u32], text: &[u8], index: &mut [u32]) -> Answer
-    ensures { Promised (build_outcome (recording content.now entries.now text.now) (length index.old))
+pub fn build_line_index(content: Recording<'_>, index: &mut [u32]) -> Result<Done, Refusal>
+    ensures { Promised (build_outcome (recording_of content.entry) (length index.old))
         (lent_lines index.old) (lent_lines index.new) result }
 {
-    let checked = check(content, entries, text);
-    match checked {
-        Checked::Refused(f) => {
-            return Answer::Refused(f);
-        }
-        Checked::Fine(_) => {}
+    check(content)?;
+    if index.len() == 0 || !starts_fit(content.bytes, 0, index.len() - 1) {
+        return Err(Refusal::LineIndex);
     }
-    if index.len() == 0 {
-        return Answer::Refused(Refusal::LineIndex);
-    }
-    if !starts_fit(content, 0, index.len() - 1) {
-        return Answer::Refused(Refusal::LineIndex);
-    }
-    let count = write_index(content, index);
-    Answer::Done {
+    let count = write_index(content.bytes, index);
+    Ok(Done {
         data: 0,
         entries: 0,
         text: 0,
         number: count as u64,
-    }
+    })
 }
 
 // The index of all data, in `index`, whose first `used` numbers are that of the first `earlier` bytes. Only the starts behind those are written.
 pub fn extend_line_index(
-    content: &[u8],
-    entries: &[u32],
-    text: &[u8],
+    content: Recording<'_>,
     earlier: usize,
     index: &mut [u32],
     used: usize,
-) -> Answer
-    ensures { Promised (extend_outcome (recording content.now entries.now text.now) earlier index.old used)
+) -> Result<Done, Refusal>
+    ensures { Promised (extend_outcome (recording_of content.entry) earlier index.old used)
         (lent_lines index.old) (lent_lines index.new) result }
 {
-    let checked = check(content, entries, text);
-    match checked {
-        Checked::Refused(f) => {
-            return Answer::Refused(f);
-        }
-        Checked::Fine(_) => {}
+    check(content)?;
+    if index.len() < used
+        || content.bytes.len() < earlier
+        || !is_index(&content.bytes[..earlier], &index[..used])
+        || !starts_fit(content.bytes, earlier, index.len() - used)
+    {
+        return Err(Refusal::LineIndex);
     }
-    if index.len() < used {
-        return Answer::Refused(Refusal::LineIndex);
-    }
-    if content.len() < earlier {
-        return Answer::Refused(Refusal::LineIndex);
-    }
-    if !is_index(&content[0..earlier], &index[0..used]) {
-        return Answer::Refused(Refusal::LineIndex);
-    }
-    if !starts_fit(content, earlier, index.len() - used) {
-        return Answer::Refused(Refusal::LineIndex);
-    }
-    let count = write_starts(content, earlier, index, used);
-    Answer::Done {
+    let count = write_starts(content.bytes, earlier, index, used);
+    Ok(Done {
         data: 0,
         entries: 0,
         text: 0,
         number: count as u64,
-    }
+    })
 }
 
 // The first byte and the end of line n, counted from 0.
-pub fn line_at(content: &[u8], entries: &[u32], text: &[u8], index: &[u32], n: usize) -> Reply
-    ensures { reply_of result ≡ line_replied (recording content.now entries.now text.now) index.now n }
+pub fn line_at(content: Recording<'_>, index: &[u32], n: usize) -> Result<Found, Refusal>
+    ensures { reply_of result ≡ line_replied (recording_of content.entry) index.now n }
 {
-    let checked = check(content, entries, text);
-    match checked {
-        Checked::Refused(f) => {
-            return Reply::Refused(f);
-        }
-        Checked::Fine(_) => {}
-    }
-    if !is_index(content, index) {
-        return Reply::Refused(Refusal::LineIndex);
+    check(content)?;
+    if !is_index(content.bytes, index) {
+        return Err(Refusal::LineIndex);
     }
     if index.len() <= n {
-        return Reply::Refused(Refusal::NoSuchPlace);
+        return Err(Refusal::NoSuchPlace);
     }
-    Reply::Found {
+    Ok(Found {
         first: index[n] as usize,
-        second: end_of(content, index, n),
-    }
+        second: end_of(content.bytes, index, n),
+    })
 }
 
 // The line and the byte column of an offset, both counted from 0.
-pub fn place_of(content: &[u8], entries: &[u32], text: &[u8], index: &[u32], offset: usize) -> Reply
-    ensures { reply_of result ≡ place_replied (recording content.now entries.now text.now) index.now offset }
+pub fn place_of(content: Recording<'_>, index: &[u32], offset: usize) -> Result<Found, Refusal>
+    ensures { reply_of result ≡ place_replied (recording_of content.entry) index.now offset }
 {
-    let checked = check(content, entries, text);
-    match checked {
-        Checked::Refused(f) => {
-            return Reply::Refused(f);
-        }
-        Checked::Fine(_) => {}
+    check(content)?;
+    if !is_index(content.bytes, index) {
+        return Err(Refusal::LineIndex);
     }
-    if !is_index(content, index) {
-        return Reply::Refused(Refusal::LineIndex);
-    }
-    if content.len() < offset {
-        return Reply::Refused(Refusal::NoSuchPlace);
+    if content.bytes.len() < offset {
+        return Err(Refusal::NoSuchPlace);
     }
     let line = find_line(index, offset);
-    Reply::Found {
+    Ok(Found {
         first: line,
         second: offset - index[line] as usize,
-    }
+    })
 }

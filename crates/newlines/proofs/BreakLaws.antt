@@ -1,14 +1,16 @@
--- The next 0A: bytes before it are passed one by one or many at once (`break_later`, `break_past`), and a block is asked byte by byte (`found_next`).
-use mathlib.Core.Path.{◌≡◌, refl, sym, ap, ◌∙◌}
+-- The next 0A: bytes before it are passed one by one or many at once (`break_later`, `break_past`), and all bytes of a block are asked at once (`any_break`).
+use mathlib.Core.Path.{◌≡◌, sym, ap, ◌∙◌}
 use mathlib.Core.Bool.{Bool, true, false, cond, ◌||◌}
 use mathlib.Core.List.{List, [], ◌∷◌}
 use Prim.Native.Nat.{ℕ, zero, suc, ◌+◌, ◌≤◌, ◌<◌}
 use native.Mathlib.Numerals.{add-one}
 use native.Mathlib.Omega.{arith}
-use borrow.Author.Tests.{eq-eqb, ne_eqb, eqb-true, eqb-false, lt-ltb, le-ltb, ltb-true, ltb-false}
+use Rattle.std.proofs.lemmas.Bool.Decides.{nat_tests}
+use borrow.Author.Tests.{eq-eqb, ne_eqb, lt-ltb, le-ltb}
 use lib.Dec.{eqb, ltb}
-use lib.ListN.{length, drop, get_or, drop_of_length-le}
+use lib.ListN.{length, take, drop, get_or, drop_of_length-le}
 use lib.Seq.{drop-cons, drop-drop}
+use Rattle.std.specs.List.{list_any}
 use Rattle.newlines.specs.Newlines.{to_break}
 
 -- ── the next 0A: n bytes before it are passed at once
@@ -40,18 +42,16 @@ pub break_end : (at : ℕ) (d : List ℕ) → length d ≤ at → to_break (drop
 unfolding to_break
 break_end at d past = rw (drop_of_length-le d {i = at} past)
 
--- one byte more of a block
-pub found_next : (at j : ℕ) (d : List ℕ) → at + j < length d → (ltb (to_break (drop at d)) j || eqb (get_or d (at + j) 0) 0x0A) ≡ ltb (to_break (drop at d)) (j + 1)
-found_next at j d more =
-    elim (ltb n j) as (λ t. ltb n j ≡ t → (t || eqb (get_or d (at + j) 0) 0x0A) ≡ ltb n (j + 1))
-    [ true ↦ λ e. sym (lt-ltb n (j + 1) (omega (arith, ltb-true n j e))) | false ↦ λ e. here (ltb-false n j e) ] refl
+-- whether one of the first n bytes is 0A
+pub any_break : (n : ℕ) (d : List ℕ) → n ≤ length d → list_any (λ b. eqb b 0x0A) (take n d) ≡ ltb (to_break d) n
+unfolding to_break
+any_break zero d h = sym (le-ltb (to_break d) 0 (omega arith))
+any_break (suc n) [] h = absurd (omega arith)
+any_break (suc n) (b ∷ d) h = go (eqb b 0x0A) (any_break n d (omega arith))
   where
-    n : ℕ
-    n = to_break (drop at d)
+    one_more : (m : ℕ) → ltb m n ≡ ltb (suc m) (suc n)
+    one_more m = grind (arith, nat_tests)
 
-    here : j ≤ n → eqb (get_or d (at + j) 0) 0x0A ≡ ltb n (j + 1)
-    here h =
-        elim (eqb (get_or d (at + j) 0) 0x0A) as (λ t. eqb (get_or d (at + j) 0) 0x0A ≡ t → t ≡ ltb n (j + 1)) [
-          | true ↦ λ e. sym (lt-ltb n (j + 1) (omega (arith, break_past j at d h, break_here (at + j) d more (eqb-true _ _ e))))
-          | false ↦ λ e. sym (le-ltb n (j + 1) (omega (arith, break_past j at d h, break_later (at + j) d more (eqb-false _ _ e))))
-        ] refl
+    go : (t : Bool) → list_any (λ x. eqb x 0x0A) (take n d) ≡ ltb (to_break d) n → (t || list_any (λ x. eqb x 0x0A) (take n d)) ≡ ltb (cond t 0 (suc (to_break d))) (suc n)
+    go true e = sym (lt-ltb 0 (suc n) (omega arith))
+    go false e = e ∙ one_more (to_break d)

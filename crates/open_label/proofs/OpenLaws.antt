@@ -1,13 +1,13 @@
 -- Whether the label is open takes two numbers and no stack (`open_since`): how many labels are open, and the depth that the outermost push of this label made.
 -- The idea: the label is open as long as its outermost push is, and that one is closed by the pop that finds the depth at `since` (`pop_since`).
--- From this what is open behind an entry (`push_told`, `pop_told`, `none_told`, `raw_told`), and what dropping raw sequences leaves of it (`kept_told`, `dropped_told`).
+-- From this what is open behind an entry (`push_told`, `pop_told`, `raw_told`), and what dropping raw sequences leaves of it (`kept_told`, `dropped_told`).
 use Prim.Native.Nat.{ℕ, zero, suc, ◌+◌, ◌-◌, ◌≤◌}
 use native.Mathlib.Omega.{arith}
 use mathlib.Core.Bool.{Bool, true, false, cond, ◌||◌, not, or-true, false≢true}
 use mathlib.Core.Path.{◌≡◌, refl, sym, ap, ◌∙◌}
 use mathlib.Core.List.{List, [], ◌∷◌, ◌++◌, tail}
 use lib.Dec.{eqb}
-use lib.ListN.{length}
+use lib.ListN.{length, take, drop}
 use borrow.Author.Tests.{eqb-true, eq-eqb, ne_eqb}
 use Rattle.recording.specs.Lists.{same}
 use Rattle.recording.specs.declared.Entry.{Entry}
@@ -89,6 +89,12 @@ raw_item (suc zero) p h g = absurd (g refl)
 raw_item (suc (suc k)) p h g = refl
 
 -- ── what is open behind an entry
+-- its text, as the code cuts it
+pub cut_same : (l t : Bytes) (e : Entry) (r : Bool) → r ≡ same l (take (e.start + e.len - e.start) (drop e.start t)) → same l (part_of t e) ≡ r
+cut_same l t e r q =
+    let n : e.start + e.len - e.start ≡ e.len = omega arith in
+    sym (q ∙ ap (λ (m : ℕ). same l (take m (drop e.start t))) n)
+
 module _ (l t : Bytes) (e : Entry) (o : Open) where
   pub push_told : (r : Open) → e.kind ≡ 0 → r.depth ≡ o.depth + 1 → r.since ≡ since_push (same l (part_of t e)) o.depth o.since → Opened l (item_at t e) o r
   unfolding Opened item_at
@@ -101,15 +107,6 @@ module _ (l t : Bytes) (e : Entry) (o : Open) where
   pop_told r k d q =
       rw (pop_item e.kind (part_of t e) k)
       (λ s h. (omega (arith, d, h.0, length_tail s), q ∙ (λ i. since_pop (h.0 i) (h.1 i)) ∙ sym (pop_since l s)))
-
-  -- a pop that finds no label open
-  pub none_told : e.kind ≡ 1 → o.depth ≡ 0 → Opened l (item_at t e) o o
-  unfolding Opened item_at
-  none_told k d = rw (pop_item e.kind (part_of t e) k) (λ s h. go s h)
-    where
-      go : (s : List Bytes) → Tells l o s → Tells l o (tail s)
-      go [] h = h
-      go (x ∷ s) h = absurd (omega (arith, d, h.0))
 
   pub raw_told : (e.kind ≡ 0 → ⊥) → (e.kind ≡ 1 → ⊥) → Opened l (item_at t e) o o
   unfolding Opened item_at

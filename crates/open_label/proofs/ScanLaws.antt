@@ -25,8 +25,8 @@ use Rattle.view.proofs.DropLaws.{drop-entries}
 use Rattle.view.proofs.AbsentLaws.{among_tail}
 use Rattle.open_label.specs.declared.Open.{Open}
 use Rattle.open_label.specs.declared.Kept.{Kept}
-use Rattle.open_label.specs.declared.Scanned.TheVariants.{Unbalanced, Fine}
-use Rattle.open_label.specs.Open.{Tells, Opened, Drops, Counted, scan_fault, ScanTold}
+use Rattle.std.specs.Prelude.{Ok}
+use Rattle.open_label.specs.Open.{Tells, Opened, Drops, Counted, ScanTold}
 use Rattle.open_label.proofs.OpenLaws.{told_open}
 
 -- the entries as items, without data
@@ -128,7 +128,7 @@ unfolding item_at
 entry_size t e is b h = check.text_entry e.kind e.start e.len t is b h
 
 -- ── the state of the loop: `es` are the entries left of all
-pub record Scanning (l ds ts : List ℕ) (all : List Entry) (es : List Entry) (o : Open) (n : Kept) (k : ℕ) : Type 0 where
+pub record Scanning (l ds ts : List ℕ) (all : List Entry) (es : List Entry) (o : Open) (n : Kept) : Type 0 where
   pub at : ℕ
   pub valid : Valid at (length ds) (length ts) es
   pub stack : List Bytes
@@ -138,21 +138,21 @@ pub record Scanning (l ds ts : List ℕ) (all : List Entry) (es : List Entry) (o
   pub found : (n.found || opens l (marks ts es)) ≡ opens l (marks ts all)
   pub entries : n.entries + 4 * entry_count (drop_raws l stack (marks ts es)) ≡ 4 * entry_count (drop_raws l [] (marks ts all))
   pub text : n.text + length (text_of (drop_raws l stack (marks ts es))) ≡ length (text_of (drop_raws l [] (marks ts all)))
-  pub depth : o.depth ≤ k
-  pub few : n.entries ≤ k
-  pub short : n.text ≤ 16384 * k
+  pub depth : o.depth + length es ≤ length all
+  pub few : n.entries + 4 * length es ≤ 4 * length all
+  pub short : n.text + 65536 * length es ≤ 65536 * length all
 
-pub scan_first : (l ds ts : List ℕ) (es : List Entry) (o : Open) (n : Kept) → Valid 0 (length ds) (length ts) es
-    → o.depth ≡ 0 → o.since ≡ 0 → n.found ≡ false → n.entries ≡ 0 → n.text ≡ 0 → Scanning l ds ts es es o n 0
-scan_first l ds ts es o n v d s f e t =
-    record {
+pub scan_first : (l ds ts : List ℕ) (all es : List Entry) (o : Open) (n : Kept) → Valid 0 (length ds) (length ts) all → es ≡ all
+    → o.depth ≡ 0 → o.since ≡ 0 → n.found ≡ false → n.entries ≡ 0 → n.text ≡ 0 → Scanning l ds ts all es o n
+scan_first l ds ts all es o n v q d s f e t =
+    rw q record {
       at = 0;
       valid = v;
       stack = [];
       told = (d, s);
       seen = or-false n.found;
       balance = refl;
-      found = ap (λ (u : Bool). u || opens l (marks ts es)) f;
+      found = ap (λ (u : Bool). u || opens l (marks ts all)) f;
       entries = omega (arith, e);
       text = omega (arith, t);
       depth = omega (arith, d);
@@ -160,7 +160,11 @@ scan_first l ds ts es o n v d s f e t =
       short = omega (arith, t);
     }
 
-module _ (l ds ts : List ℕ) (all : List Entry) (o : Open) (n : Kept) (k : ℕ) (e : Entry) (es : List Entry) (s : Scanning l ds ts all (e ∷ es) o n k) (fits : length ts ≤ 65536) where
+module _ (l ds ts : List ℕ) (all : List Entry) (o : Open) (n : Kept) (left : List Entry) (s₀ : Scanning l ds ts all left o n) (e : Entry) (es : List Entry) (q : left ≡ e ∷ es)
+    (fits : length ts ≤ 65536) where
+  abbrev s : Scanning l ds ts all (e ∷ es) o n
+  s = rw q at s₀
+
   pub ok : (s.at ≤ e.position) × (bad_shape_of e.kind e.start e.len ≡ false) × (e.start + e.len ≤ length ts) × Valid e.position (length ds) (length ts) es
   ok = valid-parts s.at (length ds) (length ts) e es s.valid
 
@@ -176,7 +180,7 @@ module _ (l ds ts : List ℕ) (all : List Entry) (o : Open) (n : Kept) (k : ℕ)
   balance_next h = balance_entry e.kind (part_of ts e) s.stack (marks ts es) (test ∙ h) ∙ s.balance
 
   pub goes : (eqb e.kind 1 && eqb o.depth 0) ≡ false → (o' : Open) → Opened l (item_at ts e) o o' → o'.depth ≤ o.depth + 1
-      → (n' : Kept) → n'.found ≡ (n.found || not (eqb o'.since 0)) → Counted e o n n' → (n'.entries ≤ n.entries + 4) × (n'.text ≤ n.text + e.len) → Scanning l ds ts all es o' n' (k + 4)
+      → (n' : Kept) → n'.found ≡ (n.found || not (eqb o'.since 0)) → Counted e o n n' → (n'.entries ≤ n.entries + 4) × (n'.text ≤ n.text + e.len) → Scanning l ds ts all es o' n'
   unfolding Opened Drops
   goes h o' op d n' f c b =
       let x : Item = item_at ts e in
@@ -203,7 +207,7 @@ module _ (l ds ts : List ℕ) (all : List Entry) (o : Open) (n : Kept) (k : ℕ)
       }
 
 -- ── the end: no entry is left
-module _ (l ds ns ts : List ℕ) (es : List Entry) (o : Open) (n : Kept) (k : ℕ) (s : Scanning l ds ts (entries_of ns) es o n k) (none : es ≡ []) where
+module _ (l ds ns ts : List ℕ) (es : List Entry) (o : Open) (n : Kept) (s : Scanning l ds ts (entries_of ns) es o n) (none : es ≡ []) where
   pub last_open : (o.depth ≡ 0 → ⊥) → balanced_from 0 (marks ts (entries_of ns)) ≡ false
   last_open h = sym s.balance ∙ ap (λ (x : List Entry). balanced_from (length s.stack) (marks ts x)) none ∙ go (length s.stack) (λ z. h (s.told.0 ∙ z))
     where
@@ -215,7 +219,7 @@ module _ (l ds ns ts : List ℕ) (es : List Entry) (o : Open) (n : Kept) (k : �
   last_closed h =
       sym s.balance ∙ (λ i. balanced_from (sym s.told.0 i) (marks ts (none i))) ∙ ap (λ (m : ℕ). balanced_from m []) h
 
-  pub last_told : ScanTold l (recording ds ns ts) (Fine n)
+  pub last_told : ScanTold l (recording ds ns ts) (Ok n)
   unfolding ScanTold
   last_told = (
     sym (or-false n.found) ∙ ap (λ (x : List Entry). n.found || opens l (marks ts x)) (sym none) ∙ s.found ∙ sym (opens_marks l ds ns ts),
@@ -225,10 +229,8 @@ module _ (l ds ns ts : List ℕ) (es : List Entry) (o : Open) (n : Kept) (k : �
 
 -- ── the answers
 module _ (ds ns ts : List ℕ) where
-  pub fault_open : balanced_from 0 (marks ts (entries_of ns)) ≡ false → scan_fault Unbalanced ≡ refuse_if (not (balanced (recording ds ns ts))) 35
-  unfolding scan_fault
+  pub fault_open : balanced_from 0 (marks ts (entries_of ns)) ≡ false → 35 ≡ refuse_if (not (balanced (recording ds ns ts))) 35
   fault_open h = rw (balance_marks [] ds ns ts, h)
 
-  pub fault_none : (n : Kept) → balanced_from 0 (marks ts (entries_of ns)) ≡ true → scan_fault (Fine n) ≡ refuse_if (not (balanced (recording ds ns ts))) 35
-  unfolding scan_fault
-  fault_none n h = rw (balance_marks [] ds ns ts, h)
+  pub fault_none : balanced_from 0 (marks ts (entries_of ns)) ≡ true → 0 ≡ refuse_if (not (balanced (recording ds ns ts))) 35
+  fault_none h = rw (balance_marks [] ds ns ts, h)

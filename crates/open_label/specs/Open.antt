@@ -1,7 +1,8 @@
 -- Whether a reader's label is open, told by two numbers in place of the stack of open labels; and what one reading of the entries finds.
-use Rattle.std.specs.Prelude.{ℕ, suc, ◌+◌, ◌*◌, Bool, cond, ◌≡◌, List, [], ◌∷◌, ◌++◌, eqb, length, take}
+use Rattle.std.specs.Prelude.{ℕ, suc, ◌+◌, ◌*◌, Bool, cond, ◌≡◌, List, [], ◌∷◌, ◌++◌, eqb, length, take, Result, Ok, Err}
 use Rattle.recording.specs.Lists.{same}
 use Rattle.recording.specs.declared.Entry.{Entry}
+use Rattle.recording.specs.declared.Refusal.{Refusal}
 use Rattle.recording.specs.Recording.{Bytes, Recording, Item, items, text_of}
 use Rattle.recording.specs.Coloured.{coloured_from, open_after}
 use Rattle.recording.proofs.SizeLaws.{entry_count}
@@ -10,8 +11,6 @@ use Rattle.view.specs.View.{any_under_of, drop_raws}
 use Rattle.view.specs.Theorem.{opens}
 use Rattle.open_label.specs.declared.Open.{Open}
 use Rattle.open_label.specs.declared.Kept.{Kept}
-use Rattle.open_label.specs.declared.Scanned.{Scanned}
-use Rattle.open_label.specs.declared.Scanned.TheVariants.{Unbalanced, Fine}
 
 -- the depth that the outermost push of the label made, 0 if it is not open: after a push (is it this label's?) and after a pop, from the depth and this before
 abbrev pub since_push : Bool → ℕ → ℕ → ℕ
@@ -50,13 +49,8 @@ pub record Counted (e : Entry) (o : Open) (n r : Kept) : Type 0 where
   pub text : r.text ≡ n.text + cond gone 0 e.len
 
 -- ── one reading of the entries
--- its refusal, 0 if there is none
-unfoldable pub scan_fault : Scanned → ℕ
-scan_fault Unbalanced = 35
-scan_fault (Fine k) = 0
-
--- of the recording q: whether the label is pushed at all, and the entry numbers and text bytes that the floor is left
-unfoldable pub ScanTold : Bytes → Recording → Scanned → Type 0
-ScanTold l q Unbalanced = Unit {0}
-ScanTold l q (Fine k) =
+-- of the recording q, unless the reading is refused: whether the label is pushed at all, and the entry numbers and text bytes that the floor is left
+unfoldable pub ScanTold : Bytes → Recording → Result Kept Refusal → Type 0
+ScanTold l q (Err f) = Unit {0}
+ScanTold l q (Ok k) =
     (k.found ≡ opens l (items q)) × (k.entries ≡ 4 * entry_count (drop_raws l [] (items q))) × (k.text ≡ length (text_of (drop_raws l [] (items q))))

@@ -1,6 +1,6 @@
 -- A place of the content as code goes along it, with what is open there.
 use Rattle.std.specs.Prelude.{ℕ, ◌≤◌, ◌<◌, List, drop}
-use Rattle.recording.specs.Recording.{entries_of}
+use Rattle.recording.specs.Recording.{Recording, entries_of}
 use Rattle.writer.specs.declared.Cursor.{Cursor}
 use Rattle.writer.specs.Write.{Ready, place_for}
 use Rattle.open_label.specs.declared.Walk.{Walk}
@@ -18,6 +18,13 @@ pub record Arrived (ds ns ts : List ℕ) (w : Walk) : Type 0 where
 pub record Standing (ds ns ts : List ℕ) (w : Walk) : Type 0 where
   pub arrived : Arrived ds ns ts w
   pub passed : w.c.at < next_place ns w.c
+
+-- the same of a recording
+abbrev pub ArrivedIn : Recording → Walk → Type 0
+ArrivedIn r w = Arrived r.data_bytes r.entry_numbers r.text w
+
+abbrev pub StandingIn : Recording → Walk → Type 0
+StandingIn r w = Standing r.data_bytes r.entry_numbers r.text w
 
 -- the content's first place: nothing is written, and no label is open
 abbrev pub first_walk_of : Walk

@@ -1,4 +1,5 @@
 -- A call on a content alone: what its check found, and the sizes of what it leaves. It is one edit that puts bytes in and nothing else, so the entry numbers and the text are the content's.
+use Rattle.std.specs.Prelude as Std
 use mathlib.Core.Path.{◌≡◌, refl, sym, ap, subst, ◌∙◌}
 use mathlib.Core.List.{List, [], ◌∷◌}
 use Prim.Native.Nat.{ℕ}
@@ -6,9 +7,6 @@ use native.Mathlib.Omega.{arith}
 use lib.ListN.{length}
 use Rattle.buffer.specs.Place.{over}
 use Rattle.recording.specs.declared.Refusal.{Refusal}
-use Rattle.recording.specs.declared.Answer.TheVariants.{Refused, Done}
-use Rattle.recording.specs.declared.Checked.{Checked}
-use Rattle.recording.specs.declared.Checked.TheVariants as C
 use Rattle.recording.specs.Recording.{Bytes, Recording, recording, entries_of, Item, byte, items, text_of, encode}
 use Rattle.recording.specs.Share.{sum_of, raw_len_of, push_of}
 use Rattle.recording.specs.Edit.{edit, edit_data}
@@ -22,10 +20,8 @@ use Rattle.recording.proofs.SizeLaws.{count_numbers, edit-count}
 use Rattle.share.specs.Sizes.{own_size_of, Stands}
 use Rattle.share.proofs.SizeLaws.{own_of_items}
 use Rattle.writer.specs.declared.Cursor.{Cursor}
-use Rattle.writer.specs.declared.Settled.{Settled}
-use Rattle.writer.specs.declared.Settled.TheVariants as S
 use Rattle.writer.specs.Write.{out, add, blank, Fits}
-use Rattle.writer.specs.Sizes.{sizes_fault, settled_fault}
+use Rattle.writer.specs.Sizes.{sizes_fault}
 use Rattle.writer.proofs.Sizes.{numbers_items, quads_of}
 use Rattle.layout.specs.Wrap.{line_numbers}
 use Rattle.layout.specs.Layout.{Single, alone, single_ops, single_lines, single_fault, result_items, lines_left, number, second_fault, own_fault}
@@ -44,23 +40,23 @@ module _ (s : Single) (ds ns ts : List ℕ) (b : Lent) where
   abbrev pub result : List Item
   result = edit (single_ops s ds) (items content)
 
-  pub content-refused : (k : Checked) → fault_of k ≡ recording_fault content → (f : Refusal) → k ≡ C.Refused f → Leaves (alone s) content b b (Refused f)
+  pub content-refused : (k : Std.Result ℕ Refusal) → fault_of k ≡ recording_fault content → (f : Refusal) → k ≡ Std.Err f → Leaves (alone s) content b b (Std.Err f)
   content-refused k e f q =
       let n : number_of_refusal f ≡ recording_fault content = sym (refused-number k f q) ∙ e in
       outcomes.input_refused (alone s) content b f (n ∙ sym (first_hit (recording_fault content) (second_fault (alone s) ∷ []) (omega (arith, n, number_pos f))))
 
-  pub content_fine : (k : Checked) → fault_of k ≡ recording_fault content → Counted k (length (text_of (items content))) → Within k 268435456 → (n : ℕ) → k ≡ C.Fine n → Fine ds ns ts n
+  pub content_fine : (k : Std.Result ℕ Refusal) → fault_of k ≡ recording_fault content → Counted k (length (text_of (items content))) → Within k 268435456 → (n : ℕ) → k ≡ Std.Ok n → Fine ds ns ts n
   content_fine k e c w n q = checked_fine ds ns ts n (sym e ∙ fine_zero k n q) (fine_count k n (length (text_of (items content))) q c) (fine_within k n 268435456 q w)
 
   -- the check found nothing
   module _ (passed : recording_fault content ≡ 0) where
-    pub own_refused : (f : Refusal) → single_fault s ds ≡ number_of_refusal f → Leaves (alone s) content b b (Refused f)
+    pub own_refused : (f : Refusal) → single_fault s ds ≡ number_of_refusal f → Leaves (alone s) content b b (Std.Err f)
     unfolding second_fault own_fault
     own_refused f e = outcomes.own_refused (alone s) content b passed refl f e
 
     -- a data of d bytes, a text for which t stands, and l numbers in the line list
     module _ (own : single_fault s ds ≡ 0) (d t l : ℕ) (ed : d ≡ length (edit_data (single_ops s ds) ds)) (et : Stands (length b.text) (own_size_of ts (entries_of ns)) t)
-        (el : l ≡ length (line_numbers ds (single_lines s ds))) (v : Settled) (g : settled_fault v ≡ sizes_fault d (length ns) t l (room_in b)) where
+        (el : l ≡ length (line_numbers ds (single_lines s ds))) (v : Std.Result Unit Refusal) (g : fault_of v ≡ sizes_fault d (length ns) t l (room_in b)) where
       accepted : Accepted (alone s) content
       unfolding second_fault own_fault
       accepted = record { content = passed; second = refl; own = own }
@@ -92,13 +88,13 @@ module _ (s : Single) (ds ns ts : List ℕ) (b : Lent) where
             line_size_lem = el;
           }
 
-      pub sizes_refused : (f : Refusal) → v ≡ S.Refused f → Leaves (alone s) content b b (Refused f)
+      pub sizes_refused : (f : Refusal) → v ≡ Std.Err f → Leaves (alone s) content b b (Std.Err f)
       sizes_refused f q = outcomes.sizes_refused (alone s) content b accepted result d (length ns) t l sized v g f q
 
-      pub has_room : v ≡ S.Room → Fits result (blank b.data_bytes b.entry_numbers b.text)
+      pub has_room : v ≡ (Std.Ok tt) → Fits result (blank b.data_bytes b.entry_numbers b.text)
       has_room q = outcomes.has_room (alone s) content b accepted result d (length ns) t l sized v g q
 
-      pub written : v ≡ S.Room → (w : ℕ) (od oe ot ol : List ℕ) (k : Cursor) → number (alone s) content ≡ w → out od oe ot k ≡ add result (blank b.data_bytes b.entry_numbers b.text)
-          → ol ≡ over (line_numbers ds (single_lines s ds)) b.lines → Leaves (alone s) content b (lent_lined od oe ot ol) (Done k.d k.e k.t w)
+      pub written : v ≡ (Std.Ok tt) → (w : ℕ) (od oe ot ol : List ℕ) (k : Cursor) → number (alone s) content ≡ w → out od oe ot k ≡ add result (blank b.data_bytes b.entry_numbers b.text)
+          → ol ≡ over (line_numbers ds (single_lines s ds)) b.lines → Leaves (alone s) content b (lent_lined od oe ot ol) (Std.Ok (record { «data» = k.d; entries = k.e; text = k.t; number = w }))
       unfolding lines_left
       written q w od oe ot ol k en wrote listed = outcomes.written (alone s) content b accepted result d (length ns) t l sized v g q w od oe ot ol k en wrote listed

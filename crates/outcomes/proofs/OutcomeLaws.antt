@@ -1,5 +1,7 @@
 -- A layout call as code goes through it: check what it is given, settle the sizes of the result, write. Each place where it returns gives the whole promise (`Leaves`) at once.
 -- Over any job: the sizes that the code took are those of the items that it writes (`Sized`), and nothing that it was given is refused (`Accepted`).
+use Rattle.recording.specs.Check.{fault_of}
+use Rattle.std.specs.Prelude as Std
 use mathlib.Core.Path.{◌≡◌, refl, sym, ap, subst, ◌∙◌}
 use mathlib.Core.List.{List, [], ◌∷◌}
 use Prim.Native.Nat.{ℕ, zero, suc, ◌*◌}
@@ -7,17 +9,14 @@ use native.Mathlib.Omega.{arith}
 use lib.ListN.{length}
 use Rattle.buffer.specs.Place.{over}
 use Rattle.recording.specs.declared.Refusal.{Refusal}
-use Rattle.recording.specs.declared.Answer.TheVariants.{Refused, Done}
 use Rattle.recording.specs.Recording.{Recording, Item, numbers_of_ranges, data_of, entries_from, encode}
 use Rattle.recording.specs.Refusals.{number_of_refusal, first_of, recording_fault}
 use Rattle.recording.specs.Outcome.{Outcome, refused, done, over_limit, no_room, refusal_of, Lent, room_in, lent_after, returned, answer_of}
 use Rattle.recording.proofs.OutcomeLaws.{number_pos, first_hit, first_on, first_one, stops_content, stops_second, stops_own, stops_sizes, is_refused, is_done, promise_refused}
 use Rattle.recording.proofs.SizeLaws.{entry_count, count_numbers}
 use Rattle.writer.specs.declared.Cursor.{Cursor}
-use Rattle.writer.specs.declared.Settled.{Settled}
-use Rattle.writer.specs.declared.Settled.TheVariants as S
 use Rattle.writer.specs.Write.{out, add, Fits, blank}
-use Rattle.writer.specs.Sizes.{sizes_fault, settled_fault}
+use Rattle.writer.specs.Sizes.{sizes_fault}
 use Rattle.writer.proofs.Sizes.{same_verdict, size_refused, size_granted, fits_blank}
 use Rattle.share.specs.Sizes.{Stands}
 use Rattle.writer.proofs.Steps.{from_start}
@@ -44,11 +43,11 @@ module _ (j : Job) (r : Recording) (b : Lent) where
   told = outcome (call_in j b) r
 
   -- ── where a call stops, and what it has then answered and left
-  stopped : (f : Refusal) → told ≡ refused (number_of_refusal f) → Leaves j r b b (Refused f)
+  stopped : (f : Refusal) → told ≡ refused (number_of_refusal f) → Leaves j r b b (Std.Err f)
   stopped f e = promise_refused told f b e
 
   -- at a fault of the content or of the second recording
-  pub input_refused : (f : Refusal) → number_of_refusal f ≡ first_of (recording_fault r ∷ second_fault j ∷ []) → Leaves j r b b (Refused f)
+  pub input_refused : (f : Refusal) → number_of_refusal f ≡ first_of (recording_fault r ∷ second_fault j ∷ []) → Leaves j r b b (Std.Err f)
   unfolding outcome faults_of
   input_refused f e = stopped f (is_refused (faults_of j r) (room_in b) (result_of j r) f (go (recording_fault r) refl))
     where
@@ -61,13 +60,13 @@ module _ (j : Job) (r : Recording) (b : Lent) where
           stops_content (faults_of j r) (room_in b) (result_of j r) refl (omega (arith, s, number_pos f)) ∙ sym s
 
   -- at a fault of its own
-  pub own_refused : recording_fault r ≡ 0 → second_fault j ≡ 0 → (f : Refusal) → own_fault j r ≡ number_of_refusal f → Leaves j r b b (Refused f)
+  pub own_refused : recording_fault r ≡ 0 → second_fault j ≡ 0 → (f : Refusal) → own_fault j r ≡ number_of_refusal f → Leaves j r b b (Std.Err f)
   unfolding outcome faults_of
   own_refused a c f e =
       stopped f (is_refused (faults_of j r) (room_in b) (result_of j r) f (stops_own (faults_of j r) (room_in b) (result_of j r) refl a c refl refl (omega (arith, e, number_pos f)) ∙ e))
 
   -- ── only the result is left to be judged
-  module _ (A : Accepted j r) (is : List Item) (d e t l : ℕ) (z : Sized j r (length b.text) is d e t l) (v : Settled) (g : settled_fault v ≡ sizes_fault d e t l (room_in b)) where
+  module _ (A : Accepted j r) (is : List Item) (d e t l : ℕ) (z : Sized j r (length b.text) is d e t l) (v : Std.Result Unit Refusal) (g : fault_of v ≡ sizes_fault d e t l (room_in b)) where
     data_is : d ≡ length (result_of j r).recording.data_bytes
     unfolding result_of encode
     data_is = z.data_size ∙ ap (λ (x : List Item). length (data_of x)) (sym z.leaves)
@@ -81,7 +80,7 @@ module _ (j : Job) (r : Recording) (b : Lent) where
     text_is = ap (λ (x : List Item). length (encode x).text) (sym z.leaves)
 
     -- the text's own size would settle it alike
-    verdict : settled_fault v ≡ sizes_fault d e (length (encode is).text) l (room_in b)
+    verdict : fault_of v ≡ sizes_fault d e (length (encode is).text) l (room_in b)
     verdict = g ∙ same_verdict d e (length (encode is).text) t l (room_in b) z.text_size_lem
 
     lines_are : l ≡ length (result_of j r).lines
@@ -92,13 +91,13 @@ module _ (j : Job) (r : Recording) (b : Lent) where
     unfolding faults_of
     judged = stops_sizes (faults_of j r) (room_in b) (result_of j r) refl A.content A.second refl refl A.own
 
-    pub sizes_refused : (f : Refusal) → v ≡ S.Refused f → Leaves j r b b (Refused f)
+    pub sizes_refused : (f : Refusal) → v ≡ Std.Err f → Leaves j r b b (Std.Err f)
     unfolding outcome
     sizes_refused f q =
         stopped f (is_refused (faults_of j r) (room_in b) (result_of j r) f (judged ∙ size_refused (result_of j r) (room_in b) v f d e (length (encode is).text) l verdict q data_is entries_are text_is lines_are))
 
     -- ── and it has room
-    module _ (q : v ≡ S.Room) where
+    module _ (q : v ≡ (Std.Ok tt)) where
       fit : first_of (over_limit (result_of j r).recording ∷ no_room (room_in b) (result_of j r) ∷ []) ≡ 0
       fit = size_granted (result_of j r) (room_in b) v d e (length (encode is).text) l verdict q data_is entries_are text_is lines_are
 
@@ -114,8 +113,8 @@ module _ (j : Job) (r : Recording) (b : Lent) where
 
       -- the items are written and the lines listed
       pub written : (m : ℕ) (od oe ot ol : List ℕ) (k : Cursor) → number j r ≡ m → out od oe ot k ≡ add is (blank b.data_bytes b.entry_numbers b.text)
-          → ol ≡ over (line_numbers r.data_bytes (lines_left j r)) b.lines → Leaves j r b (lent_lined od oe ot ol) (Done k.d k.e k.t m)
-      unfolding answer_of returned lent_after result_of encode
+          → ol ≡ over (line_numbers r.data_bytes (lines_left j r)) b.lines → Leaves j r b (lent_lined od oe ot ol) (Std.Ok (record { «data» = k.d; entries = k.e; text = k.t; number = m }))
+      unfolding returned lent_after result_of encode
       written m od oe ot ol k en w el =
           let s = from_start is b.data_bytes b.entry_numbers b.text od oe ot k w in (
             rw (is_result, z.leaves, en) (λ i. record { refusal = 0; data_bytes = s.3 i; entry_numbers = s.4 i; text = s.5 i; number = m }),

@@ -1,4 +1,6 @@
 -- A call with a second recording on three lent buffers: what its check of both found (`both_refused`, `both_fine`), then a fault of its own (`own_refused`); it has no line list.
+use Rattle.recording.specs.Check.{fault_of}
+use Rattle.std.specs.Prelude as Std
 use mathlib.Core.Path.{◌≡◌, refl, sym, subst, ◌∙◌}
 use mathlib.Core.List.{List, []}
 use Prim.Native.Nat.{ℕ, ◌+◌, ◌*◌, ◌≤◌}
@@ -7,10 +9,7 @@ use lib.ListN.{length}
 use borrow.Author.Tests.{ltb-false}
 use Rattle.buffer.specs.Place.{over}
 use Rattle.recording.specs.declared.Refusal.{Refusal}
-use Rattle.recording.specs.declared.Answer.TheVariants.{Refused, Done}
 use Rattle.recording.specs.declared.TextSizes.{TextSizes}
-use Rattle.recording.specs.declared.CheckedBoth.{CheckedBoth}
-use Rattle.recording.specs.declared.CheckedBoth.TheVariants as B
 use Rattle.recording.specs.Recording.{Recording, recording, entries_of, Item, items, data_of, text_of, encode}
 use Rattle.recording.specs.Share.{Inside, sum_of, raw_len_of, times}
 use Rattle.recording.proofs.ShareLaws.{shared_size_lem, shared_less}
@@ -22,10 +21,8 @@ use Rattle.recording.specs.Outcome.{Lent, room_in}
 use Rattle.recording.proofs.FaultLaws.{no_fault, inside_of}
 use Rattle.recording.proofs.SizeLaws.{entry_count, count_numbers}
 use Rattle.writer.specs.declared.Cursor.{Cursor}
-use Rattle.writer.specs.declared.Settled.{Settled}
-use Rattle.writer.specs.declared.Settled.TheVariants as S
 use Rattle.writer.specs.Write.{out, add, blank, Fits, Sound}
-use Rattle.writer.specs.Sizes.{sizes_fault, settled_fault}
+use Rattle.writer.specs.Sizes.{sizes_fault}
 use Rattle.writer.proofs.Sizes.{numbers_items, quads_of}
 use Rattle.writer.proofs.Steps as steps
 use Rattle.layout.specs.Layout.{Kind, Job, with_second, result_items, lines_left, number, second_fault, kind_fault, own_fault}
@@ -111,19 +108,18 @@ lent x = lent_of x.od x.oe x.ot
 abbrev pub BothFine : Given → TextSizes → Type 0
 BothFine x n = Fine x.ds x.ns x.ts n.content × Fine x.fs x.gs x.us n.second
 
-module _ (x : Given) (k : CheckedBoth) (h : BothChecked k (content x) (second x)) where
-  pub both_refused : (f : Refusal) → k ≡ B.Refused f → Leaves (job x) (content x) (lent x) (lent x) (Refused f)
-  unfolding BothChecked second_fault
+module _ (x : Given) (k : Std.Result TextSizes Refusal) (h : BothChecked k (content x) (second x)) where
+  pub both_refused : (f : Refusal) → k ≡ Std.Err f → Leaves (job x) (content x) (lent x) (lent x) (Std.Err f)
+  unfolding second_fault
   both_refused f q = outcomes.input_refused (job x) (content x) (lent x) f (rw q at h)
 
-  pub both_fine : (n : TextSizes) → k ≡ B.Fine n → BothFine x n
-  unfolding BothChecked
+  pub both_fine : (n : TextSizes) → k ≡ Std.Ok n → BothFine x n
   both_fine n q =
-      let g : BothChecked (B.Fine n) (content x) (second x) = rw q at h in
+      let g : BothChecked (Std.Ok n) (content x) (second x) = rw q at h in
       (checked_fine x.ds x.ns x.ts n.content g.0 g.1.1.0 g.1.1.1.1.0, checked_fine x.fs x.gs x.us n.second g.1.0 g.1.1.1.0 g.1.1.1.1.1)
 
 -- at a fault of its own
-pub own_refused : (x : Given) (n : TextSizes) → BothFine x n → (f : Refusal) → kind_fault x.kind x.fs x.ds ≡ number_of_refusal f → Leaves (job x) (content x) (lent x) (lent x) (Refused f)
+pub own_refused : (x : Given) (n : TextSizes) → BothFine x n → (f : Refusal) → kind_fault x.kind x.fs x.ds ≡ number_of_refusal f → Leaves (job x) (content x) (lent x) (lent x) (Std.Err f)
 unfolding second_fault own_fault
 own_refused x n fine f e = outcomes.own_refused (job x) (content x) (lent x) fine.0.passed fine.1.passed f e
 
@@ -141,7 +137,7 @@ pub record Measured (x : Given) (m : ℕ) (is : List Item) (d e t : ℕ) : Type 
   pub text_size_lem : Stands (length x.ot) (text_size_of x.ts (entries_of x.ns) x.us (entries_of x.gs) m) t
 
 module _ (x : Given) (n : TextSizes) (fine : BothFine x n) (m : ℕ) (is : List Item) (d e t : ℕ) (z : Measured x m is d e t)
-    (v : Settled) (g : settled_fault v ≡ sizes_fault d e t 0 (room_in (lent x))) where
+    (v : Std.Result Unit Refusal) (g : fault_of v ≡ sizes_fault d e t 0 (room_in (lent x))) where
   accepted : Accepted (job x) (content x)
   unfolding second_fault own_fault
   accepted = record { content = fine.0.passed; second = fine.1.passed; own = z.own }
@@ -155,13 +151,13 @@ module _ (x : Given) (n : TextSizes) (fine : BothFine x n) (m : ℕ) (is : List 
   unfolding lines_left
   sized = record { leaves = z.leaves; data_size = z.data_size; entry_size = z.entry_size; text_size_lem = stands; line_size_lem = refl }
 
-  pub sizes_refused : (f : Refusal) → v ≡ S.Refused f → Leaves (job x) (content x) (lent x) (lent x) (Refused f)
+  pub sizes_refused : (f : Refusal) → v ≡ Std.Err f → Leaves (job x) (content x) (lent x) (lent x) (Std.Err f)
   sizes_refused f q = outcomes.sizes_refused (job x) (content x) (lent x) accepted is d e t 0 sized v g f q
 
-  pub has_room : v ≡ S.Room → Fits is (blank x.od x.oe x.ot)
+  pub has_room : v ≡ (Std.Ok tt) → Fits is (blank x.od x.oe x.ot)
   has_room q = outcomes.has_room (job x) (content x) (lent x) accepted is d e t 0 sized v g q
 
-  pub written : v ≡ S.Room → (w : ℕ) (od oe ot : List ℕ) (k : Cursor) → number (job x) (content x) ≡ w → out od oe ot k ≡ add is (blank x.od x.oe x.ot)
-      → Leaves (job x) (content x) (lent x) (lent_of od oe ot) (Done k.d k.e k.t w)
+  pub written : v ≡ (Std.Ok tt) → (w : ℕ) (od oe ot : List ℕ) (k : Cursor) → number (job x) (content x) ≡ w → out od oe ot k ≡ add is (blank x.od x.oe x.ot)
+      → Leaves (job x) (content x) (lent x) (lent_of od oe ot) (Std.Ok (record { «data» = k.d; entries = k.e; text = k.t; number = w }))
   unfolding lines_left over
   written q w od oe ot k en wrote = outcomes.written (job x) (content x) (lent x) accepted is d e t 0 sized v g q w od oe ot [] k en wrote refl

@@ -1,23 +1,23 @@
 // Padding: `write_padded_start`, `write_padded_end`, `write_padded_centered` (document 01, module 3).
 // Each keeps one promise, `Leaves` (layout), for its job. All three are `write_padded` with a side.
-// `bytes`, `numbers` and `texts` are the lent buffers; `content`, `entries` and `text` the recording that is padded.
+// `bytes`, `numbers` and `texts` are the lent buffers; `content` is the recording that is padded.
 #![tactic(auto)]
 
 ghost use Rattle.std.specs.Prelude.{◌≡◌, ◌+◌, ◌≤◌, length};
-ghost use Rattle.chars.specs.Leads.{lead_table};
 ghost use Rattle.buffer.specs.Place.{over_at, part};
-ghost use Rattle.recording.specs.Recording.{recording, items};
-ghost use Rattle.writer.specs.Write.{out, add, blank, Fits, Sound};
+ghost use Rattle.recording.specs.Recording.{items};
+ghost use Rattle.recording.specs.Read.{recording_of};
+ghost use Rattle.writer.specs.Write.{out, add, blank, Fits, SoundIn};
 ghost use Rattle.layout.specs.Layout.{padding, fill_count_of, with_second, pad_start, pad_end, pad_centered};
 ghost use Rattle.layout.specs.Lent.{lent_of, Leaves};
 ghost use Rattle.pad.specs.Padding.{repeated, once_if_of, sides, left_of, kind_of};
 
 use buffer::{put, put_byte_times};
-use chars::{LEADS, text_width};
-use recording::{Answer, CheckedBoth, entry_at};
+use chars::display_width;
+use recording::{Done, Recording, Refusal, entry_at};
 use recording_check::check_both;
 use share::text_size;
-use writer::{Cursor, Settled, place_at, put_entry, put_recording, settle};
+use writer::{Cursor, Lengths, START, place_at, put_entry, put_recording, settle};
 
 // Where the fill goes.
 #[derive(Clone, Copy)]
@@ -36,10 +36,8 @@ fn put_copies(out: &mut [u8], at: usize, from: &[u8], a: usize, b: usize, n: usi
     ensures { (result ≡ at + length (repeated n (part a b from.now))) × (out.new ≡ over_at at (repeated n (part a b from.now)) out.old) }
 {
     let mut d = at;
-    let mut i = 0;
-    while i < n {
+    for _ in 0..n {
         d = put(out, d, from, a, b);
-        i += 1;
     }
     d
 }
@@ -65,13 +63,7 @@ fn put_times(bytes: &mut [u8], from: &[u8], a: usize, b: usize, n: usize, c: Cur
     ensures bytes_after { bytes.new ≡ over_at c.d (repeated n (part a b from.now)) bytes.old }
 {
     let d = put_piece(bytes, c.d, from, a, b, n);
-    Cursor {
-        at: c.at,
-        k: c.k,
-        d: d,
-        e: c.e,
-        t: c.t,
-    }
+    Cursor { d, ..c }
 }
 
 // Writes the pieces of the fill, each n times before the next, and its entries between them; at count 0 nothing.
@@ -79,52 +71,41 @@ fn put_padding(
     bytes: &mut [u8],
     numbers: &mut [u32],
     texts: &mut [u8],
-    fill: &[u8],
-    entries: &[u32],
-    text: &[u8],
+    fill: Recording<'_>,
     n: usize,
     c: Cursor,
 ) -> Cursor
-    requires sound { Sound fill.now entries.now text.now }
-    requires fits { Fits (padding n (items (recording fill.now entries.now text.now))) (out bytes.old numbers.old texts.old c) }
+    requires sound { SoundIn (recording_of fill) }
+    requires fits { Fits (padding n (items (recording_of fill))) (out bytes.old numbers.old texts.old c) }
     ensures { out bytes.new numbers.new texts.new result
-        ≡ add (padding n (items (recording fill.now entries.now text.now))) (out bytes.old numbers.old texts.old c) }
+        ≡ add (padding n (items (recording_of fill.entry))) (out bytes.old numbers.old texts.old c) }
 {
     if n == 0 {
         return c;
     }
-    let mut f = Cursor {
-        at: 0,
-        k: 0,
-        d: c.d,
-        e: c.e,
-        t: c.t,
-    };
-    let mut p = place_at(entries, 0);
-    while p <= fill.len() {
-        let e = entry_at(entries, f.k);
-        f = put_times(bytes, fill, f.at, p, n, f);
-        f = put_entry(numbers, texts, text, e, f);
-        p = place_at(entries, f.k);
+    let mut f = Cursor { at: 0, k: 0, ..c };
+    let mut p = place_at(fill.entries, 0);
+    // kept: no `for`: which entry is next stands in the cursor that each step hands on.
+    while p <= fill.bytes.len() {
+        let e = entry_at(fill.entries, f.k);
+        f = put_times(bytes, fill.bytes, f.at, p, n, f);
+        f = put_entry(numbers, texts, fill.text, e, f);
+        p = place_at(fill.entries, f.k);
     }
-    put_times(bytes, fill, f.at, fill.len(), n, f)
+    put_times(bytes, fill.bytes, f.at, fill.bytes.len(), n, f)
 }
 
 // Fill count = min width less content width, not below 0.
-fn fill_count(t: &[u16; 256], content: &[u8], min_width: u32) -> usize
-    requires { t.now ≡ lead_table }
+#[tactic(auto, unfolding(layout::specs::Layout::fill_count_of))]
+fn fill_count(content: &[u8], min_width: u32) -> usize
     ensures value { result ≡ fill_count_of min_width content.now }
     ensures upper_bound { result ≤ 4294967295 }
 {
-    let w = text_width(t, content);
-    let min = min_width as u64;
-    if min <= w {
-        return 0;
-    }
-    (min - w) as usize
+    u64::from(min_width).saturating_sub(display_width(content)) as usize
 }
 
 // How many of n times come before the content.
+#[tactic(auto, unfolding(crate::specs::Padding::left_of))]
 fn left_count(side: Side, n: usize) -> usize
     ensures { (result ≡ left_of side n) × (result ≤ n) }
 {
@@ -136,13 +117,11 @@ fn left_count(side: Side, n: usize) -> usize
 }
 
 // How often a side with `count` times the fill has the fill's entries.
+#[tactic(auto, unfolding(crate::specs::Padding::once_if_of))]
 fn once_if(count: usize) -> usize
     ensures { (result ≡ once_if_of count) × (result ≤ 1) }
 {
-    if count == 0 {
-        return 0;
-    }
-    1
+    usize::from(count != 0)
 }
 
 // Writes the content between `left` and `right` times the fill.
@@ -150,216 +129,123 @@ fn put_padded(
     bytes: &mut [u8],
     numbers: &mut [u32],
     texts: &mut [u8],
-    content: &[u8],
-    entries: &[u32],
-    text: &[u8],
-    fill: &[u8],
-    fill_entries: &[u32],
-    fill_text: &[u8],
+    content: Recording<'_>,
+    fill: Recording<'_>,
     left: usize,
     right: usize,
 ) -> Cursor
-    requires sound { Sound content.now entries.now text.now × Sound fill.now fill_entries.now fill_text.now }
-    requires fits { Fits (sides left right (items (recording fill.now fill_entries.now fill_text.now)) (items (recording content.now entries.now text.now)))
+    requires sound { SoundIn (recording_of content) × SoundIn (recording_of fill) }
+    requires fits { Fits (sides left right (items (recording_of fill)) (items (recording_of content)))
         (blank bytes.old numbers.old texts.old) }
     ensures { out bytes.new numbers.new texts.new result
-        ≡ add (sides left right (items (recording fill.now fill_entries.now fill_text.now))
-        (items (recording content.now entries.now text.now))) (blank bytes.old numbers.old texts.old) }
+        ≡ add (sides left right (items (recording_of fill.entry))
+        (items (recording_of content.entry))) (blank bytes.old numbers.old texts.old) }
 {
-    let start = Cursor {
-        at: 0,
-        k: 0,
-        d: 0,
-        e: 0,
-        t: 0,
-    };
-    let a = put_padding(
-        bytes,
-        numbers,
-        texts,
-        fill,
-        fill_entries,
-        fill_text,
-        left,
-        start,
-    );
-    let b = put_recording(bytes, numbers, texts, content, entries, text, a);
-    put_padding(
-        bytes,
-        numbers,
-        texts,
-        fill,
-        fill_entries,
-        fill_text,
-        right,
-        b,
-    )
+    let a = put_padding(bytes, numbers, texts, fill, left, START);
+    let b = put_recording(bytes, numbers, texts, content, a);
+    put_padding(bytes, numbers, texts, fill, right, b)
 }
 
 // The three calls. The sizes come first, by products: nothing is written and no count is walked before they are granted.
 fn write_padded(
-    content: &[u8],
-    entries: &[u32],
-    text: &[u8],
-    fill: &[u8],
-    fill_entries: &[u32],
-    fill_text: &[u8],
+    content: Recording<'_>,
+    fill: Recording<'_>,
     side: Side,
     min_width: u32,
     bytes: &mut [u8],
     numbers: &mut [u32],
     texts: &mut [u8],
-) -> Answer
-    ensures { Leaves (with_second (kind_of side) min_width (recording fill.now fill_entries.now fill_text.now))
-        (recording content.now entries.now text.now)
+) -> Result<Done, Refusal>
+    ensures { Leaves (with_second (kind_of side) min_width (recording_of fill.entry))
+        (recording_of content.entry)
         (lent_of bytes.old numbers.old texts.old) (lent_of bytes.new numbers.new texts.new) result }
 {
-    let t = LEADS;
-    let checked = check_both(content, entries, text, fill, fill_entries, fill_text);
-    let sizes = match checked {
-        CheckedBoth::Refused(f) => {
-            return Answer::Refused(f);
-        }
-        CheckedBoth::Fine(n) => n,
-    };
-    let count = fill_count(&t, content, min_width);
+    let sizes = check_both(content, fill)?;
+    let count = fill_count(content.bytes, min_width);
     let left = left_count(side, count);
     let right = count - left;
     let times = once_if(left) + once_if(right);
     let shared = text_size(
         sizes.content + times * sizes.second,
         texts.len(),
-        entries,
-        text,
-        fill_entries,
-        fill_text,
+        content,
+        fill,
         times,
     );
-    let verdict = settle(
-        content.len() + count * fill.len(),
-        entries.len() + times * fill_entries.len(),
-        shared,
-        0,
-        bytes.len(),
-        numbers.len(),
-        texts.len(),
-        0,
-    );
-    match verdict {
-        Settled::Refused(f) => {
-            return Answer::Refused(f);
-        }
-        Settled::Room => {}
-    }
-    let c = put_padded(
-        bytes,
-        numbers,
-        texts,
-        content,
-        entries,
-        text,
-        fill,
-        fill_entries,
-        fill_text,
-        left,
-        right,
-    );
-    Answer::Done {
+    settle(
+        Lengths {
+            bytes: content.bytes.len() + count * fill.bytes.len(),
+            numbers: content.entries.len() + times * fill.entries.len(),
+            texts: shared,
+            lines: 0,
+        },
+        Lengths {
+            bytes: bytes.len(),
+            numbers: numbers.len(),
+            texts: texts.len(),
+            lines: 0,
+        },
+    )?;
+    let c = put_padded(bytes, numbers, texts, content, fill, left, right);
+    Ok(Done {
         data: c.d,
         entries: c.e,
         text: c.t,
         number: 0,
-    }
+    })
 }
 
 // Writes the fill before a content that is narrower than the min width: as often as width is missing, each piece that often before the next.
+#[tactic(auto, unfolding(crate::specs::Padding::kind_of))]
 pub fn write_padded_start(
-    content: &[u8],
-    entries: &[u32],
-    text: &[u8],
-    fill: &[u8],
-    fill_entries: &[u32],
-    fill_text: &[u8],
+    content: Recording<'_>,
+    fill: Recording<'_>,
     min_width: u32,
     bytes: &mut [u8],
     numbers: &mut [u32],
     texts: &mut [u8],
-) -> Answer
-    ensures { Leaves (pad_start min_width (recording fill.now fill_entries.now fill_text.now))
-        (recording content.now entries.now text.now)
+) -> Result<Done, Refusal>
+    ensures { Leaves (pad_start min_width (recording_of fill.entry))
+        (recording_of content.entry)
         (lent_of bytes.old numbers.old texts.old) (lent_of bytes.new numbers.new texts.new) result }
 {
-    write_padded(
-        content,
-        entries,
-        text,
-        fill,
-        fill_entries,
-        fill_text,
-        Side::Start,
-        min_width,
-        bytes,
-        numbers,
-        texts,
-    )
+    write_padded(content, fill, Side::Start, min_width, bytes, numbers, texts)
 }
 
 // The same with the fill behind the content.
+#[tactic(auto, unfolding(crate::specs::Padding::kind_of))]
 pub fn write_padded_end(
-    content: &[u8],
-    entries: &[u32],
-    text: &[u8],
-    fill: &[u8],
-    fill_entries: &[u32],
-    fill_text: &[u8],
+    content: Recording<'_>,
+    fill: Recording<'_>,
     min_width: u32,
     bytes: &mut [u8],
     numbers: &mut [u32],
     texts: &mut [u8],
-) -> Answer
-    ensures { Leaves (pad_end min_width (recording fill.now fill_entries.now fill_text.now))
-        (recording content.now entries.now text.now)
+) -> Result<Done, Refusal>
+    ensures { Leaves (pad_end min_width (recording_of fill.entry))
+        (recording_of content.entry)
         (lent_of bytes.old numbers.old texts.old) (lent_of bytes.new numbers.new texts.new) result }
 {
-    write_padded(
-        content,
-        entries,
-        text,
-        fill,
-        fill_entries,
-        fill_text,
-        Side::End,
-        min_width,
-        bytes,
-        numbers,
-        texts,
-    )
+    write_padded(content, fill, Side::End, min_width, bytes, numbers, texts)
 }
 
 // The same with half of the fill, rounded down, before the content and the rest behind it.
+#[tactic(auto, unfolding(crate::specs::Padding::kind_of))]
 pub fn write_padded_centered(
-    content: &[u8],
-    entries: &[u32],
-    text: &[u8],
-    fill: &[u8],
-    fill_entries: &[u32],
-    fill_text: &[u8],
+    content: Recording<'_>,
+    fill: Recording<'_>,
     min_width: u32,
     bytes: &mut [u8],
     numbers: &mut [u32],
     texts: &mut [u8],
-) -> Answer
-    ensures { Leaves (pad_centered min_width (recording fill.now fill_entries.now fill_text.now))
-        (recording content.now entries.now text.now)
+) -> Result<Done, Refusal>
+    ensures { Leaves (pad_centered min_width (recording_of fill.entry))
+        (recording_of content.entry)
         (lent_of bytes.old numbers.old texts.old) (lent_of bytes.new numbers.new texts.new) result }
 {
     write_padded(
         content,
-        entries,
-        text,
         fill,
-        fill_entries,
-        fill_text,
         Side::Centered,
         min_width,
         bytes,

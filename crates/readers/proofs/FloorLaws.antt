@@ -3,7 +3,7 @@
 -- What is to come is the run's bytes, those entries without the raw sequences that go, and what is to come behind them (`come-next`); at the data's end nothing is (`come_end`).
 use Prim.Native.Nat.{ℕ, ◌+◌, ◌-◌, ◌≤◌, ◌<◌}
 use native.Mathlib.Omega.{arith}
-use mathlib.Core.Bool.{Bool, true, false}
+use mathlib.Core.Bool.{true, false}
 use mathlib.Core.Path.{◌≡◌, refl, sym, ap, subst, ◌∙◌}
 use mathlib.Core.List.{List, [], ◌∷◌, ◌++◌, flatten}
 use lib.ListN.{length, take, drop, replicate, length-replicate, length-drop, length-append, take-append-drop, drop_of_length-le}
@@ -12,16 +12,15 @@ use Rattle.buffer.specs.Place.{part}
 use Rattle.buffer.proofs.Laws.{length_part}
 use Rattle.buffer.proofs.HeldLaws.{flatten-append}
 use Rattle.recording.specs.declared.Entry.{Entry}
-use Rattle.recording.specs.Recording.{Bytes, Recording, recording, entries_of, Item, byte_items, items_from, items, data_of, encode}
+use Rattle.recording.specs.Recording.{Bytes, Recording, recording, entries_of, byte_items, items_from, items, data_of, encode}
 use Rattle.recording.specs.Coloured.{Coloured, coloured_from, coloured, open_after}
-use Rattle.recording.specs.Edit.{front, back}
+use Rattle.recording.specs.Edit.{front}
 use Rattle.recording.proofs.EditLaws.{coloured-back}
 use Rattle.writer.specs.declared.Cursor.{Cursor}
-use Rattle.writer.specs.Write.{Valid, Sound, Ready, left, place_for}
+use Rattle.writer.specs.Write.{Valid, Sound, left, place_for}
 use Rattle.writer.proofs.Carry.{valid_in}
 use Rattle.view.specs.View.{drop_raws, floor_items}
 use Rattle.view.proofs.SizeLaws.{data_bound}
-use Rattle.open_label.specs.declared.Open.{Open}
 use Rattle.open_label.specs.declared.Walk.{Walk}
 use Rattle.open_label.specs.Open.{Tells}
 use Rattle.open_label.specs.Walk.{next_place, Arrived, Standing, first_walk_of}
@@ -29,7 +28,7 @@ use Rattle.open_label.proofs.WalkLaws.{left_run_lem, ready_run}
 use Rattle.floor_runs.specs.declared.Run.{Run}
 use Rattle.floor_runs.specs.Fates.{fates, to_come, Fated}
 use Rattle.floor_runs.specs.Runs.{copied_run_to, run_bytes, RunOf}
-use Rattle.floor_runs.proofs.PlacedLaws.{floor_placed, come_run, come_entries, length-fates, data_floor}
+use Rattle.floor_runs.proofs.PlacedLaws.{come_run, come_entries, length-fates, data_floor}
 use Rattle.floor_runs.proofs.FateLaws.{colours_behind, fated_at}
 use Rattle.readers.specs.Entries.{Passed}
 

@@ -3,10 +3,10 @@
 use Prim.Native.Nat.{ℕ, ◌+◌, ◌≤◌}
 use native.Mathlib.Omega.{arith}
 use mathlib.Core.Path.{◌≡◌, refl, sym, ap, subst, ◌∙◌}
-use mathlib.Core.List.{List, [], ◌∷◌, ◌++◌, append-nil}
+use mathlib.Core.List.{List, [], ◌++◌, append-nil}
 use lib.ListN.{length, drop}
 use Rattle.buffer.specs.Place.{over_at}
-use Rattle.recording.specs.Recording.{Bytes, Item, byte_items, items, data_of}
+use Rattle.recording.specs.Recording.{Bytes, Item, byte_items}
 use Rattle.recording.specs.Coloured.{open_after}
 use Rattle.recording.specs.Edit.{front, back}
 use Rattle.recording.proofs.ItemsLaws.{data_bytes_lem}
@@ -73,10 +73,9 @@ module _ (l ds ns ts : List ℕ) where
         }
 
     -- the same, where the first place and the first run are told by equations
-    pub begun : (v w : Walk) (r : Run) (oe ot : List ℕ) → v ≡ first_walk_of → r ≡ copied_run_to 0 → Passed l ds ns ts v w → EntriesWritten l ds ns ts v oe₀ ot₀ w oe ot → Written w r o₀ (out od₀ oe ot w.c)
-    begun v w r oe ot f g p e =
-        subst (λ (x : Run). Written w x o₀ (out od₀ oe ot w.c)) (sym g)
-        (written_first w oe ot (subst (λ (x : Walk). Passed l ds ns ts x w) f p) (subst (λ (x : Walk). EntriesWritten l ds ns ts x oe₀ ot₀ w oe ot) f e))
+    pub begun : (w : Walk) (r : Run) (oe ot : List ℕ) → r ≡ copied_run_to 0 → Passed l ds ns ts first_walk_of w → EntriesWritten l ds ns ts first_walk_of oe₀ ot₀ w oe ot
+        → Written w r o₀ (out od₀ oe ot w.c)
+    begun w r oe ot g p e = subst (λ (x : Run). Written w x o₀ (out od₀ oe ot w.c)) (sym g) (written_first w oe ot p e)
 
     -- ── one turn
     module _ (w : Walk) (r : Run) (od oe ot : List ℕ) (W : Written w r o₀ (out od oe ot w.c)) where

@@ -1,9 +1,10 @@
 -- The sizes of what the floor is left: entries as `scan` told them, and the text by the raw sequences that go (`floor_sized`); data not longer than the content's, so that there is room where there is room for the content's
 -- (`floor_roomy`).
+use Rattle.std.specs.Prelude as Std
 use Prim.Native.Nat.{ℕ, ◌+◌, ◌-◌, ◌≤◌}
 use native.Mathlib.Omega.{arith}
 use mathlib.Core.List.{[]}
-use mathlib.Core.Path.{◌≡◌, refl, sym, ap, subst, ◌∙◌}
+use mathlib.Core.Path.{◌≡◌, refl, sym, subst, ◌∙◌}
 use lib.ListN.{length}
 use Rattle.recording.specs.Recording.{Bytes, Recording, entries_of, items, data_of, text_of, encode}
 use Rattle.recording.specs.Refusals.{recording_fault}
@@ -14,20 +15,17 @@ use Rattle.recording.proofs.SizeLaws.{count_numbers}
 use borrow.Author.Tests.{ltb-false}
 use Rattle.share.specs.Sizes.{raws_in, less_size_of, Stands}
 use Rattle.share.proofs.SizeLaws.{less_of_items, gone_few}
-use Rattle.writer.specs.declared.Settled.{Settled}
-use Rattle.writer.specs.declared.Settled.TheVariants as S
-use Rattle.writer.specs.Sizes.{sizes_fault, settled_fault}
+use Rattle.writer.specs.Sizes.{sizes_fault}
 use Rattle.writer.proofs.Sizes.{smaller_fits}
 use Rattle.recorder.proofs.LeftLaws.{Sized}
 use Rattle.view.specs.View.{floor_items}
 use Rattle.view.proofs.SizeLaws.{drop_text, floor_entries, floor_raws, floor_labels, floor_text_most, data_bound}
 use Rattle.open_label.specs.declared.Kept.{Kept}
-use Rattle.open_label.specs.declared.Scanned.TheVariants as scanned
 use Rattle.open_label.specs.Open.{ScanTold}
 
 module _ (l : Bytes) (q : Recording) where
   -- the raw sequences that go, in bytes
-  module _ (office : ℕ) (k : Kept) (o : office ≡ length (text_of (items q))) (h : ScanTold l q (scanned.Fine k)) where
+  module _ (office : ℕ) (k : Kept) (o : office ≡ length (text_of (items q))) (h : ScanTold l q (Std.Ok k)) where
     raws : sum_of raw_len_of (floor_items l q) + (office - k.text) ≡ sum_of raw_len_of (items q)
     unfolding ScanTold
     raws = (λ i. sum_of raw_len_of (floor_items l q) + (o i - h.2 i)) ∙ floor_raws l q
@@ -73,8 +71,5 @@ module _ (l : Bytes) (q : Recording) where
   floor_shorter = data_bound l q
 
   -- where there is room for the content's data, there is for the floor's
-  pub floor_roomy : (v : Settled) (e t : ℕ) (o : Room) → settled_fault v ≡ sizes_fault (length q.data_bytes) e t 0 o → v ≡ S.Room
-      → settled_fault S.Room ≡ sizes_fault (length (data_of (floor_items l q))) e t 0 o
-  unfolding settled_fault
-  floor_roomy v e t o g p =
-      sym (smaller_fits (length (data_of (floor_items l q))) (length q.data_bytes) e t 0 0 o (sym g ∙ ap settled_fault p) floor_shorter (omega arith))
+  pub floor_roomy : (e t : ℕ) (o : Room) → 0 ≡ sizes_fault (length q.data_bytes) e t 0 o → 0 ≡ sizes_fault (length (data_of (floor_items l q))) e t 0 o
+  floor_roomy e t o g = sym (smaller_fits (length (data_of (floor_items l q))) (length q.data_bytes) e t 0 0 o (sym g) floor_shorter (omega arith))

@@ -1,6 +1,6 @@
 -- The entries at a place of the content, as the floor is left them: the raw sequences under the label are left out.
 use Rattle.std.specs.Prelude.{ℕ, Bool, cond, ◌≡◌, List, [], ◌∷◌}
-use Rattle.recording.specs.Recording.{Bytes, Item}
+use Rattle.recording.specs.Recording.{Bytes, Recording, Item}
 use Rattle.recording.specs.Coloured.{open_after}
 use Rattle.recording.specs.Edit.{front, back}
 use Rattle.writer.specs.declared.Cursor.{Cursor}
@@ -36,3 +36,13 @@ pub record EntriesFit (l ds ns ts : List ℕ) (w : Walk) (oe ot : List ℕ) : Ty
 unfoldable pub EntriesWritten : List ℕ → List ℕ → List ℕ → List ℕ → Walk → List ℕ → List ℕ → Walk → List ℕ → List ℕ → Type 0
 EntriesWritten l ds ns ts w oe ot r oe' ot' =
     (s : List Bytes) → Tells l w.o s → EntriesPut (drop_raws l s (front 0 (left ds ns ts w.c))) oe ot w.c oe' ot' r.c
+
+-- ── the same of a recording
+abbrev pub PassedIn : Bytes → Recording → Walk → Walk → Type 0
+PassedIn l q w r = Passed l q.data_bytes q.entry_numbers q.text w r
+
+abbrev pub EntriesFitIn : Bytes → Recording → Walk → List ℕ → List ℕ → Type 0
+EntriesFitIn l q w oe ot = EntriesFit l q.data_bytes q.entry_numbers q.text w oe ot
+
+abbrev pub EntriesWrittenIn : Bytes → Recording → Walk → List ℕ → List ℕ → Walk → List ℕ → List ℕ → Type 0
+EntriesWrittenIn l q w oe ot r oe' ot' = EntriesWritten l q.data_bytes q.entry_numbers q.text w oe ot r oe' ot'

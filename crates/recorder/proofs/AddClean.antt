@@ -10,7 +10,7 @@ use lib.ListN.{length, take, drop, length-append}
 use borrow.Author.Tests.{eqb-true, eq-eqb, le-ltb}
 use Rattle.chars.specs.Chars.{well_formed_of}
 use Rattle.recording.specs.declared.Entry.{Entry}
-use Rattle.recording.specs.Recording.{Bytes, Recording, recording, entry, entries_of, numbers_of_ranges, part_of, start_in, new_text, push_at}
+use Rattle.recording.specs.Recording.{Bytes, Recording, entry, entries_of, numbers_of_ranges, part_of, start_in, new_text, push_at}
 use Rattle.recording.specs.Refusals.{refuse_if, bad_shape_of, entry_fault, entries_fault, recording_fault}
 use Rattle.recording.specs.Outcome.{Result, done, over_limit, Lent, room_in}
 use Rattle.recording.proofs.Lists.{not_false}

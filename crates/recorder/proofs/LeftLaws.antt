@@ -1,12 +1,13 @@
 -- A call that only the sizes of what it leaves can refuse (`judged_by_size`): where it returns it has the whole promise at once (`left_refused`, `left_settled`, `left_written`), and it has room to write (`left_room`).
 -- Over any items: the sizes that the code took are theirs (`Sized`); all of a recording has its own (`whole_sized`).
+use Rattle.recording.specs.Check.{fault_of}
+use Rattle.std.specs.Prelude as Std
 use Prim.Native.Nat.{ℕ, ◌*◌, ◌≤◌}
 use mathlib.Core.Path.{◌≡◌, refl, sym, subst, ◌∙◌}
 use mathlib.Core.List.{List, [], ◌∷◌}
 use lib.ListN.{length}
 use Rattle.buffer.specs.Place.{over}
 use Rattle.recording.specs.declared.Refusal.{Refusal}
-use Rattle.recording.specs.declared.Answer.TheVariants.{Refused, Done}
 use Rattle.recording.specs.Recording.{recording, entries_of, Item, items, data_of, text_of, encode}
 use Rattle.recording.specs.Refusals.{number_of_refusal, first_of, recording_fault}
 use Rattle.recording.specs.Outcome.{Result, over_limit, no_room, refusal_of, Lent, lent_after, room_in, Promised}
@@ -18,10 +19,8 @@ use Rattle.recording.specs.Share.{Inside}
 use Rattle.share.specs.Sizes.{own_size_of, Stands}
 use Rattle.share.proofs.SizeLaws.{own_whole, own_less}
 use Rattle.writer.specs.declared.Cursor.{Cursor}
-use Rattle.writer.specs.declared.Settled.{Settled}
-use Rattle.writer.specs.declared.Settled.TheVariants as S
 use Rattle.writer.specs.Write.{out, add, blank, Fits}
-use Rattle.writer.specs.Sizes.{sizes_fault, settled_fault, room_of_state}
+use Rattle.writer.specs.Sizes.{sizes_fault, room_of_state}
 use Rattle.writer.proofs.Steps.{data_size, from_start}
 use Rattle.writer.proofs.Sizes.{same_verdict, size_refused, size_granted, fits_blank, numbers_items, quads_of}
 use Rattle.recorder.specs.Recorder.{lent_of, leaves, no_faults, judged_by_size}
@@ -43,7 +42,7 @@ module _ (is : List Item) (od oe ot : List ℕ) where
   judged : refusal_of no_faults (room_in b) result ≡ first_of (over_limit (encode is) ∷ no_room (room_in b) result ∷ [])
   judged = stops_sizes no_faults (room_in b) result refl refl refl refl refl refl
 
-  module _ (d e t : ℕ) (z : Sized (length ot) is d e t) (v : Settled) (g : settled_fault v ≡ sizes_fault d e t 0 (room_of_state (length od) (length oe) (length ot) 0)) where
+  module _ (d e t : ℕ) (z : Sized (length ot) is d e t) (v : Std.Result Unit Refusal) (g : fault_of v ≡ sizes_fault d e t 0 (room_of_state (length od) (length oe) (length ot) 0)) where
     data_is : d ≡ length (encode is).data_bytes
     unfolding encode
     data_is = z.data_size
@@ -53,17 +52,17 @@ module _ (is : List Item) (od oe ot : List ℕ) where
     entries_are = z.entry_size ∙ sym (count_numbers is 0 [] [])
 
     -- the text's own size would settle it alike
-    verdict : settled_fault v ≡ sizes_fault d e (length (encode is).text) 0 (room_of_state (length od) (length oe) (length ot) 0)
+    verdict : fault_of v ≡ sizes_fault d e (length (encode is).text) 0 (room_of_state (length od) (length oe) (length ot) 0)
     verdict = g ∙ same_verdict d e (length (encode is).text) t 0 (room_of_state (length od) (length oe) (length ot) 0) z.text_size_lem
 
-    pub left_refused : (f : Refusal) → v ≡ S.Refused f → Promised (judged_by_size (room_in b) is) b b (Refused f)
+    pub left_refused : (f : Refusal) → v ≡ Std.Err f → Promised (judged_by_size (room_in b) is) b b (Std.Err f)
     unfolding judged_by_size
     left_refused f q =
         let n : refusal_of no_faults (room_in b) result ≡ number_of_refusal f = judged ∙ size_refused result (room_in b) v f d e (length (encode is).text) 0 verdict q data_is entries_are refl refl in
         (refused_answer no_faults (room_in b) result f n, refused_lent no_faults (room_in b) result f b n)
 
     -- ── and there is room
-    module _ (q : v ≡ S.Room) where
+    module _ (q : v ≡ (Std.Ok tt)) where
       fit : first_of (over_limit (encode is) ∷ no_room (room_in b) result ∷ []) ≡ 0
       fit = size_granted result (room_in b) v d e (length (encode is).text) 0 verdict q data_is entries_are refl refl
 
@@ -73,7 +72,7 @@ module _ (is : List Item) (od oe ot : List ℕ) where
       -- what is written is what the answer says, by any numbers that are the sizes
       answered : (x y : ℕ) → x ≡ length (encode is).data_bytes → y ≡ length (encode is).entry_numbers
           → (od' oe' ot' : List ℕ) (c : Cursor) → out od' oe' ot' c ≡ add is (blank od oe ot)
-          → Promised (judged_by_size (room_in b) is) b (lent_of od' oe' ot') (Done x y c.t 0)
+          → Promised (judged_by_size (room_in b) is) b (lent_of od' oe' ot') (Std.Ok (record { «data» = x; entries = y; text = c.t; number = 0 }))
       unfolding judged_by_size lent_after encode over
       answered x y ex ey od' oe' ot' c w =
           let s = from_start is od oe ot od' oe' ot' c w in (
@@ -83,12 +82,12 @@ module _ (is : List Item) (od oe ot : List ℕ) where
 
       -- those that were settled
       pub left_settled : (od' oe' ot' : List ℕ) (c : Cursor) → out od' oe' ot' c ≡ add is (blank od oe ot)
-          → Promised (judged_by_size (room_in b) is) b (lent_of od' oe' ot') (Done d e c.t 0)
+          → Promised (judged_by_size (room_in b) is) b (lent_of od' oe' ot') (Std.Ok (record { «data» = d; entries = e; text = c.t; number = 0 }))
       left_settled = answered d e data_is entries_are
 
       -- or the place behind what is written
       pub left_written : (od' oe' ot' : List ℕ) (c : Cursor) → out od' oe' ot' c ≡ add is (blank od oe ot)
-          → Promised (judged_by_size (room_in b) is) b (lent_of od' oe' ot') (Done c.d c.e c.t 0)
+          → Promised (judged_by_size (room_in b) is) b (lent_of od' oe' ot') (Std.Ok (record { «data» = c.d; entries = c.e; text = c.t; number = 0 }))
       unfolding encode
       left_written od' oe' ot' c w =
           let s = from_start is od oe ot od' oe' ot' c w in
@@ -105,10 +104,11 @@ whole_sized ds ns ts room t h e =
     }
 
 -- what `own_size` asks
-pub own_asked : (ds ns ts : List ℕ) (n : ℕ) → recording_fault (recording ds ns ts) ≡ 0 → n ≡ length (text_of (items (recording ds ns ts)))
-    → ((length ns ≤ 16384) × (length ts ≤ 65536) × Inside ts (entries_of ns)) × (own_size_of ts (entries_of ns) ≤ n)
-own_asked ds ns ts n h e =
-    let f = no_fault (recording ds ns ts) h in (
-      (ltb-false 16384 (length ns) f.entry_numbers, ltb-false 65536 (length ts) f.text, inside_of (entries_of ns) 0 ds ts f.entries),
-      rw e (own_less ds ns ts h),
-    )
+module _ (ds ns ts : List ℕ) (h : recording_fault (recording ds ns ts) ≡ 0) where
+  pub own_bounds : (length ns ≤ 16384) × (length ts ≤ 65536) × Inside ts (entries_of ns)
+  own_bounds =
+      let f = no_fault (recording ds ns ts) h in
+      (ltb-false 16384 (length ns) f.entry_numbers, ltb-false 65536 (length ts) f.text, inside_of (entries_of ns) 0 ds ts f.entries)
+
+  pub own_at_most : (n : ℕ) → n ≡ length (text_of (items (recording ds ns ts))) → own_size_of ts (entries_of ns) ≤ n
+  own_at_most n e = rw e (own_less ds ns ts h)

@@ -1,11 +1,9 @@
 -- `replay` stops at the check's refusal (`check_refused`), and else only the sizes of what it leaves are judged (`sizes_left`); what it leaves is a recording without faults (`replay_clean`).
+use Rattle.recording.specs.Outcome.{Answer}
+use Rattle.std.specs.Prelude as Std
 use mathlib.Core.Path.{◌≡◌, refl, sym, ap, ◌∙◌}
 use native.Mathlib.Omega.{arith}
 use Rattle.recording.specs.declared.Refusal.{Refusal}
-use Rattle.recording.specs.declared.Answer.{Answer}
-use Rattle.recording.specs.declared.Answer.TheVariants.{Refused}
-use Rattle.recording.specs.declared.Checked.{Checked}
-use Rattle.recording.specs.declared.Checked.TheVariants as C
 use Rattle.recording.specs.Recording.{Recording, items, encode}
 use Rattle.recording.specs.Refusals.{number_of_refusal, recording_fault}
 use Rattle.recording.specs.Outcome.{Result, done, refusal_of, Lent, room_in, Promised}
@@ -16,8 +14,8 @@ use Rattle.recording.proofs.CheckLaws.{refused-number, fine_zero}
 use Prim.Native.Nat.{ℕ}
 use Rattle.recorder.specs.Recorder.{leaves, judged_by_size, replay_faults, replayed}
 
-module _ (q : Recording) (b : Lent) (r : Checked) (f : fault_of r ≡ recording_fault q) where
-  pub check_refused : (x : Refusal) → r ≡ C.Refused x → Promised (replayed q b) b b (Refused x)
+module _ (q : Recording) (b : Lent) (r : Std.Result ℕ Refusal) (f : fault_of r ≡ recording_fault q) where
+  pub check_refused : (x : Refusal) → r ≡ Std.Err x → Promised (replayed q b) b b (Std.Err x)
   unfolding replayed replay_faults
   check_refused x e =
       let m : recording_fault q ≡ number_of_refusal x = sym f ∙ refused-number r x e in
@@ -25,7 +23,7 @@ module _ (q : Recording) (b : Lent) (r : Checked) (f : fault_of r ≡ recording_
       stops_content (replay_faults q) (room_in b) (leaves (encode (items q))) refl (omega (arith, m, number_pos x)) ∙ m in
       (refused_answer (replay_faults q) (room_in b) (leaves (encode (items q))) x n, refused_lent (replay_faults q) (room_in b) (leaves (encode (items q))) x b n)
 
-  module _ (n : ℕ) (e : r ≡ C.Fine n) where
+  module _ (n : ℕ) (e : r ≡ Std.Ok n) where
     pub passed : recording_fault q ≡ 0
     passed = sym f ∙ fine_zero r n e
 

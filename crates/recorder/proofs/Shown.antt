@@ -1,5 +1,5 @@
 -- What Q-8 asks to be shown of the recorder (`specs/Shown.antt`): `pushed`, `push_refusals`, `replayed_again`.
-use Prim.Native.Nat.{ℕ, ◌+◌, ◌-◌, ◌%◌, ◌≤◌}
+use Prim.Native.Nat.{ℕ, ◌+◌, ◌-◌, ◌%◌}
 use native.Mathlib.Omega.{arith}
 use mathlib.Core.Bool.{Bool, cond, not}
 use mathlib.Core.Path.{◌≡◌, refl, sym, ap, ◌∙◌}
@@ -9,10 +9,9 @@ use lib.Seq.{take-length}
 use borrow.Author.Tests.{eqb-true}
 use Rattle.chars.specs.Chars.{well_formed_of}
 use Rattle.recording.specs.declared.Entry.{Entry}
-use Rattle.recording.specs.Recording.{Bytes, Recording, recording, entry, entries_of, numbers_of_ranges, part_of, Item, push, byte_items, item_of, items_from, items, pushed_in, start_in, new_text, push_at, encode}
-use Rattle.recording.specs.Refusals.{refuse_if, first_of, entry_fault, entries_fault, recording_fault}
+use Rattle.recording.specs.Recording.{Bytes, Recording, entry, entries_of, numbers_of_ranges, part_of, Item, push, byte_items, item_of, items_from, items, start_in, new_text, push_at, encode}
+use Rattle.recording.specs.Refusals.{refuse_if, entry_fault, entries_fault, recording_fault}
 use Rattle.recording.specs.Outcome.{over_limit, no_room, settle, Lent, room_in}
-use Rattle.recording.specs.Shown.{NoNewRefusals}
 use Rattle.recording.proofs.ItemsLaws.{placed_at, encode_again}
 use Rattle.recording.proofs.FaultLaws.{first_of-zero, no_entry_fault, no_fault}
 use Rattle.recording.proofs.OutcomeLaws.{stops_sizes, is_done, first_on, first_one}

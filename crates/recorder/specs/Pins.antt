@@ -1,6 +1,6 @@
 -- Rows that pin where a recorder's push has its text (document 02, Q-8), computed by `proofs/PinsHold.antt`.
 use Rattle.std.specs.Prelude.{ℕ, List, [], ◌∷◌}
-use Rattle.recording.specs.Recording.{Bytes, Recording, recording}
+use Rattle.recording.specs.Recording.{Bytes, recording}
 use Rattle.recording.specs.Outcome.{Outcome, refused, done}
 use Rattle.recorder.specs.Recorder.{lent_of, leaves, pushed}
 

@@ -1,8 +1,8 @@
 -- The recorder (document 01, module 1): adding data, a label, a pop or a raw sequence to a recording, and replaying one.
-use Rattle.std.specs.Prelude.{ℕ, ◌||◌, not, List, [], ◌∷◌, ◌++◌, ltb, eqb, length, take}
+use Rattle.std.specs.Prelude.{ℕ, ◌≤◌, ◌||◌, not, List, [], ◌∷◌, ◌++◌, ltb, eqb, length, take}
 use Rattle.chars.specs.Chars.{well_formed_of}
 use Rattle.recording.specs.Recording.{Bytes, Recording, recording, entry, entries_of, numbers_of_ranges, Item, items, start_in, new_text, encode}
-use Rattle.recording.specs.Refusals.{refuse_if, recording_fault}
+use Rattle.recording.specs.Refusals.{refuse_if, recording_fault, data_limit, entry_limit, text_limit}
 use Rattle.recording.specs.Outcome.{Room, Result, Faults, content_faults, Outcome, settle, Lent, room_in}
 
 -- the three buffers that a call is lent, without a line list
@@ -54,6 +54,15 @@ with_raw x r = with_entry 2 (length r.text) (length x) x r
 -- the recording in buffers of which d, e and t numbers are used
 abbrev pub used_of : Lent → ℕ → ℕ → ℕ → Recording
 used_of b d e t = recording (take d b.data_bytes) (take e b.entry_numbers) (take t b.text)
+
+-- d, e and t numbers of the buffers: they lie in them, and within the limits of a recording
+pub record UsedIn (b : Lent) (d e t : ℕ) : Type 0 where
+  pub data_bytes : d ≤ length b.data_bytes
+  pub entry_numbers : e ≤ length b.entry_numbers
+  pub text : t ≤ length b.text
+  pub data_limit_lem : d ≤ data_limit
+  pub entry_limit_lem : e ≤ entry_limit
+  pub text_limit_lem : t ≤ text_limit
 
 -- 10: a length above its buffer
 unfoldable pub lengths_fault : Lent → ℕ → ℕ → ℕ → ℕ

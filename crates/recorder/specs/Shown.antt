@@ -1,8 +1,7 @@
 -- What Q-8 asks to be shown of the recorder; `proofs/Shown.antt` has all of it.
-use Rattle.std.specs.Prelude.{ℕ, ◌+◌, true, not, ◌≡◌, List, [], ◌∷◌, ◌++◌, length}
+use Rattle.std.specs.Prelude.{ℕ, true, not, ◌≡◌, List, [], ◌∷◌, ◌++◌, length}
 use Rattle.chars.specs.Chars.{well_formed_of}
-use Rattle.recording.specs.declared.Entry.{Entry}
-use Rattle.recording.specs.Recording.{Bytes, Recording, entries_of, Item, push, items, pushed_in, start_in, encode}
+use Rattle.recording.specs.Recording.{Bytes, Recording, entries_of, Item, push, items, pushed_in, encode}
 use Rattle.recording.specs.Refusals.{refuse_if, recording_fault}
 use Rattle.recording.specs.Outcome.{done, no_room, Lent, room_in}
 use Rattle.recording.specs.Shown.{NoNewRefusals}

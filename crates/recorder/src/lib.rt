@@ -3,128 +3,127 @@
 // `put_whole` is no call of the module: `replay` ends in it, and calls of other crates that have checked a recording do too.
 #![tactic(auto)]
 
-ghost use Rattle.std.specs.Prelude.{◌≡◌, ◌+◌, ◌≤◌, [], ◌∷◌, length};
+ghost use Rattle.std.specs.Prelude.{◌≡◌, ◌+◌, ◌≤◌, [], ◌∷◌, length, IfOk};
 ghost use Rattle.buffer.specs.Place.{over_at};
-ghost use Rattle.recording.specs.Recording.{recording, numbers_of_ranges, items, text_of};
+ghost use Rattle.recording.specs.Recording.{numbers_of_ranges, items, text_of};
+ghost use Rattle.recording.specs.Read.{recording_of};
 ghost use Rattle.recording.specs.Refusals.{first_of, recording_fault};
 ghost use Rattle.recording.specs.Outcome.{Promised, room_in};
 ghost use Rattle.recording.specs.Check.{fault_of};
-ghost use Rattle.recorder.specs.Recorder.{lent_of, judged_by_size, used_of, lengths_fault, replayed, written, pushed, popped, raw_added};
+ghost use Rattle.writer.specs.Sizes.{sizes_fault};
+ghost use Rattle.recorder.specs.Recorder.{lent_of, judged_by_size, used_of, UsedIn, lengths_fault, replayed, written, pushed, popped, raw_added};
 
 use buffer::put;
-use recording::{Answer, Checked, Entry, Refusal};
+use recording::{Done, Entry, Recording, Refusal};
 use recording_check::check;
 use share::{own_size, place_label, set_entry};
 use well_formed::is_well_formed;
-use writer::{Cursor, Settled, keep_entries, settle};
+use writer::{Lengths, START, keep_entries, settle};
 
 // Writes all of a recording without faults, whose entries' texts are `size` bytes one after another, or refuses it for its sizes alone.
+#[tactic(auto, using(crate::proofs::LeftLaws::own_bounds, crate::proofs::LeftLaws::own_at_most))]
 pub fn put_whole(
-    content: &[u8],
-    entries: &[u32],
-    text: &[u8],
+    content: Recording<'_>,
     size: usize,
     out_data: &mut [u8],
     out_entries: &mut [u32],
     out_text: &mut [u8],
-) -> Answer
-    requires { (recording_fault (recording content.now entries.now text.now) ≡ 0) × (size ≡ length (text_of (items (recording content.now entries.now text.now)))) }
+) -> Result<Done, Refusal>
+    requires { (recording_fault (recording_of content) ≡ 0) × (size ≡ length (text_of (items (recording_of content)))) }
     ensures { Promised
-        (judged_by_size (room_in (lent_of out_data.old out_entries.old out_text.old))
-        (items (recording content.now entries.now text.now)))
+        (judged_by_size (room_in (lent_of out_data.old out_entries.old out_text.old)) (items (recording_of content.entry)))
         (lent_of out_data.old out_entries.old out_text.old) (lent_of out_data.new out_entries.new out_text.new) result }
 {
-    let shared = own_size(size, out_text.len(), entries, text);
-    let verdict = settle(
-        content.len(),
-        entries.len(),
-        shared,
-        0,
-        out_data.len(),
-        out_entries.len(),
-        out_text.len(),
-        0,
-    );
-    match verdict {
-        Settled::Refused(f) => {
-            return Answer::Refused(f);
-        }
-        Settled::Room => {}
-    }
-    let start = Cursor {
-        at: 0,
-        k: 0,
-        d: 0,
-        e: 0,
-        t: 0,
-    };
+    settle(
+        Lengths {
+            bytes: content.bytes.len(),
+            numbers: content.entries.len(),
+            texts: own_size(size, out_text.len(), content),
+            lines: 0,
+        },
+        Lengths {
+            bytes: out_data.len(),
+            numbers: out_entries.len(),
+            texts: out_text.len(),
+            lines: 0,
+        },
+    )?;
     // a recording that is copied has entries as a rule
     let c = keep_entries(
         out_data,
         out_entries,
         out_text,
         content,
-        entries,
-        text,
-        start,
-        content.len(),
+        START,
+        content.bytes.len(),
     );
-    Answer::Done {
-        data: content.len(),
-        entries: entries.len(),
+    Ok(Done {
+        data: content.bytes.len(),
+        entries: content.entries.len(),
         text: c.t,
         number: 0,
-    }
+    })
 }
 
 // Copies a recording into three lent buffers, each entry's text one after another from 0, equal labels a single time; text that no entry uses is left out.
 pub fn replay(
-    content: &[u8],
-    entries: &[u32],
-    text: &[u8],
+    content: Recording<'_>,
     out_data: &mut [u8],
     out_entries: &mut [u32],
     out_text: &mut [u8],
-) -> Answer
+) -> Result<Done, Refusal>
     ensures { Promised
-        (replayed (recording content.now entries.now text.now) (lent_of out_data.old out_entries.old out_text.old))
+        (replayed (recording_of content.entry) (lent_of out_data.old out_entries.old out_text.old))
         (lent_of out_data.old out_entries.old out_text.old) (lent_of out_data.new out_entries.new out_text.new) result }
 {
-    let checked = check(content, entries, text);
-    let size = match checked {
-        Checked::Refused(f) => {
-            return Answer::Refused(f);
-        }
-        Checked::Fine(n) => n,
-    };
-    put_whole(
-        content,
-        entries,
-        text,
-        size,
-        out_data,
-        out_entries,
-        out_text,
-    )
+    put_whole(content, check(content)?, out_data, out_entries, out_text)
 }
 
-// Refusal 10, then the content's 1 to 6, in buffers of which d, e and n numbers are used.
-fn check_used(content: &[u8], entries: &[u32], text: &[u8], d: usize, e: usize, n: usize) -> Checked
-    ensures { fault_of result
-        ≡ first_of (lengths_fault (lent_of content.now entries.now text.now) d e n
-        ∷ recording_fault (used_of (lent_of content.now entries.now text.now) d e n) ∷ []) }
+// Refusal 10, then the content's 1 to 6, in lent buffers of which d, e and n numbers are used.
+// kept: three lengths; as a `Lengths` they cost an adding call 4 to 7 instructions more, of about 200 on a short recording.
+#[tactic(auto, using(crate::proofs::AddLaws::used_in, crate::proofs::AddLaws::used_alone), unfolding(crate::specs::Recorder::lengths_fault))]
+fn check_used(lent: Recording<'_>, d: usize, e: usize, n: usize) -> Result<usize, Refusal>
+    ensures result_value { fault_of result
+        ≡ first_of (lengths_fault (lent_of lent.entry.bytes.now lent.entry.entries.now lent.entry.text.now) d e n
+        ∷ recording_fault (used_of (lent_of lent.entry.bytes.now lent.entry.entries.now lent.entry.text.now) d e n) ∷ []) }
+    ensures used_in { IfOk result (λ _. UsedIn (lent_of lent.entry.bytes.now lent.entry.entries.now lent.entry.text.now) d e n) }
 {
-    if content.len() < d {
-        return Checked::Refused(Refusal::LengthOverBuffer);
+    if lent.bytes.len() < d || lent.entries.len() < e || lent.text.len() < n {
+        return Err(Refusal::LengthOverBuffer);
     }
-    if entries.len() < e {
-        return Checked::Refused(Refusal::LengthOverBuffer);
-    }
-    if text.len() < n {
-        return Checked::Refused(Refusal::LengthOverBuffer);
-    }
-    check(&content[..d], &entries[..e], &text[..n])
+    check(Recording {
+        bytes: &lent.bytes[..d],
+        entries: &lent.entries[..e],
+        text: &lent.text[..n],
+    })
 }
+
+// Refusals 9 and 21 to 23 of a recording of these lengths, in these buffers; else what a call answers that leaves it.
+#[tactic(auto, using(crate::proofs::AddLaws::settled_in))]
+fn settle_in(lent: Recording<'_>, needed: Lengths) -> Result<Done, Refusal>
+    ensures result_value { fault_of result
+        ≡ sizes_fault needed.bytes needed.numbers needed.texts needed.lines (room_in (lent_of lent.entry.bytes.now lent.entry.entries.now lent.entry.text.now)) }
+    ensures answer { IfOk result (λ x. (x.data ≡ needed.bytes) × (x.entries ≡ needed.numbers) × (x.text ≡ needed.texts) × (x.number ≡ 0)) }
+    ensures room { IfOk result (λ _. UsedIn (lent_of lent.entry.bytes.now lent.entry.entries.now lent.entry.text.now) needed.bytes needed.numbers needed.texts) }
+{
+    settle(
+        needed,
+        Lengths {
+            bytes: lent.bytes.len(),
+            numbers: lent.entries.len(),
+            texts: lent.text.len(),
+            lines: 0,
+        },
+    )?;
+    Ok(Done {
+        data: needed.bytes,
+        entries: needed.numbers,
+        text: needed.texts,
+        number: 0,
+    })
+}
+
+// kept: the buffers of the adding calls are parameters of their own: the C interface lends each by itself, as const where a call does not write it.
 
 // Appends bytes to the data; none is allowed.
 pub fn write(
@@ -135,42 +134,26 @@ pub fn write(
     text: &[u8],
     text_len: usize,
     added: &[u8],
-) -> Answer
+) -> Result<Done, Refusal>
     ensures { Promised
         (written added.now (lent_of content.old entries.now text.now) content_len entries_len text_len)
         (lent_of content.old entries.now text.now) (lent_of content.new entries.now text.now) result }
 {
-    let checked = check_used(content, entries, text, content_len, entries_len, text_len);
-    match checked {
-        Checked::Refused(f) => {
-            return Answer::Refused(f);
-        }
-        Checked::Fine(_) => {}
-    }
-    let total = content_len + added.len();
-    let verdict = settle(
-        total,
-        entries_len,
-        text_len,
-        0,
-        content.len(),
-        entries.len(),
-        text.len(),
-        0,
-    );
-    match verdict {
-        Settled::Refused(f) => {
-            return Answer::Refused(f);
-        }
-        Settled::Room => {}
-    }
+    let lent = Recording {
+        bytes: content,
+        entries,
+        text,
+    };
+    check_used(lent, content_len, entries_len, text_len)?;
+    let needed = Lengths {
+        bytes: content_len + added.len(),
+        numbers: entries_len,
+        texts: text_len,
+        lines: 0,
+    };
+    let left = settle_in(lent, needed)?;
     put(content, content_len, added, 0, added.len());
-    Answer::Done {
-        data: total,
-        entries: entries_len,
-        text: text_len,
-        number: 0,
-    }
+    Ok(left)
 }
 
 // A pop of the last label, at the current end. Whether one is open is not asked.
@@ -181,34 +164,24 @@ pub fn pop_label(
     entries_len: usize,
     text: &[u8],
     text_len: usize,
-) -> Answer
+) -> Result<Done, Refusal>
     ensures { Promised
         (popped (lent_of content.now entries.old text.now) content_len entries_len text_len)
         (lent_of content.now entries.old text.now) (lent_of content.now entries.new text.now) result }
 {
-    let checked = check_used(content, entries, text, content_len, entries_len, text_len);
-    match checked {
-        Checked::Refused(f) => {
-            return Answer::Refused(f);
-        }
-        Checked::Fine(_) => {}
-    }
-    let verdict = settle(
-        content_len,
-        entries_len + 4,
-        text_len,
-        0,
-        content.len(),
-        entries.len(),
-        text.len(),
-        0,
-    );
-    match verdict {
-        Settled::Refused(f) => {
-            return Answer::Refused(f);
-        }
-        Settled::Room => {}
-    }
+    let lent = Recording {
+        bytes: content,
+        entries,
+        text,
+    };
+    check_used(lent, content_len, entries_len, text_len)?;
+    let needed = Lengths {
+        bytes: content_len,
+        numbers: entries_len + 4,
+        texts: text_len,
+        lines: 0,
+    };
+    let left = settle_in(lent, needed)?;
     let e = Entry {
         position: content_len as u32,
         kind: 1,
@@ -216,12 +189,7 @@ pub fn pop_label(
         len: 0,
     };
     set_entry(entries, entries_len, e);
-    Answer::Done {
-        data: content_len,
-        entries: entries_len + 4,
-        text: text_len,
-        number: 0,
-    }
+    Ok(left)
 }
 
 // Writes an entry from e on, and what comes to the text from n on.
@@ -243,52 +211,36 @@ pub fn push_label(
     text: &mut [u8],
     text_len: usize,
     label: &[u8],
-) -> Answer
+) -> Result<Done, Refusal>
     ensures { Promised
         (pushed label.now (lent_of content.now entries.old text.old) content_len entries_len text_len)
         (lent_of content.now entries.old text.old) (lent_of content.now entries.new text.new) result }
 {
-    let checked = check_used(content, entries, text, content_len, entries_len, text_len);
-    match checked {
-        Checked::Refused(f) => {
-            return Answer::Refused(f);
-        }
-        Checked::Fine(_) => {}
-    }
+    let lent = Recording {
+        bytes: content,
+        entries,
+        text,
+    };
+    check_used(lent, content_len, entries_len, text_len)?;
     if !is_well_formed(label) {
-        return Answer::Refused(Refusal::LabelIllFormed);
+        return Err(Refusal::LabelIllFormed);
     }
-    let place = place_label(&entries[0..entries_len], &text[0..text_len], label);
-    let verdict = settle(
-        content_len,
-        entries_len + 4,
-        text_len + place.add,
-        0,
-        content.len(),
-        entries.len(),
-        text.len(),
-        0,
-    );
-    match verdict {
-        Settled::Refused(f) => {
-            return Answer::Refused(f);
-        }
-        Settled::Room => {}
-    }
+    let place = place_label(&lent.entries[..entries_len], &lent.text[..text_len], label);
+    let needed = Lengths {
+        bytes: content_len,
+        numbers: entries_len + 4,
+        texts: text_len + place.add,
+        lines: 0,
+    };
+    let left = settle_in(lent, needed)?;
     let e = Entry {
         position: content_len as u32,
         kind: 0,
         start: place.start,
         len: label.len() as u32,
     };
-    let add = place.add;
-    put_mark(entries, entries_len, e, text, text_len, &label[0..add]);
-    Answer::Done {
-        data: content_len,
-        entries: entries_len + 4,
-        text: text_len + add,
-        number: 0,
-    }
+    put_mark(entries, entries_len, e, text, text_len, &label[..place.add]);
+    Ok(left)
 }
 
 // Appends a raw sequence as one entry at the current end; it is never empty.
@@ -300,37 +252,27 @@ pub fn raw(
     text: &mut [u8],
     text_len: usize,
     sequence: &[u8],
-) -> Answer
+) -> Result<Done, Refusal>
     ensures { Promised
         (raw_added sequence.now (lent_of content.now entries.old text.old) content_len entries_len text_len)
         (lent_of content.now entries.old text.old) (lent_of content.now entries.new text.new) result }
 {
-    let checked = check_used(content, entries, text, content_len, entries_len, text_len);
-    match checked {
-        Checked::Refused(f) => {
-            return Answer::Refused(f);
-        }
-        Checked::Fine(_) => {}
+    let lent = Recording {
+        bytes: content,
+        entries,
+        text,
+    };
+    check_used(lent, content_len, entries_len, text_len)?;
+    if sequence.is_empty() {
+        return Err(Refusal::EntryShape);
     }
-    if sequence.len() == 0 {
-        return Answer::Refused(Refusal::EntryShape);
-    }
-    let verdict = settle(
-        content_len,
-        entries_len + 4,
-        text_len + sequence.len(),
-        0,
-        content.len(),
-        entries.len(),
-        text.len(),
-        0,
-    );
-    match verdict {
-        Settled::Refused(f) => {
-            return Answer::Refused(f);
-        }
-        Settled::Room => {}
-    }
+    let needed = Lengths {
+        bytes: content_len,
+        numbers: entries_len + 4,
+        texts: text_len + sequence.len(),
+        lines: 0,
+    };
+    let left = settle_in(lent, needed)?;
     let e = Entry {
         position: content_len as u32,
         kind: 2,
@@ -338,10 +280,5 @@ pub fn raw(
         len: sequence.len() as u32,
     };
     put_mark(entries, entries_len, e, text, text_len, sequence);
-    Answer::Done {
-        data: content_len,
-        entries: entries_len + 4,
-        text: text_len + sequence.len(),
-        number: 0,
-    }
+    Ok(left)
 }

@@ -2,17 +2,14 @@
 use mathlib.Core.Path.{◌≡◌, refl, sym, ap, ◌∙◌}
 use mathlib.Core.Bool.{Bool, true, false, not, ◌&&◌, false≢true}
 use mathlib.Core.List.{List, [], ◌∷◌, ◌++◌}
-use Prim.Native.Nat.{ℕ, zero, suc, ◌+◌, ◌-◌, ◌*◌, ◌%◌, ◌≤◌, ◌<◌}
+use Prim.Native.Nat.{ℕ, zero, suc, ◌+◌, ◌-◌, ◌*◌, ◌≤◌, ◌<◌}
 use native.Mathlib.Omega.{arith}
 use lib.Dec.{eqb}
-use lib.ListN.{length, take, drop, length-append, length-take, length-drop, drop_of_length-le}
-use borrow.Author.Tests.{eq-eqb, ne_eqb, eqb-true, lt-ltb, le-ltb}
-use Rattle.chars.specs.Chars.{well_formed_of}
+use lib.ListN.{length, take, drop, length-append, length-take, length-drop}
+use borrow.Author.Tests.{eqb-true}
 use Rattle.recording.specs.declared.Entry.{Entry}
 use Rattle.recording.specs.declared.Refusal.{Refusal}
-use Rattle.recording.specs.declared.Checked.{Checked}
-use Rattle.recording.specs.declared.Checked.TheVariants.{Refused, Fine}
-use Rattle.recording.specs.declared.CheckedBoth.TheVariants as both
+use Rattle.std.specs.Prelude.{Result, Ok, Err}
 use Rattle.recording.specs.Recording.{Recording, recording, entries_of, part_of, Item, byte_items, item_of, items_from, items, text_of}
 use Rattle.recording.specs.Refusals.{number_of_refusal, bad_shape_of, entry_fault, entries_fault, recording_fault}
 use Rattle.recording.specs.Check.{fault_of, Counted, Within, BothChecked}
@@ -20,102 +17,20 @@ use Rattle.recording.proofs.FaultLaws.{first_of-zero, no_entry_fault}
 use Rattle.recording.proofs.OutcomeLaws.{number_pos, first_hit, first_on, first_one}
 
 -- ── what an answer of a check says
-pub refused_pos : (r : Checked) (f : Refusal) → r ≡ Refused f → 0 < fault_of r
-unfolding fault_of
+pub refused_pos : {T : Type 0} (r : Result T Refusal) (f : Refusal) → r ≡ Err f → 0 < fault_of r
 refused_pos r f e = rw e (number_pos f)
 
-pub refused-number : (r : Checked) (f : Refusal) → r ≡ Refused f → fault_of r ≡ number_of_refusal f
-unfolding fault_of
+pub refused-number : {T : Type 0} (r : Result T Refusal) (f : Refusal) → r ≡ Err f → fault_of r ≡ number_of_refusal f
 refused-number r f e = rw e
 
-pub refused-count : (r : Checked) (f : Refusal) (m : ℕ) → r ≡ Refused f → Counted r m
-unfolding Counted
-refused-count r f m e = rw e tt
-
-pub refused-within : (r : Checked) (f : Refusal) (m : ℕ) → r ≡ Refused f → Within r m
-unfolding Within
-refused-within r f m e = rw e tt
-
-pub fine_zero : (r : Checked) (n : ℕ) → r ≡ Fine n → fault_of r ≡ 0
-unfolding fault_of
+pub fine_zero : {T : Type 0} (r : Result T Refusal) (n : T) → r ≡ Ok n → fault_of r ≡ 0
 fine_zero r n e = rw e
 
-pub fine_count : (r : Checked) (n m : ℕ) → r ≡ Fine n → Counted r m → n ≡ m
-unfolding Counted
+pub fine_count : (r : Result ℕ Refusal) (n m : ℕ) → r ≡ Ok n → Counted r m → n ≡ m
 fine_count r n m e c = rw e at c
 
-pub fine_within : (r : Checked) (n m : ℕ) → r ≡ Fine n → Within r m → n ≤ m
-unfolding Within
+pub fine_within : (r : Result ℕ Refusal) (n m : ℕ) → r ≡ Ok n → Within r m → n ≤ m
 fine_within r n m e c = rw e at c
-
--- ── one entry: the tests in order
-module _ (d t : List ℕ) (e : Entry) (at : ℕ) where
-  pub ill_shaped : bad_shape_of e.kind e.start e.len ≡ true → entry_fault at d t e ≡ 3
-  unfolding entry_fault
-  ill_shaped b = rw b
-
-  module _ (b : bad_shape_of e.kind e.start e.len ≡ false) where
-    pub falling : e.position < at → entry_fault at d t e ≡ 4
-    unfolding entry_fault
-    falling h = rw (b, lt-ltb e.position at h)
-
-    module _ (p : at ≤ e.position) where
-      pub beyond : length d < e.position → entry_fault at d t e ≡ 4
-      unfolding entry_fault
-      beyond h = rw (b, le-ltb e.position at p, lt-ltb (length d) e.position h)
-
-      module _ (q : e.position ≤ length d) where
-        pub outside : length t < e.start + e.len → entry_fault at d t e ≡ 5
-        unfolding entry_fault
-        outside h = rw (b, le-ltb e.position at p, le-ltb (length d) e.position q, lt-ltb (length t) (e.start + e.len) h)
-
-        module _ (r : e.start + e.len ≤ length t) where
-          pub no_label : (e.kind ≡ 0 → ⊥) → entry_fault at d t e ≡ 0
-          unfolding entry_fault
-          no_label h =
-              rw (b, le-ltb e.position at p, le-ltb (length d) e.position q, le-ltb (length t) (e.start + e.len) r, ne_eqb e.kind 0 h)
-
-          module _ (k : e.kind ≡ 0) (w : Bool) (ew : w ≡ well_formed_of (take ((e.start + e.len) - e.start) (drop e.start t))) where
-            same : well_formed_of (part_of t e) ≡ w
-            same =
-                let m : (e.start + e.len) - e.start ≡ e.len = omega arith in
-                sym (ew ∙ ap (λ (n : ℕ). well_formed_of (take n (drop e.start t))) m)
-
-            pub ill : w ≡ false → entry_fault at d t e ≡ 6
-            unfolding entry_fault
-            ill h =
-                rw (b, le-ltb e.position at p, le-ltb (length d) e.position q, le-ltb (length t) (e.start + e.len) r, eq-eqb e.kind 0 k, same, h)
-
-            pub well : w ≡ true → entry_fault at d t e ≡ 0
-            unfolding entry_fault
-            well h =
-                rw (b, le-ltb e.position at p, le-ltb (length d) e.position q, le-ltb (length t) (e.start + e.len) r, eq-eqb e.kind 0 k, same, h)
-
--- ── the lengths, then the entries
-module _ (ds ns ts : List ℕ) where
-  pub fault_1 : 1048576 < length ds → recording_fault (recording ds ns ts) ≡ 1
-  unfolding recording_fault
-  fault_1 h = rw (lt-ltb 1048576 (length ds) h)
-
-  module _ (a : length ds ≤ 1048576) where
-    pub fault_2a : (length ns % 4 ≡ 0 → ⊥) → recording_fault (recording ds ns ts) ≡ 2
-    unfolding recording_fault
-    fault_2a h = rw (le-ltb 1048576 (length ds) a, ne_eqb (length ns % 4) 0 h)
-
-    module _ (b : length ns % 4 ≡ 0) where
-      pub fault_2b : 16384 < length ns → recording_fault (recording ds ns ts) ≡ 2
-      unfolding recording_fault
-      fault_2b h = rw (le-ltb 1048576 (length ds) a, eq-eqb (length ns % 4) 0 b, lt-ltb 16384 (length ns) h)
-
-      module _ (c : length ns ≤ 16384) where
-        pub fault_5 : 65536 < length ts → recording_fault (recording ds ns ts) ≡ 5
-        unfolding recording_fault
-        fault_5 h = rw (le-ltb 1048576 (length ds) a, eq-eqb (length ns % 4) 0 b, le-ltb 16384 (length ns) c, lt-ltb 65536 (length ts) h)
-
-        pub fault_entries : length ts ≤ 65536 → recording_fault (recording ds ns ts) ≡ entries_fault 0 ds ts (entries_of ns)
-        unfolding recording_fault
-        fault_entries h =
-            rw (le-ltb 1048576 (length ds) a, eq-eqb (length ns % 4) 0 b, le-ltb 16384 (length ns) c, le-ltb 65536 (length ts) h) (first_one (entries_fault 0 ds ts (entries_of ns)))
 
 -- ── the texts: each entry's is as long as it says, a pop's is empty
 abbrev pub sum_len : List Entry → ℕ
@@ -156,78 +71,72 @@ text_sum (e ∷ es) at from d x t h =
     ap length (text_bytes (take (p - from) x) (item_of e.kind (part_of t e) ∷ r)) ∙ text_entry e.kind e.start e.len t r f.shape f.part
     ∙ ap (λ (n : ℕ). e.len + n) (text_sum es p p d (drop (p - from) x) t g.0)
 
--- ── entry by entry: those before k have no fault and `size` bytes of text
-pub record Seen (ds ns ts : List ℕ) (at k size : ℕ) : Type 0 where
-  pub within : k ≤ length ns
-  pub fours : k % 4 ≡ 0
-  pub faults : entries_fault at ds ts (entries_of (drop k ns)) ≡ entries_fault 0 ds ts (entries_of ns)
-  pub sizes : size + sum_len (entries_of (drop k ns)) ≡ sum_len (entries_of ns)
-  pub small : size ≤ 16384 * k
+-- ── entry by entry: those that were read have no fault and `size` bytes of text, and `rest` are left
+pub record Seen (ds ts : List ℕ) (all rest : List Entry) (at size : ℕ) : Type 0 where
+  pub faults : entries_fault at ds ts rest ≡ entries_fault 0 ds ts all
+  pub sizes : size + sum_len rest ≡ sum_len all
+  pub small : size + 65536 * length rest ≤ 65536 * length all
 
-pub seen_first : (ds ns ts : List ℕ) → Seen ds ns ts 0 0 0
-seen_first ds ns ts = record { within = omega arith; fours = refl; faults = refl; sizes = omega arith; small = omega arith }
+pub seen_first : (ds ts : List ℕ) (all : List Entry) → Seen ds ts all all 0 0
+seen_first ds ts all = record { faults = refl; sizes = omega arith; small = omega arith }
 
-module _ (ds ns ts : List ℕ) (at k size : ℕ) (s : Seen ds ns ts at k size) (w : length ns % 4 ≡ 0) (more : k < length ns) where
-  pub whole : k + 4 ≤ length ns
-  whole = omega (arith, s.fours, s.within, w)
+module _ (ds ts : List ℕ) (all rest es : List Entry) (e : Entry) (at size : ℕ) (s : Seen ds ts all rest at size) (q : rest ≡ e ∷ es) (r : Result ℕ Refusal) (f : fault_of r ≡ entry_fault at ds ts e) where
+  faults : entries_fault at ds ts (e ∷ es) ≡ entries_fault 0 ds ts all
+  faults = ap (entries_fault at ds ts) (sym q) ∙ s.faults
 
-  module _ (e : Entry) (q : entries_of (drop k ns) ≡ e ∷ entries_of (drop (k + 4) ns)) (r : Checked) (f : fault_of r ≡ entry_fault at ds ts e) where
-    rest : ℕ
-    rest = entries_fault e.position ds ts (entries_of (drop (k + 4) ns))
+  pub stops : (x : Refusal) → r ≡ Err x → fault_of {T = ℕ} (Err x) ≡ entries_fault 0 ds ts all
+  stops x p =
+      sym (refused-number r x p) ∙ f ∙ sym (first_hit (entry_fault at ds ts e) (entries_fault e.position ds ts es ∷ []) (omega (arith, f, refused_pos r x p))) ∙ faults
 
-    pub stops : (x : Refusal) → r ≡ Refused x → fault_of r ≡ entries_fault 0 ds ts (entries_of ns)
-    stops x p =
-        f ∙ sym (first_hit (entry_fault at ds ts e) (entries_fault e.position ds ts (entries_of (drop (k + 4) ns)) ∷ []) (omega (arith, f, refused_pos r x p)))
-        ∙ sym (ap (entries_fault at ds ts) q) ∙ s.faults
+  module _ (n : ℕ) (p : r ≡ Ok n) (c : Counted r e.len) (t : length ts ≤ 65536) where
+    none : entry_fault at ds ts e ≡ 0
+    none = sym f ∙ fine_zero r n p
 
-    module _ (n : ℕ) (p : r ≡ Fine n) (c : Counted r e.len) (t : length ts ≤ 65536) where
-      none : entry_fault at ds ts e ≡ 0
-      none = sym f ∙ fine_zero r n p
+    len : n ≡ e.len
+    len = fine_count r n e.len p c
 
-      len : n ≡ e.len
-      len = fine_count r n e.len p c
+    pub goes : Seen ds ts all es e.position (size + n)
+    goes =
+        record {
+          faults = sym (first_one (entries_fault e.position ds ts es)) ∙ sym (first_on (entry_fault at ds ts e) (entries_fault e.position ds ts es ∷ []) none) ∙ faults;
+          sizes = omega (arith, s.sizes, len, ap sum_len q);
+          small = omega (arith, s.small, len, (no_entry_fault at ds ts e none).part, t, ap length q);
+        }
 
-      pub fits_size : size + n ≤ 16384 * (k + 4)
-      fits_size = omega (arith, s.small, len, (no_entry_fault at ds ts e none).part)
+-- four numbers an entry
+pub entries_quarter : (ns : List ℕ) → 4 * length (entries_of ns) ≤ length ns
+entries_quarter [] = omega arith
+entries_quarter (p ∷ []) = omega arith
+entries_quarter (p ∷ k ∷ []) = omega arith
+entries_quarter (p ∷ k ∷ s ∷ []) = omega arith
+entries_quarter (p ∷ k ∷ s ∷ n ∷ ns) = omega (arith, entries_quarter ns)
 
-      pub goes : (at' : ℕ) → at' ≡ e.position → Seen ds ns ts at' (k + 4) (size + n)
-      goes at' ep =
-          record {
-            within = whole;
-            fours = omega (arith, s.fours);
-            faults = rw ep (sym (first_one (entries_fault e.position ds ts (entries_of (drop (k + 4) ns))))
-                ∙ sym (first_on (entry_fault at ds ts e) (entries_fault e.position ds ts (entries_of (drop (k + 4) ns)) ∷ []) none) ∙ sym (ap (entries_fault at ds ts) q) ∙ s.faults);
-            sizes = omega (arith, ap sum_len q, s.sizes, len);
-            small = fits_size;
-          }
+pub seen_small : (ds ns ts : List ℕ) (rest : List Entry) (at size : ℕ) → Seen ds ts (entries_of ns) rest at size → length ns ≤ 16384 → size ≤ 268435456
+seen_small ds ns ts rest at size s h = omega (arith, s.small, entries_quarter ns)
 
-pub seen_last : (ds ns ts : List ℕ) (at k size : ℕ) → Seen ds ns ts at k size → length ns ≤ k
+pub seen_last : (ds ns ts : List ℕ) (rest : List Entry) (at size : ℕ) → Seen ds ts (entries_of ns) rest at size → rest ≡ []
     → (0 ≡ entries_fault 0 ds ts (entries_of ns)) × (size ≡ length (text_of (items (recording ds ns ts))))
 unfolding items
-seen_last ds ns ts at k size s h =
-    let z : drop k ns ≡ [] = drop_of_length-le ns {i = k} h in
-    let a : 0 ≡ entries_fault 0 ds ts (entries_of ns) = sym (ap (λ (l : List ℕ). entries_fault at ds ts (entries_of l)) z) ∙ s.faults in
-    (a, omega (arith, ap (λ (l : List ℕ). sum_len (entries_of l)) z, s.sizes, text_sum (entries_of ns) 0 0 ds ds ts (sym a)))
+seen_last ds ns ts rest at size s q =
+    let a : 0 ≡ entries_fault 0 ds ts (entries_of ns) = ap (entries_fault at ds ts) (sym q) ∙ s.faults in
+    (a, omega (arith, ap sum_len q, s.sizes, text_sum (entries_of ns) 0 0 ds ds ts (sym a)))
 
 -- ── of two recordings: what each check found decides for both
-module _ (r q : Recording) (a : Checked) (ea : fault_of a ≡ recording_fault r) where
-  pub first_refused : (f : Refusal) → a ≡ Refused f → BothChecked (both.Refused f) r q
-  unfolding BothChecked
+module _ (r q : Recording) (a : Result ℕ Refusal) (ea : fault_of a ≡ recording_fault r) where
+  pub first_refused : (f : Refusal) → a ≡ Err f → BothChecked (Err f) r q
   first_refused f e =
       let n : number_of_refusal f ≡ recording_fault r = sym (refused-number a f e) ∙ ea in
       n ∙ sym (first_hit (recording_fault r) (recording_fault q ∷ []) (omega (arith, n, number_pos f)))
 
-  module _ (n : ℕ) (e : a ≡ Fine n) (ca : Counted a (length (text_of (items r)))) (wa : Within a 268435456) (b : Checked) (eb : fault_of b ≡ recording_fault q) where
+  module _ (n : ℕ) (e : a ≡ Ok n) (ca : Counted a (length (text_of (items r)))) (wa : Within a 268435456) (b : Result ℕ Refusal) (eb : fault_of b ≡ recording_fault q) where
     no_first : recording_fault r ≡ 0
     no_first = sym ea ∙ fine_zero a n e
 
-    pub next_refused : (f : Refusal) → b ≡ Refused f → BothChecked (both.Refused f) r q
-    unfolding BothChecked
+    pub next_refused : (f : Refusal) → b ≡ Err f → BothChecked (Err f) r q
     next_refused f h =
         sym (refused-number b f h) ∙ eb ∙ sym (first_one (recording_fault q)) ∙ sym (first_on (recording_fault r) (recording_fault q ∷ []) no_first)
 
-    pub both_fine : (m : ℕ) → b ≡ Fine m → Counted b (length (text_of (items q))) → Within b 268435456 → BothChecked (both.Fine (record { content = n; second = m })) r q
-    unfolding BothChecked
+    pub both_fine : (m : ℕ) → b ≡ Ok m → Counted b (length (text_of (items q))) → Within b 268435456 → BothChecked (Ok (record { content = n; second = m })) r q
     both_fine m h cb wb = (
       no_first,
       (

@@ -12,8 +12,7 @@ use Rattle.recording.specs.declared.Refusal.TheVariants.{DataTooLong, EntryNumbe
 use Rattle.recording.specs.declared.Refusal.TheVariants.{ResultOverLimit, LengthOverBuffer, DataBufferTooShort, EntryBufferTooShort, TextBufferTooShort, LineListTooShort}
 use Rattle.recording.specs.declared.Refusal.TheVariants.{TabStop, PrefixNewline, PrefixMissing, ViewLabel, ContentUnbalanced, LineIndex, NoSuchPlace, CellEnds, TallyShape, TallyCell, TallyLine}
 use Rattle.recording.specs.declared.Refusal.TheVariants.{SetsDiffer, CallNumbers, AnswerListTooShort}
-use Rattle.recording.specs.declared.Answer.TheVariants.{Refused, Done}
-use Rattle.recording.specs.declared.Reply.TheVariants as R
+use Rattle.std.specs.Prelude.{Ok, Err}
 use Rattle.recording.specs.Recording.{Recording}
 use Rattle.recording.specs.Refusals.{number_of_refusal, first_of, recording_fault}
 use Rattle.recording.specs.Outcome.{Room, Result, Faults, content_faults, Outcome, refused, done, over_limit, no_room, refusal_of, settle}
@@ -21,7 +20,6 @@ use Rattle.recording.specs.Outcome.{Lent, lent_after, returned, answer_of, Promi
 
 -- no refusal has the number 0
 pub number_pos : (f : Refusal) → 0 < number_of_refusal f
-unfolding number_of_refusal
 number_pos DataTooLong = omega arith
 number_pos EntryNumbers = omega arith
 number_pos EntryShape = omega arith
@@ -113,8 +111,8 @@ module _ (f : Faults) (o : Room) (x : Result) where
   unfolding settle
   is_done e = rw e
 
-  pub refused_answer : (r : Refusal) → refusal_of f o x ≡ number_of_refusal r → answer_of (Refused r) ≡ returned (settle f o x)
-  unfolding answer_of returned
+  pub refused_answer : (r : Refusal) → refusal_of f o x ≡ number_of_refusal r → answer_of (Err r) ≡ returned (settle f o x)
+  unfolding returned
   refused_answer r e = rw (is_refused r e)
 
   pub refused_lent : (r : Refusal) (b : Lent) → refusal_of f o x ≡ number_of_refusal r → b ≡ lent_after (settle f o x) b
@@ -122,8 +120,8 @@ module _ (f : Faults) (o : Room) (x : Result) where
   refused_lent r b e = rw (is_refused r e)
 
   pub done_answer : (d e t n : ℕ) → refusal_of f o x ≡ 0 → d ≡ length x.recording.data_bytes → e ≡ length x.recording.entry_numbers → t ≡ length x.recording.text → n ≡ x.number
-      → answer_of (Done d e t n) ≡ returned (settle f o x)
-  unfolding answer_of returned
+      → answer_of (Ok (record { «data» = d; entries = e; text = t; number = n })) ≡ returned (settle f o x)
+  unfolding returned
   done_answer d e t n z ed ee et en = rw (is_done z) (λ i. record { refusal = 0; data_bytes = ed i; entry_numbers = ee i; text = et i; number = en i })
 
   -- the refusal that comes back, 0 included
@@ -158,16 +156,16 @@ module _ (f : Faults) (o : Room) (x : Result) where
 
 -- ── an outcome, and what is then answered and left
 module _ (u : Outcome) where
-  pub promise_refused : (f : Refusal) (b : Lent) → u ≡ refused (number_of_refusal f) → Promised u b b (Refused f)
-  unfolding answer_of returned lent_after
+  pub promise_refused : (f : Refusal) (b : Lent) → u ≡ refused (number_of_refusal f) → Promised u b b (Err f)
+  unfolding returned lent_after
   promise_refused f b e = (rw e, rw e)
 
-  pub reply_refused : (f : Refusal) (a b : ℕ) → u ≡ refused (number_of_refusal f) → reply_of (R.Refused f) ≡ replied u a b
-  unfolding reply_of replied
+  pub reply_refused : (f : Refusal) (a b : ℕ) → u ≡ refused (number_of_refusal f) → reply_of (Err f) ≡ replied u a b
+  unfolding replied
   reply_refused f a b e = rw e
 
-  pub reply_found : (x : Result) (a b a' b' : ℕ) → u ≡ done x → a ≡ a' → b ≡ b' → reply_of (R.Found a b) ≡ replied u a' b'
-  unfolding reply_of replied
+  pub reply_found : (x : Result) (a b a' b' : ℕ) → u ≡ done x → a ≡ a' → b ≡ b' → reply_of (Ok (record { first = a; second = b })) ≡ replied u a' b'
+  unfolding replied
   reply_found x a b a' b' e p q = rw e (λ i. record { refusal = 0; first = p i; second = q i })
 
 -- ── a call that reads one recording and has a refusal of its own

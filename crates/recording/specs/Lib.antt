@@ -1,5 +1,6 @@
 pub mod Lists
 pub mod Recording
+pub mod Read
 pub mod Coloured
 pub mod Edit
 pub mod Refusals

@@ -1,10 +1,11 @@
 -- What a call leaves and returns: the order of all refusals, demand 1's buffers, and the numbers that come back.
 use Rattle.std.specs.Prelude.{ℕ, cond, ◌||◌, List, [], ◌∷◌, ◌≡◌, ltb, eqb, length, take}
+use Rattle.std.specs.Prelude.{Ok, Err}
+use Rattle.std.specs.Prelude as Std
 use Rattle.buffer.specs.Place.{over}
-use Rattle.recording.specs.declared.Answer.{Answer}
-use Rattle.recording.specs.declared.Answer.TheVariants.{Refused, Done}
-use Rattle.recording.specs.declared.Reply.{Reply}
-use Rattle.recording.specs.declared.Reply.TheVariants as R
+use Rattle.recording.specs.declared.Done.{Done}
+use Rattle.recording.specs.declared.Found.{Found}
+use Rattle.recording.specs.declared.Refusal.{Refusal}
 use Rattle.recording.specs.Recording.{Bytes, Recording}
 use Rattle.recording.specs.Refusals.{number_of_refusal, data_limit, entry_limit, text_limit, first_of, refuse_if, recording_fault}
 
@@ -104,11 +105,14 @@ read_back_of x b =
       text = take (returned x).text (lent_after x b).text;
     }
 
+-- what a call answers: its refusal, or the lengths that it left and its number
+abbrev pub Answer : Type 0
+Answer = Std.Result Done Refusal
+
 -- document 01's number and values for each case of the answer
-unfoldable pub answer_of : Answer → Returned
-unfolding number_of_refusal
-answer_of (Refused f) = record { refusal = number_of_refusal f; data_bytes = 0; entry_numbers = 0; text = 0; number = 0 }
-answer_of (Done d e t n) = record { refusal = 0; data_bytes = d; entry_numbers = e; text = t; number = n }
+abbrev pub answer_of : Answer → Returned
+answer_of (Err f) = record { refusal = number_of_refusal f; data_bytes = 0; entry_numbers = 0; text = 0; number = 0 }
+answer_of (Ok d) = record { refusal = 0; data_bytes = d.data; entry_numbers = d.entries; text = d.text; number = d.number }
 
 -- ── THE PROMISE of every call, by its outcome: the answer has the outcome's numbers, and `after` is what the lent buffers held `before` with the outcome's result over it
 abbrev pub Promised : Outcome → Lent → Lent → Answer → Type 0
@@ -141,8 +145,11 @@ unfoldable pub replied : Outcome → ℕ → ℕ → Replied
 replied (refused n) a b = record { refusal = n; first = 0; second = 0 }
 replied (done x) a b = record { refusal = 0; first = a; second = b }
 
+-- what a question answers: its refusal, or the two numbers
+abbrev pub Reply : Type 0
+Reply = Std.Result Found Refusal
+
 -- the documents' number and values for each case of the reply
-unfoldable pub reply_of : Reply → Replied
-unfolding number_of_refusal
-reply_of (R.Refused f) = record { refusal = number_of_refusal f; first = 0; second = 0 }
-reply_of (R.Found a b) = record { refusal = 0; first = a; second = b }
+abbrev pub reply_of : Reply → Replied
+reply_of (Err f) = record { refusal = number_of_refusal f; first = 0; second = 0 }
+reply_of (Ok r) = record { refusal = 0; first = r.first; second = r.second }

@@ -10,7 +10,7 @@ use Rattle.recording.specs.declared.Refusal.TheVariants.{SetsDiffer, CallNumbers
 use Rattle.recording.specs.Recording.{Bytes, Recording, entries_of, part_of}
 
 -- document 01's number of each refusal
-unfoldable pub number_of_refusal : Refusal → ℕ
+abbrev pub number_of_refusal : Refusal → ℕ
 number_of_refusal DataTooLong = 1
 number_of_refusal EntryNumbers = 2
 number_of_refusal EntryShape = 3

@@ -62,43 +62,46 @@ pub enum Refusal {
 }
 
 // The documents' number of a refusal, from 31 on document 02's; 61 and above are those of a list of calls, which neither numbers.
-#[tactic(auto, unfolding(crate::specs::Refusals::number_of_refusal))]
-pub fn number_of(f: Refusal) -> u64
-    ensures { result ≡ number_of_refusal f }
-{
-    match f {
-        Refusal::DataTooLong => 1,
-        Refusal::EntryNumbers => 2,
-        Refusal::EntryShape => 3,
-        Refusal::EntryPosition => 4,
-        Refusal::TextPart => 5,
-        Refusal::LabelIllFormed => 6,
-        Refusal::TextIllFormed => 7,
-        Refusal::ReplacementRange => 8,
-        Refusal::ResultOverLimit => 9,
-        Refusal::LengthOverBuffer => 10,
-        Refusal::DataBufferTooShort => 21,
-        Refusal::EntryBufferTooShort => 22,
-        Refusal::TextBufferTooShort => 23,
-        Refusal::LineListTooShort => 24,
-        Refusal::TabStop => 31,
-        Refusal::PrefixNewline => 32,
-        Refusal::PrefixMissing => 33,
-        Refusal::ViewLabel => 34,
-        Refusal::ContentUnbalanced => 35,
-        Refusal::LineIndex => 36,
-        Refusal::NoSuchPlace => 37,
-        Refusal::CellEnds => 38,
-        Refusal::TallyShape => 39,
-        Refusal::TallyCell => 40,
-        Refusal::TallyLine => 41,
-        Refusal::SetsDiffer => 61,
-        Refusal::CallNumbers => 62,
-        Refusal::AnswerListTooShort => 63,
+impl From<Refusal> for u64 {
+    ghost from_gives = { λ f n. n ≡ number_of_refusal f };
+
+    #[tactic(auto, unfolding(crate::specs::Refusals::number_of_refusal))]
+    fn from(f: Refusal) -> u64 {
+        match f {
+            Refusal::DataTooLong => 1,
+            Refusal::EntryNumbers => 2,
+            Refusal::EntryShape => 3,
+            Refusal::EntryPosition => 4,
+            Refusal::TextPart => 5,
+            Refusal::LabelIllFormed => 6,
+            Refusal::TextIllFormed => 7,
+            Refusal::ReplacementRange => 8,
+            Refusal::ResultOverLimit => 9,
+            Refusal::LengthOverBuffer => 10,
+            Refusal::DataBufferTooShort => 21,
+            Refusal::EntryBufferTooShort => 22,
+            Refusal::TextBufferTooShort => 23,
+            Refusal::LineListTooShort => 24,
+            Refusal::TabStop => 31,
+            Refusal::PrefixNewline => 32,
+            Refusal::PrefixMissing => 33,
+            Refusal::ViewLabel => 34,
+            Refusal::ContentUnbalanced => 35,
+            Refusal::LineIndex => 36,
+            Refusal::NoSuchPlace => 37,
+            Refusal::CellEnds => 38,
+            Refusal::TallyShape => 39,
+            Refusal::TallyCell => 40,
+            Refusal::TallyLine => 41,
+            Refusal::SetsDiffer => 61,
+            Refusal::CallNumbers => 62,
+            Refusal::AnswerListTooShort => 63,
+        }
     }
 }
 
 // One entry of a recording: four numbers.
+// kept: a kind is a number, since the check's definition (`entry_fault`) reads any four numbers.
 #[derive(Clone, Copy)]
 pub struct Entry {
     pub position: u32,
@@ -107,11 +110,12 @@ pub struct Entry {
     pub len: u32,
 }
 
-// What a check finds: a refusal, or the length of the entries' texts, one after another.
+// A recording that is read: its data bytes, four numbers for each entry, and the text that the entries' parts lie in.
 #[derive(Clone, Copy)]
-pub enum Checked {
-    Refused(Refusal),
-    Fine(usize),
+pub struct Recording<'a> {
+    pub bytes: &'a [u8],
+    pub entries: &'a [u32],
+    pub text: &'a [u8],
 }
 
 // How long the entries' texts are, one after another: of a content and of a second recording.
@@ -121,34 +125,24 @@ pub struct TextSizes {
     pub second: usize,
 }
 
-// What a check of a content and a second recording found: a refusal, or the lengths of their texts.
+// What a call leaves that is not refused: the lengths, and its number (a width or a count).
 #[derive(Clone, Copy)]
-pub enum CheckedBoth {
-    // The first refusal of the content, or of the second recording if the content has none.
-    Refused(Refusal),
-    Fine(TextSizes),
+pub struct Done {
+    pub data: usize,
+    pub entries: usize,
+    pub text: usize,
+    pub number: u64,
 }
 
-// What a call answers: its refusal, or the lengths that it left and its number (a width or a count).
+// What a question that is not refused answers, which leaves nothing: two numbers.
 #[derive(Clone, Copy)]
-pub enum Answer {
-    Refused(Refusal),
-    Done {
-        data: usize,
-        entries: usize,
-        text: usize,
-        number: u64,
-    },
-}
-
-// What a question answers, which leaves nothing: its refusal, or two numbers.
-#[derive(Clone, Copy)]
-pub enum Reply {
-    Refused(Refusal),
-    Found { first: usize, second: usize },
+pub struct Found {
+    pub first: usize,
+    pub second: usize,
 }
 
 // The entry whose numbers start at k: the entries from k on are this one and those from k + 4 on.
+#[tactic(auto, using(crate::proofs::EntryLaws::entries_next))]
 pub fn entry_at(entries: &[u32], k: usize) -> Entry
     requires { k + 4 ≤ length entries.now }
     ensures { entries_of (drop k entries.now) ≡ result ∷ entries_of (drop (k + 4) entries.now) }
@@ -158,5 +152,41 @@ pub fn entry_at(entries: &[u32], k: usize) -> Entry
         kind: entries[k + 1],
         start: entries[k + 2],
         len: entries[k + 3],
+    }
+}
+
+// The entries behind numbers, one after another; a rest of fewer than four numbers is none.
+#[derive(Clone, Copy)]
+pub struct Entries<'a> {
+    numbers: &'a [u32],
+}
+
+impl<'a> Entries<'a> {
+    ghost use Rattle.recording.specs.Read.{entries_left};
+
+    pub fn of(numbers: &'a [u32]) -> Entries<'a>
+        ensures { entries_left result ≡ entries_of numbers.now }
+    {
+        Entries { numbers }
+    }
+}
+
+impl<'a> Iterator for Entries<'a> {
+    ghost use Rattle.std.specs.Iterator.{YieldsFirst, item_count};
+    ghost use Rattle.recording.specs.Read.{entries_left};
+
+    type Item = Entry;
+
+    ghost next_gives = { YieldsFirst entries_left };
+
+    ghost remaining = { item_count entries_left };
+
+    fn next(&mut self) -> Option<Entry> {
+        if self.numbers.len() < 4 {
+            return None;
+        }
+        let e = entry_at(self.numbers, 0);
+        self.numbers = &self.numbers[4..];
+        Some(e)
     }
 }

@@ -1,4 +1,6 @@
--- Replacement records behind numbers, what a record that is not bad says (`Good`), capped sizes, and the turns of the scan over numbers.
+-- Replacement records behind numbers, what a record that is not bad says (`Good`), capped sizes, and how the scan goes on.
+use Rattle.std.specs.Prelude.{Result, Ok, Err}
+use Rattle.recording.specs.declared.Refusal.{Refusal}
 use mathlib.Core.Path.{◌≡◌, refl, sym, ap, ◌∙◌}
 use mathlib.Core.Bool.{Bool, true, false, cond, ◌||◌}
 use mathlib.Core.List.{List, [], ◌∷◌}
@@ -13,7 +15,7 @@ use Rattle.recording.proofs.Lists.{or_left, or_right}
 use Rattle.layout.specs.declared.Replacement.{Replacement}
 use Rattle.layout.specs.Layout.{bad_record_of}
 use Rattle.replace.specs.declared.Scan.{Scan}
-use Rattle.replace.specs.Records.{replacement, records_of, capped, check_step, check_all}
+use Rattle.replace.specs.Records.{replacement, records_of, capped, check_step, and_then, check_all}
 
 -- ── records behind numbers
 pub records_next : (ns : List ℕ) (k : ℕ) → k + 4 ≤ length ns
@@ -72,11 +74,13 @@ pub capped_in : (n : ℕ) → n ≤ 1048576 → capped n ≡ n
 unfolding capped
 capped_in n h = rw (le-ltb 1048576 n h)
 
--- ── the scan over numbers
-pub scan_next : (n t : ℕ) (ns : List ℕ) (k : ℕ) (x : Replacement) (s s' z : Scan) → records_of (drop k ns) ≡ x ∷ records_of (drop (k + 4) ns) → s' ≡ check_step n t x s
-    → check_all n t (records_of (drop k ns)) s ≡ z → check_all n t (records_of (drop (k + 4) ns)) s' ≡ z
-scan_next n t ns k x s s' z e q g =
-    ap (λ (v : Scan). check_all n t (records_of (drop (k + 4) ns)) v) q ∙ sym (ap (λ (xs : List Replacement). check_all n t xs s) e) ∙ g
+-- ── the scan goes on behind a record, or ends there
+pub scan_next : (n t : ℕ) (xs ys : List Replacement) (x : Replacement) (s s' : Scan) (r z : Result Scan Refusal) → xs ≡ x ∷ ys → r ≡ check_step n t x s → r ≡ Ok s'
+    → check_all n t xs s ≡ z → check_all n t ys s' ≡ z
+scan_next n t xs ys x s s' r z e q o g =
+    ap (λ (v : Result Scan Refusal). and_then v (λ w. check_all n t ys w)) (sym o ∙ q) ∙ sym (ap (λ (l : List Replacement). check_all n t l s) e) ∙ g
 
-pub scan_end : (n t : ℕ) (ns : List ℕ) (k : ℕ) (s z : Scan) → length (drop k ns) < 4 → check_all n t (records_of (drop k ns)) s ≡ z → s ≡ z
-scan_end n t ns k s z h g = sym (ap (λ (xs : List Replacement). check_all n t xs s) (records_few (drop k ns) h)) ∙ g
+pub scan_refused : (n t : ℕ) (xs ys : List Replacement) (x : Replacement) (s : Scan) (r z : Result Scan Refusal) (f : Refusal) → xs ≡ x ∷ ys → r ≡ check_step n t x s → r ≡ Err f
+    → check_all n t xs s ≡ z → Err f ≡ z
+scan_refused n t xs ys x s r z f e q o g =
+    ap (λ (v : Result Scan Refusal). and_then v (λ w. check_all n t ys w)) (sym o ∙ q) ∙ sym (ap (λ (l : List Replacement). check_all n t l s) e) ∙ g

@@ -1,5 +1,7 @@
 -- Replacement records as four numbers each, and the scan over them: refusal 8 of all records, and how many data bytes the result has so far.
-use Rattle.std.specs.Prelude.{ℕ, suc, ◌+◌, ◌-◌, Bool, true, false, cond, ◌||◌, List, [], ◌∷◌, ltb}
+use Rattle.std.specs.Prelude.{ℕ, suc, ◌+◌, ◌-◌, cond, List, [], ◌∷◌, ltb, Result, Ok, Err}
+use Rattle.recording.specs.declared.Refusal.{Refusal}
+use Rattle.recording.specs.declared.Refusal.TheVariants.{ReplacementRange}
 use Rattle.recording.specs.Refusals.{data_limit}
 use Rattle.layout.specs.declared.Replacement.{Replacement}
 use Rattle.layout.specs.Layout.{bad_record_of}
@@ -21,15 +23,19 @@ unfoldable pub capped : ℕ → ℕ
 capped n = cond (ltb data_limit n) (suc data_limit) n
 
 -- ── the scan
-abbrev pub scan : Bool → ℕ → ℕ → Scan
-scan b a n = record { bad = b; at = a; size = n }
+abbrev pub scan : ℕ → ℕ → Scan
+scan a n = record { at = a; size = n }
 
--- one record more, for n data bytes and a replacement text of t: a bad one is never made good; a good one leaves its end,
+-- one record more, for n data bytes and a replacement text of t: a bad one is refused; a good one leaves its end,
 -- and the size of the result up to there grows by what is kept before its start and by what comes in
-unfoldable pub check_step : ℕ → ℕ → Replacement → Scan → Scan
-check_step n t x s =
-    cond (s.bad || bad_record_of s.at n t x) (scan true 0 0) (scan false x.end (capped (capped (s.size + (x.start - s.at)) + (x.to - x.from))))
+unfoldable pub check_step : ℕ → ℕ → Replacement → Scan → Result Scan Refusal
+check_step n t x s = cond (bad_record_of s.at n t x) (Err ReplacementRange) (Ok (scan x.end (capped (capped (s.size + (x.start - s.at)) + (x.to - x.from)))))
 
-abbrev pub check_all : ℕ → ℕ → List Replacement → Scan → Scan
-check_all n t [] s = s
-check_all n t (x ∷ xs) s = check_all n t xs (check_step n t x s)
+-- what follows on a scan, nothing on a refusal
+abbrev pub and_then : Result Scan Refusal → (Scan → Result Scan Refusal) → Result Scan Refusal
+and_then (Err f) next = Err f
+and_then (Ok s) next = next s
+
+abbrev pub check_all : ℕ → ℕ → List Replacement → Scan → Result Scan Refusal
+check_all n t [] s = Ok s
+check_all n t (x ∷ xs) s = and_then (check_step n t x s) (λ v. check_all n t xs v)

@@ -1,33 +1,37 @@
 // Replacing stretches of a recording's data (document 01, module 5): the steps of the scan and of the writing, and `write_replaced_flat`, whose records are flat numbers, four each, as C lends them.
 // `write_replaced` over a list of structs stands in crate `replace_records`: one definition, two front doors.
-// All records are scanned first, for refusal 8 and for the size of the result, and written only then. The scan hands each record's four numbers, with a state by value, to `check_numbers`.
+// All records are scanned first, for refusal 8 and for the size of the result, and written only then.
 // What the call answers and leaves is the `outcome` of the job `replace` in `layout/specs/Layout.antt`; the records behind the numbers are `records_of` of `specs/Records.antt`.
 #![tactic(auto)]
 
-ghost use Rattle.std.specs.Prelude.{◌≡◌, ◌+◌, ◌≤◌, false, ◌∷◌, length, drop};
-ghost use Rattle.recording.specs.Recording.{recording, items};
+ghost use Rattle.std.specs.Prelude.{◌≡◌, ◌+◌, ◌≤◌, ◌∷◌, length, drop};
+ghost use Rattle.recording.specs.Recording.{items};
+ghost use Rattle.recording.specs.Read.{recording_of};
 ghost use Rattle.recording.specs.Edit.{edit};
-ghost use Rattle.writer.specs.Write.{out, add, blank, Fits, Sound};
+ghost use Rattle.writer.specs.Write.{out, add, blank, Fits, SoundIn};
 ghost use Rattle.layout.specs.Layout.{bad_record_of, records_fault, replace_ops, replace};
 ghost use Rattle.layout.specs.Lent.{lent_of, Leaves};
-ghost use Rattle.replace.specs.Records.{replacement, records_of, capped, scan, check_step, check_all};
+ghost use Rattle.replace.specs.Records.{records_of, capped, scan, check_step, check_all};
 ghost use Rattle.replace.specs.Turn.{Turn, Turned};
 
 use layout::Replacement;
-use recording::{Answer, Checked, Refusal};
+use recording::{Done, Recording, Refusal};
 use recording_check::check;
 use share::own_size;
-use writer::{Cursor, Settled, keep, put_bytes, settle, skip};
+use writer::{Cursor, Lengths, START, keep, put_bytes, settle, skip};
 
-// What the records so far say: whether one of them is bad, the end of the last one, and the size of the result up to there, capped above the limit.
+// What the records so far say, none of them bad: the end of the last one, and the size of the result up to there, capped above the limit.
 #[derive(Clone, Copy)]
 pub struct Scan {
-    pub bad: bool,
     pub at: u32,
     pub size: usize,
 }
 
+// The scan before the first record.
+pub const FIRST: Scan = Scan { at: 0, size: 0 };
+
 // The record whose numbers start at k: the records from k on are this one and those from k + 4 on.
+#[tactic(auto, using(crate::proofs::RecordLaws::records_next))]
 fn record_at(records: &[u32], k: usize) -> Replacement
     requires { k + 4 ≤ length records.now }
     ensures { records_of (drop k records.now) ≡ result ∷ records_of (drop (k + 4) records.now) }
@@ -40,80 +44,81 @@ fn record_at(records: &[u32], k: usize) -> Replacement
     }
 }
 
-// Refusal 8 of one record's four numbers after a record that ends at `at`, for n data bytes and a replacement text of t bytes.
-fn bad_record(at: u32, start: u32, end: u32, from: u32, to: u32, n: usize, t: usize) -> bool
-    ensures { result ≡ bad_record_of at n t (replacement start end from to) }
+// The records behind numbers, one after another; a rest of fewer than four numbers is none.
+#[derive(Clone, Copy)]
+pub struct Records<'a> {
+    numbers: &'a [u32],
+}
+
+impl<'a> Records<'a> {
+    ghost use Rattle.replace.specs.Read.{records_left};
+
+    fn of(numbers: &'a [u32]) -> Records<'a>
+        ensures { records_left result ≡ records_of numbers.now }
+    {
+        Records { numbers }
+    }
+}
+
+impl<'a> Iterator for Records<'a> {
+    ghost use Rattle.std.specs.Iterator.{YieldsFirst, item_count};
+    ghost use Rattle.replace.specs.Read.{records_left};
+
+    type Item = Replacement;
+
+    ghost next_gives = { YieldsFirst records_left };
+
+    ghost remaining = { item_count records_left };
+
+    fn next(&mut self) -> Option<Replacement> {
+        if self.numbers.len() < 4 {
+            return None;
+        }
+        let x = record_at(self.numbers, 0);
+        self.numbers = &self.numbers[4..];
+        Some(x)
+    }
+}
+
+// Refusal 8 of one record after a record that ends at `at`, for n data bytes and a replacement text of t bytes.
+fn bad_record(at: u32, x: Replacement, n: usize, t: usize) -> bool
+    ensures { result ≡ bad_record_of at n t x }
 {
-    if end < start {
-        return true;
-    }
-    if n < end as usize {
-        return true;
-    }
-    if start < at {
-        return true;
-    }
-    if to < from {
-        return true;
-    }
-    t < to as usize
+    x.end < x.start || n < x.end as usize || x.start < at || x.to < x.from || t < x.to as usize
 }
 
 // A size and some bytes more, capped above the limit of data: sizes of any number of records can be summed.
+#[tactic(auto, unfolding(crate::specs::Records::capped))]
 pub fn capped_add(size: usize, more: usize) -> usize
     ensures { result ≡ capped (size + more) }
 {
-    if 1048576 < size {
-        return 1048577;
-    }
-    if 1048576 - size < more {
-        return 1048577;
-    }
-    size + more
+    size.saturating_add(more).min(1048577)
 }
 
-// One record more of the scan, decided from its four numbers.
-pub fn check_numbers(s: Scan, start: u32, end: u32, from: u32, to: u32, n: usize, t: usize) -> Scan
-    ensures { result ≡ check_step n t (replacement start end from to) s }
+// One record more of the scan.
+#[tactic(auto, using(crate::proofs::RecordLaws::good), unfolding(crate::specs::Records::check_step))]
+pub fn check_record(s: Scan, x: Replacement, n: usize, t: usize) -> Result<Scan, Refusal>
+    ensures { result ≡ check_step n t x s }
 {
-    if s.bad {
-        return Scan {
-            bad: true,
-            at: 0,
-            size: 0,
-        };
+    if bad_record(s.at, x, n, t) {
+        return Err(Refusal::ReplacementRange);
     }
-    if bad_record(s.at, start, end, from, to, n, t) {
-        return Scan {
-            bad: true,
-            at: 0,
-            size: 0,
-        };
-    }
-    let kept = capped_add(s.size, (start - s.at) as usize);
-    Scan {
-        bad: false,
-        at: end,
-        size: capped_add(kept, (to - from) as usize),
-    }
+    let kept = capped_add(s.size, (x.start - s.at) as usize);
+    Ok(Scan {
+        at: x.end,
+        size: capped_add(kept, (x.to - x.from) as usize),
+    })
 }
 
 // The scan over all records.
-fn check_records(records: &[u32], n: usize, t: usize) -> Scan
-    ensures { result ≡ check_all n t (records_of records.now) (scan false 0 0) }
+fn check_records(records: &[u32], n: usize, t: usize) -> Result<Scan, Refusal>
+    ensures { result ≡ check_all n t (records_of records.now) (scan 0 0) }
 {
-    let mut s = Scan {
-        bad: false,
-        at: 0,
-        size: 0,
-    };
-    let mut i = 0;
-    while i + 4 <= records.len() {
-        let x = record_at(records, i);
-        s = check_numbers(s, x.start, x.end, x.from, x.to, n, t);
-        i += 4;
+    let mut s = FIRST;
+    for x in Records::of(records) {
+        s = check_record(s, x, n, t)?;
     }
-    s
+    Ok(s)
 }
 
 // Writes one record: keeps the content up to its start, puts the new bytes in, and passes the stretch that goes, whose entries stay.
@@ -121,142 +126,79 @@ fn check_records(records: &[u32], n: usize, t: usize) -> Scan
 pub fn write_step(
     c: Cursor,
     x: Replacement,
-    content: &[u8],
-    entries: &[u32],
-    text: &[u8],
+    content: Recording<'_>,
     new: &[u8],
     bytes: &mut [u8],
     numbers: &mut [u32],
     texts: &mut [u8],
 ) -> Cursor
-    requires { Turn content.now entries.now text.now new.now x c (out bytes.old numbers.old texts.old c) }
-    ensures { Turned content.now entries.now text.now new.now x c result
+    requires { Turn content.bytes.now content.entries.now content.text.now new.now x c (out bytes.old numbers.old texts.old c) }
+    ensures { Turned content.entry.bytes.now content.entry.entries.now content.entry.text.now new.now x c result
         (out bytes.old numbers.old texts.old c) (out bytes.new numbers.new texts.new result) }
 {
-    let a = keep(
-        bytes,
-        numbers,
-        texts,
-        content,
-        entries,
-        text,
-        c,
-        x.start as usize,
-    );
+    let a = keep(bytes, numbers, texts, content, c, x.start as usize);
     let b = put_bytes(bytes, new, x.from as usize, x.to as usize, a);
-    skip(
-        bytes,
-        numbers,
-        texts,
-        content,
-        entries,
-        text,
-        b,
-        x.end as usize,
-    )
+    skip(bytes, numbers, texts, content, b, x.end as usize)
 }
 
 // Writes all records, and the rest of the content after the last one.
 fn write_records(
-    content: &[u8],
-    entries: &[u32],
-    text: &[u8],
+    content: Recording<'_>,
     records: &[u32],
     new: &[u8],
     bytes: &mut [u8],
     numbers: &mut [u32],
     texts: &mut [u8],
 ) -> Cursor
-    requires sound { Sound content.now entries.now text.now }
-    requires records_value { records_fault 0 (length content.now) (length new.now) (records_of records.now) ≡ 0 }
-    requires fits { Fits (edit (replace_ops new.now 0 (records_of records.now)) (items (recording content.now entries.now text.now)))
+    requires sound { SoundIn (recording_of content) }
+    requires records_value { records_fault 0 (length content.bytes.now) (length new.now) (records_of records.now) ≡ 0 }
+    requires fits { Fits (edit (replace_ops new.now 0 (records_of records.now)) (items (recording_of content)))
         (blank bytes.old numbers.old texts.old) }
     ensures { out bytes.new numbers.new texts.new result
-        ≡ add (edit (replace_ops new.now 0 (records_of records.now)) (items (recording content.now entries.now text.now)))
+        ≡ add (edit (replace_ops new.now 0 (records_of records.now)) (items (recording_of content.entry)))
         (blank bytes.old numbers.old texts.old) }
 {
-    let mut c = Cursor {
-        at: 0,
-        k: 0,
-        d: 0,
-        e: 0,
-        t: 0,
-    };
-    let mut k = 0;
-    while k + 4 <= records.len() {
-        c = write_step(
-            c,
-            record_at(records, k),
-            content,
-            entries,
-            text,
-            new,
-            bytes,
-            numbers,
-            texts,
-        );
-        k += 4;
+    let mut c = START;
+    for record in Records::of(records) {
+        c = write_step(c, record, content, new, bytes, numbers, texts);
     }
-    keep(
-        bytes,
-        numbers,
-        texts,
-        content,
-        entries,
-        text,
-        c,
-        content.len(),
-    )
+    keep(bytes, numbers, texts, content, c, content.bytes.len())
 }
 
 // Writes the content with each record's stretch gone and its part of the replacement text `new` in its stead. A record is four numbers; a rest of fewer is none.
 pub fn write_replaced_flat(
-    content: &[u8],
-    entries: &[u32],
-    text: &[u8],
+    content: Recording<'_>,
     records: &[u32],
     new: &[u8],
     bytes: &mut [u8],
     numbers: &mut [u32],
     texts: &mut [u8],
-) -> Answer
-    ensures { Leaves (replace (records_of records.now) new.now) (recording content.now entries.now text.now)
+) -> Result<Done, Refusal>
+    ensures { Leaves (replace (records_of records.now) new.now) (recording_of content.entry)
         (lent_of bytes.old numbers.old texts.old) (lent_of bytes.new numbers.new texts.new) result }
 {
-    let checked = check(content, entries, text);
-    let size = match checked {
-        Checked::Refused(f) => {
-            return Answer::Refused(f);
-        }
-        Checked::Fine(n) => n,
-    };
-    let s = check_records(records, content.len(), new.len());
-    if s.bad {
-        return Answer::Refused(Refusal::ReplacementRange);
-    }
-    let d = capped_add(s.size, content.len() - s.at as usize);
-    let shared = own_size(size, texts.len(), entries, text);
-    let verdict = settle(
-        d,
-        entries.len(),
-        shared,
-        0,
-        bytes.len(),
-        numbers.len(),
-        texts.len(),
-        0,
-    );
-    match verdict {
-        Settled::Refused(f) => {
-            return Answer::Refused(f);
-        }
-        Settled::Room => {}
-    }
-    let c = write_records(content, entries, text, records, new, bytes, numbers, texts);
-    Answer::Done {
+    let size = check(content)?;
+    let s = check_records(records, content.bytes.len(), new.len())?;
+    let shared = own_size(size, texts.len(), content);
+    settle(
+        Lengths {
+            bytes: capped_add(s.size, content.bytes.len() - s.at as usize),
+            numbers: content.entries.len(),
+            texts: shared,
+            lines: 0,
+        },
+        Lengths {
+            bytes: bytes.len(),
+            numbers: numbers.len(),
+            texts: texts.len(),
+            lines: 0,
+        },
+    )?;
+    let c = write_records(content, records, new, bytes, numbers, texts);
+    Ok(Done {
         data: c.d,
         entries: c.e,
         text: c.t,
         number: 0,
-    }
+    })
 }

@@ -3,12 +3,12 @@
 #![tactic(auto)]
 
 ghost use Rattle.std.specs.Prelude.{[], ◌∷◌, ◌≤◌};
-ghost use Rattle.recording.specs.Recording.{recording};
+ghost use Rattle.recording.specs.Read.{recording_of};
 ghost use Rattle.layout.specs.Layout.{replace};
 ghost use Rattle.layout.specs.Lent.{lent_of, Leaves};
 
 use layout::Replacement;
-use recording::Answer;
+use recording::{Done, Recording, Refusal};
 use replace_records::write_replaced;
 use std::io;
 
@@ -16,44 +16,47 @@ use std::io;
 fn with_two(
     a: Replacement,
     b: Replacement,
-    content: &[u8],
-    entries: &[u32],
-    text: &[u8],
+    content: Recording<'_>,
     new: &[u8],
     bytes: &mut [u8],
     numbers: &mut [u32],
     texts: &mut [u8],
-) -> Answer
-    ensures { Leaves (replace (a ∷ b ∷ []) new.now) (recording content.now entries.now text.now)
+) -> Result<Done, Refusal>
+    ensures { Leaves (replace (a ∷ b ∷ []) new.now) (recording_of content.entry)
         (lent_of bytes.old numbers.old texts.old) (lent_of bytes.new numbers.new texts.new) result }
 {
-    let rs = [a, b];
-    write_replaced(content, entries, text, &rs, new, bytes, numbers, texts)
+    write_replaced(content, &[a, b], new, bytes, numbers, texts)
 }
 
 fn record(start: u32, end: u32, from: u32, to: u32) -> Replacement {
     Replacement {
-        start: start,
-        end: end,
-        from: from,
-        to: to,
+        start,
+        end,
+        from,
+        to,
     }
+}
+
+// The lengths of the lent buffers.
+#[derive(Clone, Copy)]
+struct Room {
+    bytes: usize,
+    numbers: usize,
+    texts: usize,
 }
 
 // A case in these buffers; the replacement text is XY.
 fn case_by(
     rt: &impl Print,
     name: &[u8],
-    content: &[u8],
-    entries: &[u32],
-    text: &[u8],
+    content: Recording<'_>,
     a: Replacement,
     b: Replacement,
     bytes: &mut [u8],
     numbers: &mut [u32],
     texts: &mut [u8],
 ) -> io::Result<()> {
-    let r = with_two(a, b, content, entries, text, b"XY", bytes, numbers, texts);
+    let r = with_two(a, b, content, b"XY", bytes, numbers, texts);
     rt.write_all(name)?;
     rt.write_all(b":")?;
     report::answer(rt, r)?;
@@ -70,16 +73,12 @@ fn case_by(
 fn case_in(
     rt: &impl Print,
     name: &[u8],
-    content: &[u8],
-    entries: &[u32],
-    text: &[u8],
+    content: Recording<'_>,
     a: Replacement,
     b: Replacement,
-    d: usize,
-    e: usize,
-    t: usize,
+    room: Room,
 ) -> io::Result<()>
-    requires { (d ≤ 32) × (e ≤ 32) × (t ≤ 16) }
+    requires { (room.bytes ≤ 32) × (room.numbers ≤ 32) × (room.texts ≤ 16) }
 {
     let mut bytes = [0x2E; 32];
     let mut numbers = [7; 32];
@@ -88,20 +87,27 @@ fn case_in(
         rt,
         name,
         content,
-        entries,
-        text,
         a,
         b,
-        &mut bytes[0..d],
-        &mut numbers[0..e],
-        &mut texts[0..t],
+        &mut bytes[..room.bytes],
+        &mut numbers[..room.numbers],
+        &mut texts[..room.texts],
     )
 }
 
 // The content abcdef without entries, with a data buffer of 12 bytes.
 fn plain(rt: &impl Print, name: &[u8], a: Replacement, b: Replacement) -> io::Result<()> {
-    let none = [0; 1];
-    case_in(rt, name, b"abcdef", &none[0..0], b"", a, b, 12, 0, 0)
+    let content = Recording {
+        bytes: b"abcdef",
+        entries: &[],
+        text: b"",
+    };
+    let room = Room {
+        bytes: 12,
+        numbers: 0,
+        texts: 0,
+    };
+    case_in(rt, name, content, a, b, room)
 }
 
 // abcdef with "hi" open from 1 to 4 and a raw sequence at 3.
@@ -110,14 +116,23 @@ fn labelled(
     name: &[u8],
     a: Replacement,
     b: Replacement,
-    d: usize,
-    e: usize,
-    t: usize,
+    bytes: usize,
+    numbers: usize,
+    texts: usize,
 ) -> io::Result<()>
-    requires { (d ≤ 32) × (e ≤ 32) × (t ≤ 16) }
+    requires { (bytes ≤ 32) × (numbers ≤ 32) × (texts ≤ 16) }
 {
-    let entries = [1, 0, 1, 2, 3, 2, 3, 1, 4, 1, 0, 0];
-    case_in(rt, name, b"abcdef", &entries, b"?hiR?", a, b, d, e, t)
+    let content = Recording {
+        bytes: b"abcdef",
+        entries: &[1, 0, 1, 2, 3, 2, 3, 1, 4, 1, 0, 0],
+        text: b"?hiR?",
+    };
+    let room = Room {
+        bytes,
+        numbers,
+        texts,
+    };
+    case_in(rt, name, content, a, b, room)
 }
 
 // Document 01's C14 first.
@@ -166,8 +181,17 @@ fn refused(rt: &impl Print) -> io::Result<()> {
     labelled(rt, b"entries one short", a, b, 6, 11, 3)?;
     labelled(rt, b"text one short", a, b, 6, 12, 2)?;
     labelled(rt, b"bad and short", a, c, 5, 11, 2)?;
-    let falling = [2, 1, 0, 0, 1, 1, 0, 0];
-    case_in(rt, b"falling", b"ab", &falling, b"", a, c, 4, 8, 1)
+    let falling = Recording {
+        bytes: b"ab",
+        entries: &[2, 1, 0, 0, 1, 1, 0, 0],
+        text: b"",
+    };
+    let room = Room {
+        bytes: 4,
+        numbers: 8,
+        texts: 1,
+    };
+    case_in(rt, b"falling", falling, a, c, room)
 }
 
 fn main(rt: HostRuntime) -> io::Result<()> {

@@ -3,7 +3,7 @@
 // A write that fails is told: an `Err` is that of the write, some of the bytes may be printed then, and nothing else has changed.
 #![tactic(auto)]
 
-use recording::{Answer, number_of};
+use recording::{Done, Refusal};
 use std::io;
 
 pub fn number(rt: &impl Print, n: u64) -> io::Result<()> {
@@ -34,30 +34,14 @@ pub fn text(rt: &impl Print, s: &[u8]) -> io::Result<()> {
     Ok(())
 }
 
-fn five(
-    rt: &impl Print,
-    refusal: u64,
-    data: u64,
-    entries: u64,
-    text: u64,
-    n: u64,
-) -> io::Result<()> {
-    number(rt, refusal)?;
-    number(rt, data)?;
-    number(rt, entries)?;
-    number(rt, text)?;
-    number(rt, n)
-}
-
 // The five numbers that a call returns: a refusal with zeros, or 0, the three lengths and the call's number.
-pub fn answer(rt: &impl Print, a: Answer) -> io::Result<()> {
-    match a {
-        Answer::Refused(f) => five(rt, number_of(f), 0, 0, 0, 0),
-        Answer::Done {
-            data,
-            entries,
-            text,
-            number: n,
-        } => five(rt, 0, data as u64, entries as u64, text as u64, n),
+pub fn answer(rt: &impl Print, a: Result<Done, Refusal>) -> io::Result<()> {
+    let five = match a {
+        Err(f) => [u64::from(f), 0, 0, 0, 0],
+        Ok(d) => [0, d.data as u64, d.entries as u64, d.text as u64, d.number],
+    };
+    for n in five {
+        number(rt, n)?;
     }
+    Ok(())
 }

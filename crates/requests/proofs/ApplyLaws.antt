@@ -1,5 +1,6 @@
 -- A call that leaves no lines, made without a line list, is the same call with one that it leaves as it is (`unlined`).
 -- The idea: only refusal 24 asks for the room of the line list, and for no lines there is always room.
+use Rattle.recording.specs.Outcome.{Answer}
 use Prim.Native.Nat.{ℕ, ◌<◌}
 use native.Mathlib.Omega.{arith}
 use mathlib.Core.Bool.{Bool, true, false, cond}
@@ -7,9 +8,8 @@ use mathlib.Core.Path.{◌≡◌, refl, sym, ap, subst, ◌∙◌}
 use mathlib.Core.List.{List, []}
 use lib.Dec.{eqb}
 use lib.ListN.{length}
-use borrow.Author.Tests.{le-ltb, ne_eqb, eqb-true, eqb-false}
+use borrow.Author.Tests.{le-ltb, ne_eqb}
 use Rattle.buffer.specs.Place.{over}
-use Rattle.recording.specs.declared.Answer.{Answer}
 use Rattle.recording.specs.Recording.{Recording}
 use Rattle.recording.specs.Outcome.{Room, Result, Faults, Outcome, refused, done, no_room, refusal_of, settle, Lent, lent_after, Promised}
 use Rattle.layout.specs.Layout.{Job, truncate_start, truncate_end, pad_start, pad_end, pad_centered, indent, unindent, wrap, replace, expand_tabs, lines_left, result_of, faults_of, outcome}
@@ -100,13 +100,13 @@ module _ (k n : ℕ) (q : Recording) where
   job_indent h = rw h
 
   -- 6 wraps, 7 wraps and breaks
-  pub job_wrap : 5 < k → k < 8 → job_of k n q ≡ wrap n (eqb k 7)
+  pub job_wrap : k ≡ 6 → job_of k n q ≡ wrap n false
   unfolding job_of
-  job_wrap h g =
-      elim (eqb k 7) as (λ (t : Bool). eqb k 7 ≡ t → job_of k n q ≡ wrap n t) [
-        | true ↦ λ e. let z : k ≡ 7 = eqb-true k 7 e in rw z
-        | false ↦ λ e. let z : k ≡ 6 = omega (arith, h, g, eqb-false k 7 e) in rw z
-      ] refl
+  job_wrap h = rw h
+
+  pub job_wrap_breaking : k ≡ 7 → job_of k n q ≡ wrap n true
+  unfolding job_of
+  job_wrap_breaking h = rw h
 
   pub job_replace : k ≡ 8 → job_of k n q ≡ replace (records_of q.entry_numbers) q.data_bytes
   unfolding job_of

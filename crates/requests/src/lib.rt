@@ -3,14 +3,14 @@
 #![tactic(auto)]
 
 ghost use Rattle.std.specs.Prelude.{◌≡◌, true, ◌+◌, ◌/◌, ◌≤◌, length, drop};
-ghost use Rattle.recording.specs.Recording.{recording};
+ghost use Rattle.recording.specs.Read.{recording_of};
 ghost use Rattle.layout.specs.Lent.{lent_lined, Leaves};
 ghost use Rattle.requests.specs.Requests as requests;
 ghost use Rattle.requests.specs.Requests.{request_in, requests_of, job_of, job_in, fits_in, all_fit_in};
 
 use indent::write_indented;
 use pad::{write_padded_centered, write_padded_end, write_padded_start};
-use recording::Answer;
+use recording::{Done, Recording, Refusal};
 use replace::write_replaced_flat;
 use tabs::write_tabs_expanded;
 use truncate::{write_truncated_end, write_truncated_start};
@@ -53,41 +53,32 @@ fn request_at(calls: &[u32], i: usize) -> Request
 }
 
 // Whether a range runs forwards and within n.
+#[tactic(auto, unfolding(crate::specs::Requests::range_fits_in))]
 fn range_fits(n: usize, from: usize, to: usize) -> bool
     ensures { result ≡ requests.range_fits_in n from to }
 {
-    if to < from {
-        return false;
-    }
-    to <= n
+    from <= to && to <= n
 }
 
 // Whether a call has a known kind, and its ranges lie in pools of p bytes and q numbers.
+#[tactic(auto, unfolding(crate::specs::Requests::fits_in))]
 fn fits(x: Request, p: usize, q: usize) -> bool
     ensures { result ≡ fits_in p q x }
 {
-    if LAST_KIND < x.kind {
-        return false;
-    }
-    if !range_fits(p, x.from, x.to) {
-        return false;
-    }
-    if !range_fits(q, x.first, x.last) {
-        return false;
-    }
-    range_fits(p, x.start, x.end)
+    x.kind <= LAST_KIND
+        && range_fits(p, x.from, x.to)
+        && range_fits(q, x.first, x.last)
+        && range_fits(p, x.start, x.end)
 }
 
 // Whether all calls do; a rest of fewer than eight numbers is none.
 pub fn all_fit(calls: &[u32], p: usize, q: usize) -> bool
     ensures { result ≡ all_fit_in p q (requests_of (length calls.now / 8) calls.now) }
 {
-    let mut k = 0;
-    while k < calls.len() / 8 {
+    for k in 0..calls.len() / 8 {
         if !fits(request_at(calls, 8 * k), p, q) {
             return false;
         }
-        k += 1;
     }
     true
 }
@@ -100,144 +91,30 @@ pub fn all_fit(calls: &[u32], p: usize, q: usize) -> bool
 fn apply(
     kind: u32,
     width: u32,
-    content: &[u8],
-    entries: &[u32],
-    text: &[u8],
-    second: &[u8],
-    second_entries: &[u32],
-    second_text: &[u8],
+    content: Recording<'_>,
+    second: Recording<'_>,
     bytes: &mut [u8],
     numbers: &mut [u32],
     texts: &mut [u8],
     lines: &mut [u32],
-) -> Answer
-    ensures { Leaves (job_of kind width (recording second.now second_entries.now second_text.now))
-        (recording content.now entries.now text.now)
+) -> Result<Done, Refusal>
+    ensures { Leaves (job_of kind width (recording_of second.entry)) (recording_of content.entry)
         (lent_lined bytes.old numbers.old texts.old lines.old)
         (lent_lined bytes.new numbers.new texts.new lines.new) result }
 {
-    if kind == 0 {
-        return write_truncated_start(
-            content,
-            entries,
-            text,
-            second,
-            second_entries,
-            second_text,
-            width,
-            bytes,
-            numbers,
-            texts,
-        );
+    match kind {
+        0 => write_truncated_start(content, second, width, bytes, numbers, texts),
+        1 => write_truncated_end(content, second, width, bytes, numbers, texts),
+        2 => write_padded_start(content, second, width, bytes, numbers, texts),
+        3 => write_padded_end(content, second, width, bytes, numbers, texts),
+        4 => write_padded_centered(content, second, width, bytes, numbers, texts),
+        5 => write_indented(content, second, bytes, numbers, texts),
+        6 => write_wrapped(content, width, false, bytes, numbers, texts, lines),
+        7 => write_wrapped(content, width, true, bytes, numbers, texts, lines),
+        8 => write_replaced_flat(content, second.entries, second.bytes, bytes, numbers, texts),
+        9 => write_tabs_expanded(content, width, bytes, numbers, texts),
+        _ => write_unindented(content, second, bytes, numbers, texts),
     }
-    if kind == 1 {
-        return write_truncated_end(
-            content,
-            entries,
-            text,
-            second,
-            second_entries,
-            second_text,
-            width,
-            bytes,
-            numbers,
-            texts,
-        );
-    }
-    if kind == 2 {
-        return write_padded_start(
-            content,
-            entries,
-            text,
-            second,
-            second_entries,
-            second_text,
-            width,
-            bytes,
-            numbers,
-            texts,
-        );
-    }
-    if kind == 3 {
-        return write_padded_end(
-            content,
-            entries,
-            text,
-            second,
-            second_entries,
-            second_text,
-            width,
-            bytes,
-            numbers,
-            texts,
-        );
-    }
-    if kind == 4 {
-        return write_padded_centered(
-            content,
-            entries,
-            text,
-            second,
-            second_entries,
-            second_text,
-            width,
-            bytes,
-            numbers,
-            texts,
-        );
-    }
-    if kind == 5 {
-        return write_indented(
-            content,
-            entries,
-            text,
-            second,
-            second_entries,
-            second_text,
-            bytes,
-            numbers,
-            texts,
-        );
-    }
-    if kind < 8 {
-        return write_wrapped(
-            content,
-            entries,
-            text,
-            width,
-            kind == 7,
-            bytes,
-            numbers,
-            texts,
-            lines,
-        );
-    }
-    if kind == 8 {
-        return write_replaced_flat(
-            content,
-            entries,
-            text,
-            second_entries,
-            second,
-            bytes,
-            numbers,
-            texts,
-        );
-    }
-    if kind == 9 {
-        return write_tabs_expanded(content, entries, text, width, bytes, numbers, texts);
-    }
-    write_unindented(
-        content,
-        entries,
-        text,
-        second,
-        second_entries,
-        second_text,
-        bytes,
-        numbers,
-        texts,
-    )
 }
 
 // The call whose eight numbers start at i, with its ranges known to lie in their pools.
@@ -256,40 +133,25 @@ pub fn make_call(
     i: usize,
     pool: &[u8],
     pool_numbers: &[u32],
-    content: &[u8],
-    entries: &[u32],
-    text: &[u8],
+    content: Recording<'_>,
     bytes: &mut [u8],
     numbers: &mut [u32],
     texts: &mut [u8],
     lines: &mut [u32],
-) -> Answer
+) -> Result<Done, Refusal>
     requires i_in_bounds { i + 8 ≤ length calls.now }
     requires calls_value { fits_in (length pool.now) (length pool_numbers.now) (request_in (drop i calls.now)) ≡ true }
-    ensures { Leaves (job_in pool.now pool_numbers.now (request_in (drop i calls.now)))
-        (recording content.now entries.now text.now)
+    ensures { Leaves (job_in pool.now pool_numbers.now (request_in (drop i calls.now))) (recording_of content.entry)
         (lent_lined bytes.old numbers.old texts.old lines.old)
         (lent_lined bytes.new numbers.new texts.new lines.new) result }
 {
     let x = fitting_at(calls, i, pool.len(), pool_numbers.len());
-    let from = x.from;
-    let to = x.to;
-    let first = x.first;
-    let last = x.last;
-    let start = x.start;
-    let end = x.end;
+    let second = Recording {
+        bytes: &pool[x.from..x.to],
+        entries: &pool_numbers[x.first..x.last],
+        text: &pool[x.start..x.end],
+    };
     apply(
-        x.kind,
-        x.width,
-        content,
-        entries,
-        text,
-        &pool[from..to],
-        &pool_numbers[first..last],
-        &pool[start..end],
-        bytes,
-        numbers,
-        texts,
-        lines,
+        x.kind, x.width, content, second, bytes, numbers, texts, lines,
     )
 }

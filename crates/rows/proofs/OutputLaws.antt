@@ -23,8 +23,8 @@ not_same x y true e h = absurd (h (same_equal x y e))
 not_same x y false e h = refl
 
 -- ── the first line, up to e
-first_line : (s : Bytes) (e : ℕ) → 0 < length s → e ≡ 0 + length (up_to 0x0A s) → sheet_lines s ≡ sheet_line (take (e - 0) s) (ltb e (length s)) ∷ sheet_lines (drop (e + 1) s)
-first_line s e h k = sheet_next s 0 e h k
+first_line : (s : Bytes) (e : ℕ) → 0 < length s → e ≡ 0 + length (up_to 0x0A s) → sheet_lines s ≡ sheet_line (take e s) (ltb e (length s)) ∷ sheet_lines (drop (e + 1) s)
+first_line s e h k = let z : e - 0 ≡ e = omega arith in rw z at (sheet_next s 0 e h k)
 
 module _ (s : Bytes) where
   pub too_long : 65536 < length s → output s ≡ rows_heading ++ bad_row 0
@@ -35,15 +35,15 @@ module _ (s : Bytes) where
   unfolding output
   within h = simp (le-leb (length s) 65536 h)
 
-  pub no_heading : (e : ℕ) → length s ≤ 65536 → e ≡ 0 + length (up_to 0x0A s) → e < length s → (take (e - 0) s ≡ sheet_heading → ⊥) → output s ≡ rows_heading ++ bad_row 0
+  pub no_heading : (e : ℕ) → length s ≤ 65536 → e ≡ 0 + length (up_to 0x0A s) → e < length s → (take e s ≡ sheet_heading → ⊥) → output s ≡ rows_heading ++ bad_row 0
   no_heading e h k more n =
-      let f = not_same (take (e - 0) s) sheet_heading (same (take (e - 0) s) sheet_heading) refl n in
+      let f = not_same (take e s) sheet_heading (same (take e s) sheet_heading) refl n in
       within h ∙ ap (λ (ls : List SheetLine). rows_heading ++ body ls) (first_line s e (omega (arith, more)) k) ∙ simp (lt-ltb e (length s) more, f)
 
-  pub with_heading : (e : ℕ) → length s ≤ 65536 → e ≡ 0 + length (up_to 0x0A s) → e < length s → take (e - 0) s ≡ sheet_heading
+  pub with_heading : (e : ℕ) → length s ≤ 65536 → e ≡ 0 + length (up_to 0x0A s) → e < length s → take e s ≡ sheet_heading
       → output s ≡ rows_heading ++ rows_from 0 (sheet_lines (drop (e + 1) s))
   with_heading e h k more n =
-      let f : same (take (e - 0) s) sheet_heading ≡ true = ap (λ (l : Bytes). same l sheet_heading) n ∙ same_self sheet_heading in
+      let f : same (take e s) sheet_heading ≡ true = ap (λ (l : Bytes). same l sheet_heading) n ∙ same_self sheet_heading in
       within h ∙ ap (λ (ls : List SheetLine). rows_heading ++ body ls) (first_line s e (omega (arith, more)) k) ∙ simp (lt-ltb e (length s) more, f)
 
 pub no_line : (s : Bytes) (e : ℕ) → length s ≤ 65536 → e ≡ 0 + length (up_to 0x0A s) → e ≡ length s → output s ≡ rows_heading ++ bad_row 0

@@ -1,10 +1,11 @@
 -- The output of `wraplist` (document 01, module 7): the whole of what is printed for a sheet.
-use Rattle.std.specs.Prelude.{ℕ, suc, Bool, cond, ◌&&◌, List, [], ◌∷◌, ◌++◌, leb, length}
+use Rattle.std.specs.Prelude.{ℕ, suc, ◌≡◌, ◌+◌, ◌≤◌, Bool, cond, ◌&&◌, List, [], ◌∷◌, ◌++◌, leb, length}
 use Rattle.recording.specs.Lists.{same}
 use Rattle.recording.specs.Recording.{Bytes}
 use Rattle.layout.specs.Wrap.{Line, line_width, wrap_lines_of}
 use Rattle.sheet.specs.Sheet.{SheetLine, sheet_lines, value_from, break_of_text, data_of, width_field, break_field, data_field, good_line}
 use Rattle.sheet.specs.Decimal.{field}
+use Rattle.rows.specs.declared.Task.{Task}
 
 -- ── the rows: five numbers by single spaces, ended by 0A
 unfoldable pub row_text : ℕ → ℕ → ℕ → ℕ → ℕ → Bytes
@@ -36,6 +37,13 @@ rows_of r l =
     cond (l.ended && good_line l.text)
     (wrap_rows r (value_from 0 (width_field l.text)) (break_of_text (break_field l.text)) (data_of (data_field l.text)))
     (bad_row r)
+
+-- t is what a right value line says, whose data has two digits less than the line at most
+pub record Says (l : Bytes) (t : Task) : Type 0 where
+  pub width : t.width ≡ value_from 0 (width_field l)
+  pub breaks : t.breaks ≡ break_of_text (break_field l)
+  pub hex : t.hex.now ≡ data_field l
+  pub short : (length t.hex.now ≤ 8000) × (length t.hex.now + 2 ≤ length l)
 
 -- row from r on: every value line counts, bad ones too
 abbrev pub rows_from : ℕ → List SheetLine → Bytes

@@ -9,9 +9,8 @@ ghost use Rattle.requests.specs.Requests.{request_in, requests_of, job_in, fits_
 ghost use Rattle.call_lists.specs.Runs.{state, Sound, Turn, Ran, given, buffers, RunsCalls};
 
 use call_lists::{Held, alike, bring_back, check_input, moved, put_answer, too_long};
-use recording::Answer;
+use recording::{Done, Recording, Refusal};
 use requests::make_call;
-use writer::Settled;
 
 // The call whose eight numbers start at i, on the content where it stands, into the other set.
 fn turn(
@@ -27,7 +26,7 @@ fn turn(
     other_numbers: &mut [u32],
     other_texts: &mut [u8],
     lines: &mut [u32],
-) -> Answer
+) -> Result<Done, Refusal>
     requires i_in_bounds { i + 8 ≤ length calls.now }
     requires calls_value { fits_in (length pool.now) (length pool_numbers.now) (request_in (drop i calls.now)) ≡ true }
     requires sound { Sound s (lent_of bytes.old numbers.old texts.old) (lent_of other_bytes.old other_numbers.old other_texts.old) }
@@ -43,9 +42,11 @@ fn turn(
             i,
             pool,
             pool_numbers,
-            &bytes[..s.bytes],
-            &numbers[..s.numbers],
-            &texts[..s.texts],
+            Recording {
+                bytes: &bytes[..s.bytes],
+                entries: &numbers[..s.numbers],
+                text: &texts[..s.texts],
+            },
             other_bytes,
             other_numbers,
             other_texts,
@@ -57,9 +58,11 @@ fn turn(
         i,
         pool,
         pool_numbers,
-        &other_bytes[..s.bytes],
-        &other_numbers[..s.numbers],
-        &other_texts[..s.texts],
+        Recording {
+            bytes: &other_bytes[..s.bytes],
+            entries: &other_numbers[..s.numbers],
+            text: &other_texts[..s.texts],
+        },
         bytes,
         numbers,
         texts,
@@ -92,8 +95,7 @@ fn run_all(
         lines.new (take (2 * (length calls.now / 8)) answers.new)) answers.new }
 {
     let mut held = s;
-    let mut k = 0;
-    while k < calls.len() / 8 {
+    for k in 0..calls.len() / 8 {
         let a = turn(
             held,
             calls,
@@ -110,7 +112,6 @@ fn run_all(
         );
         put_answer(answers, 2 * k, a);
         held = moved(held, a);
-        k += 1;
     }
     held
 }
@@ -136,7 +137,7 @@ pub fn run_calls(
     other_texts: &mut [u8],
     lines: &mut [u32],
     answers: &mut [u64],
-) -> Answer
+) -> Result<Done, Refusal>
     ensures { RunsCalls (given calls.now pool.now pool_numbers.now data_len entries_len text_len)
         (buffers (lent_of bytes.old numbers.old texts.old) (lent_of other_bytes.old other_numbers.old other_texts.old)
         lines.old answers.old)
@@ -159,20 +160,14 @@ pub fn run_calls(
         other_numbers.len(),
         other_texts.len(),
     );
-    let checked = check_input(
+    check_input(
         long,
         same,
         calls,
         pool.len(),
         pool_numbers.len(),
         answers.len(),
-    );
-    match checked {
-        Settled::Refused(f) => {
-            return Answer::Refused(f);
-        }
-        Settled::Room => {}
-    }
+    )?;
     let start = Held {
         first: true,
         bytes: data_len,
@@ -203,10 +198,10 @@ pub fn run_calls(
         other_numbers,
         other_texts,
     );
-    Answer::Done {
+    Ok(Done {
         data: end.bytes,
         entries: end.numbers,
         text: end.texts,
         number: end.made as u64,
-    }
+    })
 }

@@ -5,19 +5,16 @@
 ghost use Rattle.std.specs.Prelude.{◌+◌, ◌≤◌, length};
 
 use buffer::put;
-use call_lists::put_numbers;
-use recording::Answer;
+use recording::{Done, Refusal};
 use runs::run_calls;
 use std::io;
 
-// A list that is refused: its range among the calls, how much data is used, and how much of the other text and of the list of answers is lent.
+// A list of calls, and the pools that their ranges are of.
 #[derive(Clone, Copy)]
-struct Row {
-    from: u32,
-    to: u32,
-    data: u32,
-    texts: u32,
-    answers: u32,
+struct List<'a> {
+    calls: &'a [u32],
+    pool: &'a [u8],
+    pool_numbers: &'a [u32],
 }
 
 // How long the content is.
@@ -28,20 +25,92 @@ struct Used {
     text: usize,
 }
 
+// The first content: "oak 12 ft b" with "oak" labelled and a raw sequence before "12".
+const FIRST: Used = Used {
+    data: 11,
+    entries: 12,
+    text: 4,
+};
+
 // The content is a result if the list was not refused.
-fn used_after(u: Used, a: Answer) -> Used {
+fn used_after(used: Used, a: Result<Done, Refusal>) -> Used {
     match a {
-        Answer::Refused(_) => u,
-        Answer::Done {
-            data: d,
-            entries: e,
-            text: t,
-            number: _,
-        } => Used {
-            data: d,
-            entries: e,
-            text: t,
+        Err(_) => used,
+        Ok(d) => Used {
+            data: d.data,
+            entries: d.entries,
+            text: d.text,
         },
+    }
+}
+
+// Every place that is lent: two sets of buffers, the line list and the list of answers.
+#[derive(Clone, Copy)]
+struct Lent {
+    bytes: [u8; 64],
+    numbers: [u32; 96],
+    texts: [u8; 24],
+    other_bytes: [u8; 64],
+    other_numbers: [u32; 96],
+    other_texts: [u8; 24],
+    lines: [u32; 16],
+    answers: [u64; 42],
+}
+
+impl Lent {
+    // Writes the first content at the front of the first set.
+    fn start(&mut self) {
+        let entries = [0, 0, 0, 3, 3, 1, 0, 0, 4, 2, 3, 1];
+        put(&mut self.bytes, 0, b"oak 12 ft b", 0, 11);
+        put(&mut self.numbers, 0, &entries, 0, 12);
+        put(&mut self.texts, 0, b"redR", 0, 4);
+    }
+
+    // Runs a list, with the first places of the other text and of the list of answers lent.
+    fn run(
+        &mut self,
+        list: List<'_>,
+        used: Used,
+        texts: usize,
+        answers: usize,
+    ) -> Result<Done, Refusal> {
+        let other_texts = &mut self.other_texts[..];
+        let all_answers = &mut self.answers[..];
+        run_calls(
+            list.calls,
+            list.pool,
+            list.pool_numbers,
+            used.data,
+            used.entries,
+            used.text,
+            &mut self.bytes,
+            &mut self.numbers,
+            &mut self.texts,
+            &mut self.other_bytes,
+            &mut self.other_numbers,
+            &mut other_texts[..texts.min(24)],
+            &mut self.lines,
+            &mut all_answers[..answers.min(42)],
+        )
+    }
+
+    fn run_all(&mut self, list: List<'_>, used: Used) -> Result<Done, Refusal> {
+        self.run(list, used, 24, 42)
+    }
+
+    fn show(&self, rt: &impl Print) -> io::Result<()> {
+        show_set(rt, b"  first", &self.bytes, &self.numbers, &self.texts)?;
+        show_set(
+            rt,
+            b"  other",
+            &self.other_bytes,
+            &self.other_numbers,
+            &self.other_texts,
+        )?;
+        rt.write_all(b"  lines")?;
+        report::numbers(rt, &self.lines)?;
+        rt.write_all(b"\n")?;
+        show_answers(rt, &self.answers)
     }
 }
 
@@ -67,291 +136,65 @@ fn show_answers(rt: &impl Print, answers: &[u64]) -> io::Result<()> {
     rt.write_all(b"\n")
 }
 
-// Every place that was lent.
-fn show(
-    rt: &impl Print,
-    bytes: &[u8],
-    numbers: &[u32],
-    texts: &[u8],
-    other_bytes: &[u8],
-    other_numbers: &[u32],
-    other_texts: &[u8],
-    lines: &[u32],
-    answers: &[u64],
-) -> io::Result<()> {
-    show_set(rt, b"  first", bytes, numbers, texts)?;
-    show_set(rt, b"  other", other_bytes, other_numbers, other_texts)?;
-    rt.write_all(b"  lines")?;
-    report::numbers(rt, lines)?;
-    rt.write_all(b"\n")?;
-    show_answers(rt, answers)
-}
-
-// The first content: "oak 12 ft b" with "oak" labelled and a raw sequence before "12".
-fn start(bytes: &mut [u8], numbers: &mut [u32], texts: &mut [u8]) -> Used {
-    let used = Used {
-        data: 11,
-        entries: 12,
-        text: 4,
-    };
-    if bytes.len() < 11 {
-        return used;
-    }
-    if numbers.len() < 12 {
-        return used;
-    }
-    if texts.len() < 4 {
-        return used;
-    }
-    let entries = [0, 0, 0, 3, 3, 1, 0, 0, 4, 2, 3, 1];
-    put(bytes, 0, b"oak 12 ft b", 0, 11);
-    put_numbers(numbers, &entries, 12);
-    put(texts, 0, b"redR", 0, 4);
-    used
-}
-
-fn least(a: usize, b: usize) -> usize
-    ensures { (result ≤ a) × (result ≤ b) }
-{
-    if a < b {
-        return a;
-    }
-    b
-}
-
-// Five numbers of `rows`, printed and read.
-fn row_at(rt: &impl Print, rows: &[u32], i: usize) -> io::Result<Row>
-    requires { i + 5 ≤ length rows.now }
-{
-    rt.write_all(b"list")?;
-    report::numbers(rt, &rows[i..i + 5])?;
-    rt.write_all(b":")?;
-    Ok(Row {
-        from: rows[i],
-        to: rows[i + 1],
-        data: rows[i + 2],
-        texts: rows[i + 3],
-        answers: rows[i + 4],
-    })
-}
-
-// Runs a list that is refused, and prints its answer.
-fn refused_list(
-    rt: &impl Print,
-    row: Row,
-    bad: &[u32],
-    pool: &[u8],
-    pool_numbers: &[u32],
-    bytes: &mut [u8],
-    numbers: &mut [u32],
-    texts: &mut [u8],
-    other_bytes: &mut [u8],
-    other_numbers: &mut [u32],
-    other_texts: &mut [u8],
-    lines: &mut [u32],
-    answers: &mut [u64],
-) -> io::Result<()> {
-    let to = least(row.to as usize, bad.len());
-    let from = least(row.from as usize, to);
-    let texts_lent = least(row.texts as usize, other_texts.len());
-    let answers_lent = least(row.answers as usize, answers.len());
-    let a = run_calls(
-        &bad[from..to],
-        pool,
-        pool_numbers,
-        row.data as usize,
-        12,
-        4,
-        bytes,
-        numbers,
-        texts,
-        other_bytes,
-        other_numbers,
-        &mut other_texts[0..texts_lent],
-        lines,
-        &mut answers[0..answers_lent],
-    );
-    report::answer(rt, a)?;
-    rt.write_all(b"\n")
-}
-
+// Lists that are refused, a row each: the range among the calls, how much data is used, and how much of the other text and of the list of answers is lent.
 fn refused_lists(
     rt: &impl Print,
-    rows: &[u32],
-    bad: &[u32],
-    pool: &[u8],
-    pool_numbers: &[u32],
-    bytes: &mut [u8],
-    numbers: &mut [u32],
-    texts: &mut [u8],
-    other_bytes: &mut [u8],
-    other_numbers: &mut [u32],
-    other_texts: &mut [u8],
-    lines: &mut [u32],
-    answers: &mut [u64],
+    lent: &mut Lent,
+    rows: &[[u32; 5]],
+    list: List<'_>,
 ) -> io::Result<()> {
-    for i in 0..rows.len() / 5 {
-        let row = row_at(rt, rows, 5 * i)?;
-        refused_list(
-            rt,
-            row,
-            bad,
-            pool,
-            pool_numbers,
-            bytes,
-            numbers,
-            texts,
-            other_bytes,
-            other_numbers,
-            other_texts,
-            lines,
-            answers,
-        )?;
+    for row in rows {
+        rt.write_all(b"list")?;
+        report::numbers(rt, row)?;
+        rt.write_all(b":")?;
+        let to = (row[1] as usize).min(list.calls.len());
+        let from = (row[0] as usize).min(to);
+        let bad = List {
+            calls: &list.calls[from..to],
+            ..list
+        };
+        let used = Used {
+            data: row[2] as usize,
+            ..FIRST
+        };
+        let a = lent.run(bad, used, row[3] as usize, row[4] as usize);
+        report::answer(rt, a)?;
+        rt.write_all(b"\n")?;
     }
     Ok(())
 }
 
-// One call, as a list of one.
-fn one_call(
-    rt: &impl Print,
-    used: Used,
-    calls: &[u32],
-    pool: &[u8],
-    pool_numbers: &[u32],
-    bytes: &mut [u8],
-    numbers: &mut [u32],
-    texts: &mut [u8],
-    other_bytes: &mut [u8],
-    other_numbers: &mut [u32],
-    other_texts: &mut [u8],
-    lines: &mut [u32],
-    answers: &mut [u64],
-) -> io::Result<Used> {
-    let a = run_calls(
-        calls,
-        pool,
-        pool_numbers,
-        used.data,
-        used.entries,
-        used.text,
-        bytes,
-        numbers,
-        texts,
-        other_bytes,
-        other_numbers,
-        other_texts,
-        lines,
-        answers,
-    );
-    report::answer(rt, a)?;
-    show_set(rt, b"\n  first", bytes, numbers, texts)?;
-    let n = least(2, answers.len());
-    show_answers(rt, &answers[0..n])?;
-    Ok(used_after(used, a))
-}
-
 // The calls one by one, each on what the one before left.
-fn each(
-    rt: &impl Print,
-    first: Used,
-    calls: &[u32],
-    pool: &[u8],
-    pool_numbers: &[u32],
-    bytes: &mut [u8],
-    numbers: &mut [u32],
-    texts: &mut [u8],
-    other_bytes: &mut [u8],
-    other_numbers: &mut [u32],
-    other_texts: &mut [u8],
-    lines: &mut [u32],
-    answers: &mut [u64],
-) -> io::Result<()> {
-    let mut used = first;
-    for i in 0..calls.len() / 8 {
-        let at = 8 * i;
+fn each(rt: &impl Print, lent: &mut Lent, list: List<'_>) -> io::Result<()> {
+    let mut used = FIRST;
+    for call in list.calls.as_chunks::<8>().0 {
         rt.write_all(b"call")?;
-        report::numbers(rt, &calls[at..at + 2])?;
+        report::numbers(rt, &call[..2])?;
         rt.write_all(b":")?;
-        used = one_call(
-            rt,
-            used,
-            &calls[at..at + 8],
-            pool,
-            pool_numbers,
-            bytes,
-            numbers,
-            texts,
-            other_bytes,
-            other_numbers,
-            other_texts,
-            lines,
-            answers,
-        )?;
+        let one = List {
+            calls: call,
+            ..list
+        };
+        let a = lent.run_all(one, used);
+        report::answer(rt, a)?;
+        show_set(rt, b"\n  first", &lent.bytes, &lent.numbers, &lent.texts)?;
+        show_answers(rt, &lent.answers[..2])?;
+        used = used_after(used, a);
     }
     Ok(())
 }
 
 // All calls at once, and every lent place after them.
-fn at_once(
-    rt: &impl Print,
-    used: Used,
-    calls: &[u32],
-    pool: &[u8],
-    pool_numbers: &[u32],
-    bytes: &mut [u8],
-    numbers: &mut [u32],
-    texts: &mut [u8],
-    other_bytes: &mut [u8],
-    other_numbers: &mut [u32],
-    other_texts: &mut [u8],
-    lines: &mut [u32],
-    answers: &mut [u64],
-) -> io::Result<()> {
-    let a = run_calls(
-        calls,
-        pool,
-        pool_numbers,
-        used.data,
-        used.entries,
-        used.text,
-        bytes,
-        numbers,
-        texts,
-        other_bytes,
-        other_numbers,
-        other_texts,
-        lines,
-        answers,
-    );
+fn at_once(rt: &impl Print, lent: &mut Lent, list: List<'_>) -> io::Result<()> {
+    let a = lent.run_all(list, FIRST);
     rt.write_all(b"at once:")?;
     report::answer(rt, a)?;
     rt.write_all(b"\n")?;
-    show(
-        rt,
-        bytes,
-        numbers,
-        texts,
-        other_bytes,
-        other_numbers,
-        other_texts,
-        lines,
-        answers,
-    )
+    lent.show(rt)
 }
 
 // All lists, one after another, in the same buffers.
-fn lists(
-    rt: &impl Print,
-    pool: &[u8],
-    bytes: &mut [u8],
-    numbers: &mut [u32],
-    texts: &mut [u8],
-    other_bytes: &mut [u8],
-    other_numbers: &mut [u32],
-    other_texts: &mut [u8],
-    lines: &mut [u32],
-    answers: &mut [u64],
-) -> io::Result<()> {
+fn lists(rt: &impl Print, lent: &mut Lent, pool: &[u8]) -> io::Result<()> {
     let pool_numbers = [
         // The entries of =>.
         0, 0, 0, 1, 2, 1, 0, 0,
@@ -412,53 +255,19 @@ fn lists(
         // Truncate at the end to 12: the result is shorter than the one before.
         1, 12, 3, 4, 8, 20, 4, 7,
     ];
-    let used = start(bytes, numbers, texts);
-    at_once(
-        rt,
-        used,
-        &calls,
+    let list = List {
+        calls: &calls,
         pool,
-        &pool_numbers,
-        bytes,
-        numbers,
-        texts,
-        other_bytes,
-        other_numbers,
-        other_texts,
-        lines,
-        answers,
-    )?;
-    let again = start(bytes, numbers, texts);
-    each(
-        rt,
-        again,
-        &calls,
-        pool,
-        &pool_numbers,
-        bytes,
-        numbers,
-        texts,
-        other_bytes,
-        other_numbers,
-        other_texts,
-        lines,
-        answers,
-    )
+        pool_numbers: &pool_numbers,
+    };
+    lent.start();
+    at_once(rt, lent, list)?;
+    lent.start();
+    each(rt, lent, list)
 }
 
 // Lists that are refused, and the buffers as they were. The calls, in this order: one that is good, one of an unknown kind, and ranges that run backwards or beyond their pool.
-fn refusals(
-    rt: &impl Print,
-    pool: &[u8],
-    bytes: &mut [u8],
-    numbers: &mut [u32],
-    texts: &mut [u8],
-    other_bytes: &mut [u8],
-    other_numbers: &mut [u32],
-    other_texts: &mut [u8],
-    lines: &mut [u32],
-    answers: &mut [u64],
-) -> io::Result<()> {
+fn refusals(rt: &impl Print, lent: &mut Lent, pool: &[u8]) -> io::Result<()> {
     let pool_numbers = [0; 63];
     let bad = [
         // A good call.
@@ -472,95 +281,48 @@ fn refusals(
     ];
     // The range among the calls, the used data, the lent other text and the lent answers.
     let rows = [
-        0, 8, 65, 24, 2, 0, 8, 11, 23, 2, 0, 7, 11, 24, 2, 8, 16, 11, 24, 2, 16, 24, 11, 24, 2, 24,
-        32, 11, 24, 2, 32, 40, 11, 24, 2, 40, 48, 11, 24, 2, 48, 56, 11, 24, 2, 56, 64, 11, 24, 2,
-        0, 8, 11, 24, 1, 8, 15, 65, 23, 0, 8, 15, 11, 23, 0, 8, 15, 11, 24, 0, 0, 0, 11, 24, 0,
+        [0, 8, 65, 24, 2],
+        [0, 8, 11, 23, 2],
+        [0, 7, 11, 24, 2],
+        [8, 16, 11, 24, 2],
+        [16, 24, 11, 24, 2],
+        [24, 32, 11, 24, 2],
+        [32, 40, 11, 24, 2],
+        [40, 48, 11, 24, 2],
+        [48, 56, 11, 24, 2],
+        [56, 64, 11, 24, 2],
+        [0, 8, 11, 24, 1],
+        [8, 15, 65, 23, 0],
+        [8, 15, 11, 23, 0],
+        [8, 15, 11, 24, 0],
+        [0, 0, 11, 24, 0],
     ];
-    start(bytes, numbers, texts);
+    lent.start();
     refused_lists(
         rt,
+        lent,
         &rows,
-        &bad,
-        pool,
-        &pool_numbers,
-        bytes,
-        numbers,
-        texts,
-        other_bytes,
-        other_numbers,
-        other_texts,
-        lines,
-        answers,
+        List {
+            calls: &bad,
+            pool,
+            pool_numbers: &pool_numbers,
+        },
     )?;
-    show(
-        rt,
-        bytes,
-        numbers,
-        texts,
-        other_bytes,
-        other_numbers,
-        other_texts,
-        lines,
-        answers,
-    )
-}
-
-fn both(
-    rt: &impl Print,
-    bytes: &mut [u8],
-    numbers: &mut [u32],
-    texts: &mut [u8],
-    other_bytes: &mut [u8],
-    other_numbers: &mut [u32],
-    other_texts: &mut [u8],
-    lines: &mut [u32],
-    answers: &mut [u64],
-) -> io::Result<()> {
-    let pool = b"=>a~^^c\xe6\x9c\xa8-+blue| greenoakX\x09.> g";
-    refusals(
-        rt,
-        pool,
-        bytes,
-        numbers,
-        texts,
-        other_bytes,
-        other_numbers,
-        other_texts,
-        lines,
-        answers,
-    )?;
-    lists(
-        rt,
-        pool,
-        bytes,
-        numbers,
-        texts,
-        other_bytes,
-        other_numbers,
-        other_texts,
-        lines,
-        answers,
-    )
+    lent.show(rt)
 }
 
 fn main(rt: HostRuntime) -> io::Result<()> {
-    let mut bytes = [95; 64];
-    let mut numbers = [9; 96];
-    let mut texts = [95; 24];
-    let mut other_bytes = [95; 64];
-    let mut other_numbers = [9; 96];
-    let mut other_texts = [95; 24];
-    let mut lines = [9; 16];
-    let mut answers = [9; 42];
-    both(
-        &rt,
-        &mut bytes,
-        &mut numbers,
-        &mut texts,
-        &mut other_bytes,
-        &mut other_numbers,
-        &mut other_texts,
-        &mut lines,
-        &mut answers,
-    )
+    let mut lent = Lent {
+        bytes: [95; 64],
+        numbers: [9; 96],
+        texts: [95; 24],
+        other_bytes: [95; 64],
+        other_numbers: [9; 96],
+        other_texts: [95; 24],
+        lines: [9; 16],
+        answers: [9; 42],
+    };
+    let pool = b"=>a~^^c\xe6\x9c\xa8-+blue| greenoakX\x09.> g";
+    refusals(&rt, &mut lent, pool)?;
+    lists(&rt, &mut lent, pool)
 }

@@ -15,13 +15,13 @@ use Rattle.buffer.proofs.Laws.{stores}
 use Rattle.recording.specs.declared.Entry.{Entry}
 use Rattle.recording.specs.Lists.{same}
 use Rattle.recording.specs.Recording.{Bytes, entries_of, numbers_of_ranges, part_of, is_push_of, pushed_in, new_text}
-use Rattle.recording.proofs.EntryLaws.{entries_few}
+use Rattle.recording.proofs.CheckLaws.{entries_quarter}
 use Rattle.recording.proofs.Lists.{same_equal}
 use Rattle.recording.proofs.Lists.{and_left, and_right}
 use Rattle.recording.proofs.ShareLaws.{or_comm, pushed-snoc}
 use Rattle.recording.specs.Share.{Inside}
 use Rattle.share.specs.Sizes.{raws_in, label_in, labels_in, new_in, Alike, first_added_of, Serve, size_less, Counts}
-use Rattle.share.proofs.SizeLaws.{new_most, inside_next, before_next, entries_of-append}
+use Rattle.share.proofs.SizeLaws.{new_most, inside_next, entries_of-append}
 
 -- four stores from k on
 pub four_stores : (l : List ℕ) (k a b c d : ℕ) → k + 4 ≤ length l
@@ -88,10 +88,6 @@ module _ (u : Bytes) (xs those : List Entry) (h : Alike [] [] u xs those) (t : B
   labels_those before (e ∷ es) = λ i. label_those before e i + labels_those (before ++ (e ∷ [])) es i
 
 -- ── one entry
--- a part from the first place on, as the borrow checker writes it
-pub brought : (u : Bytes) (those : List Entry) (t fs : List ℕ) (m : ℕ) (e : Entry) (v : ℕ) → v ≡ label_in u those t (entries_of (take (m - 0) (drop 0 fs))) e → v ≡ label_in u those t (entries_of (take m fs)) e
-brought u those t fs m e v q = let z : m - 0 ≡ m = omega arith in q ∙ ap (λ (n : ℕ). label_in u those t (entries_of (take n fs)) e) z
-
 module _ (u : Bytes) (those : List Entry) (t fs : List ℕ) (m : ℕ) (e : Entry) where
   pub not_kept : label_in u those t (entries_of (take m fs)) e ≡ 0 → entries_of (take m fs) ≡ first_added_of u those t (entries_of (take m fs)) e
   unfolding first_added_of
@@ -108,72 +104,66 @@ module _ (u : Bytes) (those : List Entry) (t fs : List ℕ) (m : ℕ) (e : Entry
       ap (take (m + 4)) (q ∙ sym (append_assoc (take m fs) ns (drop 4 (drop m fs)))) ∙ ap (λ (n : ℕ). take n ((take m fs ++ ns) ++ drop 4 (drop m fs))) (sym l) ∙ take-append_seam (take m fs ++ ns) (drop 4 (drop m fs)) in
       ap entries_of s ∙ entries_of-append (take m fs) ns (omega (arith, w, f)) ∙ sym (ap (λ (b : Bool). cond b (entries_of (take m fs)) (entries_of (take m fs) ++ (e ∷ []))) (ne_eqb (label_in u those t (entries_of (take m fs)) e) 0 z))
 
--- ── entry by entry: `size` has what is counted of the entries up to k, and fs up to m those of them that brought it
-pub record Gathered (u : Bytes) (those : List Entry) (t ns : List ℕ) (from k : ℕ) (fs : List ℕ) (m size : ℕ) : Type 0 where
-  pub within : k ≤ length ns
-  pub fours : k % 4 ≡ 0
-  pub sizes : size + labels_in u those t (entries_of (take k ns)) (entries_of (drop k ns)) ≡ from + labels_in u those t [] (entries_of ns)
+-- ── entry by entry: `size` has what is counted of the entries `done`, and fs up to m those of them that brought it; `rest` are left
+pub record Gathered (u : Bytes) (those : List Entry) (t : Bytes) (all : List Entry) (from : ℕ) (done rest : List Entry) (fs : List ℕ) (m size : ℕ) : Type 0 where
+  pub whole : done ++ rest ≡ all
+  pub sizes : size + labels_in u those t done rest ≡ from + labels_in u those t [] all
   pub low : size ≤ 65536
-  pub inside : Inside t (entries_of (drop k ns))
-  pub few : m ≤ k
+  pub inside : Inside t rest
+  pub few : m + 4 * length rest ≤ 4 * length all
   pub quads : m % 4 ≡ 0
-  pub alike : Alike u those t (entries_of (take m fs)) (entries_of (take k ns))
+  pub alike : Alike u those t (entries_of (take m fs)) done
 
-pub gathered_none : (u : Bytes) (those : List Entry) (t ns : List ℕ) (from : ℕ) (fs : List ℕ) → from ≤ 65536 → Inside t (entries_of ns) → Gathered u those t ns from 0 fs 0 from
+pub gathered_none : (u : Bytes) (those : List Entry) (t : Bytes) (all : List Entry) (from : ℕ) (fs : List ℕ) → from ≤ 65536 → Inside t all → Gathered u those t all from [] all fs 0 from
 unfolding Alike
-gathered_none u those t ns from fs b h =
-    record { within = omega arith; fours = refl; sizes = refl; low = b; inside = h; few = omega arith; quads = refl; alike = λ l. refl }
+gathered_none u those t all from fs b h =
+    record { whole = refl; sizes = refl; low = b; inside = h; few = omega arith; quads = refl; alike = λ l. refl }
 
 -- what the call leaves
-abbrev pub Counted : Bytes → List Entry → List ℕ → List ℕ → ℕ → List ℕ → ℕ → ℕ → Type 0
-Counted u those t ns from fs m size = Counts (from + labels_in u those t [] (entries_of ns)) size × Serve size u those t (entries_of (take m fs)) (entries_of ns)
+abbrev pub Counted : Bytes → List Entry → Bytes → List Entry → ℕ → List ℕ → ℕ → ℕ → Type 0
+Counted u those t all from fs m size = Counts (from + labels_in u those t [] all) size × Serve size u those t (entries_of (take m fs)) all
 
-module _ (u : Bytes) (those : List Entry) (t ns : List ℕ) (from k : ℕ) (fs : List ℕ) (m size : ℕ) (s : Gathered u those t ns from k fs m size) where
-  module _ (more : 4 ≤ length ns - k) (e : Entry) (q : entries_of (drop k ns) ≡ e ∷ entries_of (drop (k + 4) ns)) where
-    pub entry-inside : (e.start + e.len ≤ length t) × Inside t (entries_of (drop (k + 4) ns))
-    entry-inside = inside_next t e (entries_of (drop (k + 4) ns)) (rw q at s.inside)
+module _ (u : Bytes) (those : List Entry) (t : Bytes) (all : List Entry) (from : ℕ) (done rest : List Entry) (fs : List ℕ) (m size : ℕ) (s : Gathered u those t all from done rest fs m size) where
+  module _ (e : Entry) (es : List Entry) (q : rest ≡ e ∷ es) where
+    pub entry-inside : (e.start + e.len ≤ length t) × Inside t es
+    entry-inside = inside_next t e es (rw q at s.inside)
 
-    module _ (fs' : List ℕ) (m' size' : ℕ) (es : size' ≡ size + label_in u those t (entries_of (take m fs)) e) (em : (m' % 4 ≡ 0) × (m' ≤ m + 4) × (size' ≤ size + 65536)) (ef : entries_of (take m' fs') ≡ first_added_of u those t (entries_of (take m fs)) e) where
-      b : entries_of (take (k + 4) ns) ≡ entries_of (take k ns) ++ (e ∷ [])
-      b = before_next ns k e (entries_of (drop (k + 4) ns)) s.fours s.within q
+    -- there is room for the next entry
+    pub entry-fits : (ns : List ℕ) → all ≡ entries_of ns → m + 4 ≤ length ns
+    entry-fits ns a = omega (arith, s.few, ap length q, ap length a, entries_quarter ns)
 
-      total : size' + labels_in u those t (entries_of (take (k + 4) ns)) (entries_of (drop (k + 4) ns)) ≡ from + labels_in u those t [] (entries_of ns)
+    module _ (fs' : List ℕ) (m' size' : ℕ) (es' : size' ≡ size + label_in u those t (entries_of (take m fs)) e) (em : (m' % 4 ≡ 0) × (m' ≤ m + 4) × (size' ≤ size + 65536)) (ef : entries_of (take m' fs') ≡ first_added_of u those t (entries_of (take m fs)) e) where
+      total : size' + labels_in u those t (done ++ (e ∷ [])) es ≡ from + labels_in u those t [] all
       total =
           omega (
             arith,
             s.sizes,
-            es,
-            label_alike u those t (entries_of (take m fs)) (entries_of (take k ns)) e s.alike,
-            ap (labels_in u those t (entries_of (take k ns))) q,
-            ap (λ (l : List Entry). labels_in u those t l (entries_of (drop (k + 4) ns))) b,
+            es',
+            label_alike u those t (entries_of (take m fs)) done e s.alike,
+            ap (labels_in u those t done) q,
           )
 
-      pub gathered_over : 65536 < size' → Counted u those t ns from fs' m' size'
+      pub gathered_over : 65536 < size' → Counted u those t all from fs' m' size'
       unfolding Counts Serve
       gathered_over h = (inr (omega (arith, total, h), h), λ g. absurd (omega (arith, g, h)))
 
-      pub gathered_next : size' ≤ 65536 → Gathered u those t ns from (k + 4) fs' m' size'
+      pub gathered_next : size' ≤ 65536 → Gathered u those t all from (done ++ (e ∷ [])) es fs' m' size'
       gathered_next h =
           record {
-            within = omega (arith, more);
-            fours = omega (arith, s.fours);
+            whole = append_assoc done (e ∷ []) es ∙ ap (λ (l : List Entry). done ++ l) (sym q) ∙ s.whole;
             sizes = total;
             low = h;
             inside = entry-inside.1;
-            few = omega (arith, s.few, em.1);
+            few = omega (arith, s.few, em.1, ap length q);
             quads = em.0;
-            alike = rw (ef, b) (alike_next u those t (entries_of (take m fs)) (entries_of (take k ns)) e s.alike);
+            alike = rw ef (alike_next u those t (entries_of (take m fs)) done e s.alike);
           }
 
-  pub gathered_all : length ns - k < 4 → Counted u those t ns from fs m size
+  pub gathered_all : rest ≡ [] → Counted u those t all from fs m size
   unfolding Counts Serve
-  gathered_all h =
-      let z : entries_of (drop k ns) ≡ [] = entries_few (drop k ns) (omega (arith, h, length-drop k ns)) in
-      let w : length (take k ns) ≡ k = length-take-le k ns s.within in
-      let a : entries_of (take k ns) ≡ entries_of ns =
-      sym (append-nil (entries_of (take k ns))) ∙ ap (λ (l : List Entry). entries_of (take k ns) ++ l) (sym z)
-      ∙ sym (entries_of-append (take k ns) (drop k ns) (omega (arith, w, s.fours))) ∙ ap entries_of (take-append-drop k ns) in
-      (inl (omega (arith, s.sizes, ap (labels_in u those t (entries_of (take k ns))) z)), λ g. rw a at s.alike)
+  gathered_all z =
+      let a : done ≡ all = sym (append-nil done) ∙ ap (λ (l : List Entry). done ++ l) (sym z) ∙ s.whole in
+      (inl (omega (arith, s.sizes, ap (labels_in u those t done) z)), λ g. rw a at s.alike)
 
 -- ── the sum
 module _ (t : Bytes) (es : List Entry) (u : Bytes) (fs : List Entry) (n gone a b : ℕ) (ra : a ≡ raws_in es - gone) (rb : b ≡ raws_in fs) where
@@ -193,14 +183,12 @@ module _ (t : Bytes) (es : List Entry) (u : Bytes) (fs : List Entry) (n gone a b
     unfolding Counts size_less
     size_over h = inr (⊎_elim (λ q. omega (arith, h, q, ra, ap (λ (k : ℕ). n * k) rb)) (λ q. omega (arith, q.0, ra, ap (λ (k : ℕ). n * k) rb)) c, h)
 
-    pub size_both : (n ≡ 0 → ⊥) → r ≤ 65536 → (gs : List ℕ) (k : ℕ) → Serve r [] [] t (entries_of (take k gs)) es → (m : ℕ) → Counts (r + labels_in t (entries_of (take (k - 0) (drop 0 gs))) u [] fs) m
+    pub size_both : (n ≡ 0 → ⊥) → r ≤ 65536 → (gs : List ℕ) (k : ℕ) → Serve r [] [] t (entries_of (take k gs)) es → (m : ℕ) → Counts (r + labels_in t (entries_of (take k gs)) u [] fs) m
         → Counts (size_less gone t es u fs n) m
     unfolding Counts size_less Serve
     size_both z h gs k s m d =
-        let y : k - 0 ≡ k = omega arith in
-        let x : labels_in t (entries_of (take (k - 0) (drop 0 gs))) u [] fs ≡ labels_in t es u [] fs =
-        ap (λ (j : ℕ). labels_in t (entries_of (take j gs)) u [] fs) y ∙ labels_those t (entries_of (take k gs)) es (s h) u [] fs in
+        let x : labels_in t (entries_of (take k gs)) u [] fs ≡ labels_in t es u [] fs = labels_those t (entries_of (take k gs)) es (s h) u [] fs in
         let e : r ≡ (a + n * b) + labels_in [] [] t [] es = ⊎_elim (λ q. q) (λ q. absurd (omega (arith, q.1, h))) c in
-        let g : r + labels_in t (entries_of (take (k - 0) (drop 0 gs))) u [] fs ≡ ((raws_in es - gone) + n * raws_in fs) + (labels_in [] [] t [] es + cond (eqb n 0) 0 (labels_in t es u [] fs)) =
+        let g : r + labels_in t (entries_of (take k gs)) u [] fs ≡ ((raws_in es - gone) + n * raws_in fs) + (labels_in [] [] t [] es + cond (eqb n 0) 0 (labels_in t es u [] fs)) =
         rw (ne_eqb n 0 z) (omega (arith, e, ra, ap (λ (j : ℕ). n * j) rb, x)) in
         rw g at d

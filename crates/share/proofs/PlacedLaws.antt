@@ -1,23 +1,22 @@
--- A search that compares only the parts that are new (`only-new`), over entries that are placed as a result has them; and a result has them so (`placed_after`).
-use mathlib.Core.Path.{◌≡◌, refl, sym, ap, ◌∙◌}
+-- A search that compares only the parts that are new (`New`), over entries that are placed as a result has them; and a result has them so (`placed_after`).
+use mathlib.Core.Path.{◌≡◌, refl, sym, ap, ◌∙◌, subst}
 use mathlib.Core.Bool.{Bool, true, false, cond, ◌&&◌, ◌||◌, not, false≢true}
 use mathlib.Core.List.{List, [], ◌∷◌, ◌++◌, append_assoc, append-nil}
-use Prim.Native.Nat.{ℕ, suc, ◌+◌, ◌-◌, ◌%◌, ◌≤◌, ◌<◌}
+use Prim.Native.Nat.{ℕ, suc, ◌+◌, ◌≤◌, ◌<◌}
 use native.Mathlib.Omega.{arith}
 use lib.Dec.{eqb, leb}
 use lib.ListN.{length, take, drop, length-append}
-use borrow.Author.Tests.{eq-eqb, eqb-true, le-leb, lt-leb, leb-false}
+use borrow.Author.Tests.{eq-eqb, eqb-true, le-leb, lt-leb}
 use Rattle.recording.specs.declared.Entry.{Entry}
 use Rattle.recording.specs.Lists.{same}
-use Rattle.recording.specs.Recording.{Bytes, entry, entries_of, part_of, Item, byte, push, pop, raw, is_push_of, pushed_in, start_in, push_at, new_text, entries_from, text_from}
+use Rattle.recording.specs.Recording.{Bytes, entry, part_of, Item, byte, push, pop, raw, is_push_of, pushed_in, start_in, push_at, new_text, entries_from, text_from}
 use Rattle.recording.proofs.Lists.{and_left, and_right, or_left, or_right}
 use Rattle.recording.proofs.SizeLaws.{append-cons}
 use Rattle.recording.proofs.FaultLaws.{inside_next, start_inside}
 use Rattle.recording.specs.Share.{Inside}
 use Rattle.recording.proofs.ShareLaws.{pushed-snoc}
 use Rattle.share.specs.Placed.{same_part, copied, top_of, top_after, placed_one, placed_from}
-use Rattle.share.proofs.Laws.{Passed, passed_none, found, passed_one}
-use Rattle.share.proofs.SizeLaws.{before_next}
+use Rattle.share.proofs.Laws.{Passed, passed_none, passed_one}
 
 -- ── a part that a push before has was compared there
 same_push : (l t : Bytes) (x e : Entry) → same_part x e ≡ true → is_push_of l t e ≡ true → is_push_of l t x ≡ true
@@ -43,7 +42,7 @@ copied-push l t e (x ∷ xs) c p = go (same_part x e) refl (λ d. copied-push l 
         or_true false = refl
 
 -- an entry below the top is no push of a label that none before has
-pub below : (l t : Bytes) (top : ℕ) (before : List Entry) (e : Entry) → placed_one top before e ≡ true → pushed_in l t before ≡ false → e.start < top → is_push_of l t e ≡ false
+below : (l t : Bytes) (top : ℕ) (before : List Entry) (e : Entry) → placed_one top before e ≡ true → pushed_in l t before ≡ false → e.start < top → is_push_of l t e ≡ false
 unfolding placed_one
 below l t top before e p n h = go (is_push_of l t e) refl
   where
@@ -54,43 +53,41 @@ below l t top before e p n h = go (is_push_of l t e) refl
         let c : copied e before ≡ true = (λ i. not (sym k i) || (sym (lt-leb top e.start h) i || copied e before)) ∙ p in
         absurd (false≢true (sym n ∙ copied-push l t e before c q))
 
--- ── entry by entry
-pub record New (l t : Bytes) (ns : List ℕ) (k top : ℕ) : Type 0 where
-  pub passed : Passed l t ns k
-  pub fours : k % 4 ≡ 0
-  pub none : pushed_in l t (entries_of (take k ns)) ≡ false
-  pub placed : placed_from top (entries_of (take k ns)) (entries_of (drop k ns)) ≡ true
+-- ── entry by entry: `done` were read, none of them a push of l, and `rest` are left
+pub record New (l t : Bytes) (all done rest : List Entry) (top : ℕ) : Type 0 where
+  pub passed : Passed l t all rest
+  pub none : pushed_in l t done ≡ false
+  pub placed : placed_from top done rest ≡ true
 
-pub new_first : (l t : Bytes) (ns : List ℕ) → placed_from 0 [] (entries_of ns) ≡ true → New l t ns 0 0
+pub new_first : (l t : Bytes) (all : List Entry) → placed_from 0 [] all ≡ true → New l t all [] all 0
 unfolding pushed_in
-new_first l t ns h = record { passed = passed_none l t ns; fours = refl; none = refl; placed = h }
+new_first l t all h = record { passed = passed_none l t all; none = refl; placed = h }
 
-module _ (l t : Bytes) (ns : List ℕ) (k top : ℕ) (s : New l t ns k top) (more : 4 ≤ length ns - k) (e : Entry) (q : entries_of (drop k ns) ≡ e ∷ entries_of (drop (k + 4) ns)) where
-  parts : (placed_one top (entries_of (take k ns)) e && placed_from (top_of top e) (entries_of (take k ns) ++ (e ∷ [])) (entries_of (drop (k + 4) ns))) ≡ true
+module _ (l t : Bytes) (all done rest : List Entry) (top : ℕ) (s : New l t all done rest top) (e : Entry) (es : List Entry) (q : rest ≡ e ∷ es) where
+  parts : (placed_one top done e && placed_from (top_of top e) (done ++ (e ∷ [])) es) ≡ true
   unfolding placed_from
-  parts = sym (ap (placed_from top (entries_of (take k ns))) q) ∙ s.placed
+  parts = sym (ap (placed_from top done) q) ∙ s.placed
 
-  here : placed_one top (entries_of (take k ns)) e ≡ true
-  here = and_left (placed_one top (entries_of (take k ns)) e) (placed_from (top_of top e) (entries_of (take k ns) ++ (e ∷ [])) (entries_of (drop (k + 4) ns))) parts
+  here : placed_one top done e ≡ true
+  here = and_left (placed_one top done e) (placed_from (top_of top e) (done ++ (e ∷ [])) es) parts
 
-  pub new_found : (leb top e.start && is_push_of l t e) ≡ true → (e.start ≡ start_in l t (length t) (entries_of ns)) × (0 ≡ length (new_text l t (entries_of ns)))
-  new_found h = found l t ns k s.passed e q (and_right (leb top e.start) (is_push_of l t e) h)
-
-  pub new_next : (leb top e.start && is_push_of l t e) ≡ false → (top' : ℕ) → top' ≡ top_of top e → New l t ns (k + 4) top'
-  new_next h top' et =
-      let w : k ≤ length ns = s.passed.within in
-      let b = before_next ns k e (entries_of (drop (k + 4) ns)) s.fours w q in
-      let r = and_right (placed_one top (entries_of (take k ns)) e) (placed_from (top_of top e) (entries_of (take k ns) ++ (e ∷ [])) (entries_of (drop (k + 4) ns))) parts in
+  next : is_push_of l t e ≡ false → New l t all (done ++ (e ∷ [])) es (top_of top e)
+  next h =
       record {
-        passed = passed_one l t ns k s.passed e q (omega (arith, more)) (no (leb top e.start) refl);
-        fours = omega (arith, s.fours);
-        none = ap (pushed_in l t) b ∙ pushed-snoc l t (entries_of (take k ns)) e ∙ (λ i. s.none i || no (leb top e.start) refl i);
-        placed = (λ i. placed_from (et i) (b i) (entries_of (drop (k + 4) ns))) ∙ r;
+        passed = passed_one l t all rest s.passed e es q h;
+        none = pushed-snoc l t done e ∙ (λ i. s.none i || h i);
+        placed = and_right (placed_one top done e) (placed_from (top_of top e) (done ++ (e ∷ [])) es) parts;
       }
-    where
-      no : (b : Bool) → leb top e.start ≡ b → is_push_of l t e ≡ false
-      no true z = ap (λ (y : Bool). y && is_push_of l t e) (sym z) ∙ h
-      no false z = below l t top (entries_of (take k ns)) e here s.none (leb-false top e.start z)
+
+  -- a part that is new was compared
+  pub new_next : top ≤ e.start → is_push_of l t e ≡ false → New l t all (done ++ (e ∷ [])) es (e.start + e.len)
+  unfolding top_of
+  new_next h g = subst (New l t all (done ++ (e ∷ [])) es) (rw (le-leb top e.start h)) (next g)
+
+  -- and another need not be
+  pub old_next : e.start < top → New l t all (done ++ (e ∷ [])) es top
+  unfolding top_of
+  old_next h = subst (New l t all (done ++ (e ∷ [])) es) (rw (lt-leb top e.start h)) (next (below l t top done e here s.none h))
 
 -- ── a result has its entries so
 copied_start : (l t : Bytes) (es : List Entry) (at new : ℕ) → pushed_in l t es ≡ true → copied (entry at 0 (start_in l t new es) (length l)) es ≡ true
@@ -118,7 +115,7 @@ start_new l t (x ∷ es) new h =
     let a = or_left (is_push_of l t x) (pushed_in l t es) h in
     ap (λ (z : Bool). cond z x.start (start_in l t new es)) a ∙ start_new l t es new (or_right (is_push_of l t x) (pushed_in l t es) h)
 
-pub push-placed : (l t : Bytes) (es : List Entry) (at top : ℕ) → top ≤ length t → placed_one top es (push_at at t es l) ≡ true
+push-placed : (l t : Bytes) (es : List Entry) (at top : ℕ) → top ≤ length t → placed_one top es (push_at at t es l) ≡ true
 unfolding placed_one
 push-placed l t es at top h = go (pushed_in l t es) refl
   where
@@ -129,21 +126,6 @@ push-placed l t es at top h = go (pushed_in l t es) refl
     go : (b : Bool) → pushed_in l t es ≡ b → (leb top (start_in l t (length t) es) || copied (push_at at t es l) es) ≡ true
     go true q = or_any (leb top (start_in l t (length t) es)) (copied (push_at at t es l) es) (copied_start l t es at (length t) q)
     go false q = (λ i. leb top (start_new l t es (length t) q i) || copied (push_at at t es l) es) ∙ ap (λ (z : Bool). z || copied (push_at at t es l) es) (le-leb top (length t) h)
-
--- ── the code's tests
-pub top_same : (top : ℕ) (e : Entry) → e.start < top → top ≡ top_of top e
-unfolding top_of
-top_same top e h = rw (lt-leb top e.start h)
-
-pub top_more : (top : ℕ) (e : Entry) → top ≤ e.start → e.start + e.len ≡ top_of top e
-unfolding top_of
-top_more top e h = rw (le-leb top e.start h)
-
-pub not_new : (l t : Bytes) (e : Entry) (top : ℕ) → e.start < top → false ≡ (leb top e.start && is_push_of l t e)
-not_new l t e top h = rw (lt-leb top e.start h)
-
-pub new_push : (l t : Bytes) (e : Entry) (top : ℕ) (r : Bool) → top ≤ e.start → r ≡ is_push_of l t e → r ≡ (leb top e.start && is_push_of l t e)
-new_push l t e top r h q = q ∙ ap (λ (z : Bool). z && is_push_of l t e) (sym (le-leb top e.start h))
 
 -- ── a result's entries are placed so, however they come (`placed_after`)
 placed_snoc : (es before : List Entry) (top : ℕ) (e : Entry) → placed_from top before es ≡ true → placed_one (top_after top es) (before ++ es) e ≡ true → placed_from top before (es ++ (e ∷ [])) ≡ true

@@ -3,30 +3,23 @@ use mathlib.Core.Path.{◌≡◌, refl, sym, ap, ◌∙◌}
 use mathlib.Core.Bool.{Bool, true, false, cond, ◌&&◌, ◌||◌, false≢true}
 use mathlib.Core.Logic.{inl, inr}
 use mathlib.Core.List.{List, [], ◌∷◌, ◌++◌, append-nil}
-use Prim.Native.Nat.{ℕ, zero, suc, ◌+◌, ◌-◌, ◌*◌, ◌%◌, ◌≤◌, ◌<◌}
+use Prim.Native.Nat.{ℕ, zero, suc, ◌+◌, ◌-◌, ◌*◌, ◌%◌, ◌≤◌}
 use native.Mathlib.Nat.{zero-mul}
 use native.Mathlib.Omega.{arith}
 use lib.Dec.{eqb, eqb-suc-zero}
 use lib.ListN.{length, take, drop, length-take, length-drop}
-use lib.Seq.{take-add, length-take-le}
 use borrow.Author.Tests.{eq-eqb, ne_eqb}
 use Rattle.recording.specs.declared.Entry.{Entry}
 use Rattle.recording.specs.Lists.{same}
-use Rattle.recording.specs.Recording.{Bytes, recording, entry, entries_of, numbers_of_ranges, part_of, Item, byte, push, pop, raw, byte_items, item_of, items_from, items, is_push_of, pushed_in, new_text, encode, text_of}
+use Rattle.recording.specs.Recording.{Bytes, recording, entry, entries_of, part_of, Item, byte, push, pop, raw, byte_items, item_of, items_from, items, is_push_of, pushed_in, new_text, encode, text_of}
 use Rattle.recording.specs.Refusals.{bad_shape_of, entry_fault, entries_fault, recording_fault}
 use Rattle.recording.specs.Share.{Inside, sum_of, raw_len_of, times, member, label_len, shared_size}
 use Rattle.recording.proofs.FaultLaws.{first_of-zero, no_entry_fault, no_fault}
-use Rattle.recording.proofs.EntryLaws.{entries_few}
+use Rattle.recording.proofs.CheckLaws.{entries_quarter}
 use Rattle.recording.proofs.ShareLaws.{or_comm, or_assoc, same_long, pushed-snoc, shared_size_lem, text_shorter, labels_same, encode-length}
 use Rattle.share.specs.Sizes.{raw_in, raws_in, label_in, labels_in, size_less, text_size_of, own_size_of, less_size_of, Counts, Stands}
 
 -- ── one entry
-pub raw_len_lem : (e : Entry) → e.kind ≡ 2 → e.len ≡ raw_in e
-raw_len_lem e h = rw (eq-eqb e.kind 2 h)
-
-pub no_raw : (e : Entry) → (e.kind ≡ 2 → ⊥) → 0 ≡ raw_in e
-no_raw e h = rw (ne_eqb e.kind 2 h)
-
 raw_most : (e : Entry) → raw_in e ≤ e.len
 raw_most e = go (eqb e.kind 2)
   where
@@ -70,48 +63,23 @@ pub inside_next : (t : Bytes) (e : Entry) (es : List Entry) → Inside t (e ∷ 
 unfolding Inside
 inside_next t e es h = h
 
-pub record Raws (ns ts : List ℕ) (k size : ℕ) : Type 0 where
-  pub within : k ≤ length ns
-  pub sizes : size + raws_in (entries_of (drop k ns)) ≡ raws_in (entries_of ns)
-  pub small : size ≤ 16384 * k
-  pub inside : Inside ts (entries_of (drop k ns))
+-- `size` has the raw sequences of the entries that were read, and `rest` are left
+pub record Raws (t : Bytes) (all rest : List Entry) (size : ℕ) : Type 0 where
+  pub sizes : size + raws_in rest ≡ raws_in all
+  pub small : size + 65536 * length rest ≤ 65536 * length all
+  pub inside : Inside t rest
 
-pub raws_first : (ns ts : List ℕ) → Inside ts (entries_of ns) → Raws ns ts 0 0
-raws_first ns ts h = record { within = omega arith; sizes = omega arith; small = omega arith; inside = h }
+pub raws_next : (t : Bytes) (all rest : List Entry) (size : ℕ) → Raws t all rest size → (e : Entry) (es : List Entry) → rest ≡ e ∷ es → length t ≤ 65536 → Raws t all es (size + raw_in e)
+raws_next t all rest size r e es q h =
+    let i = inside_next t e es (rw q at r.inside) in
+    record { sizes = omega (arith, r.sizes, ap raws_in q); small = omega (arith, r.small, ap length q, raw_most e, i.0); inside = i.1 }
 
-module _ (ns ts : List ℕ) (k size : ℕ) (r : Raws ns ts k size) where
-  module _ (more : 4 ≤ length ns - k) (e : Entry) (q : entries_of (drop k ns) ≡ e ∷ entries_of (drop (k + 4) ns)) (m : ℕ) (v : m ≡ raw_in e) (short : length ts ≤ 65536) where
-    split : (e.start + e.len ≤ length ts) × Inside ts (entries_of (drop (k + 4) ns))
-    split = inside_next ts e (entries_of (drop (k + 4) ns)) (rw q at r.inside)
+-- of at most 4,096 entries
+pub raws_small : (t : Bytes) (ns : List ℕ) (rest : List Entry) (size : ℕ) → Raws t (entries_of ns) rest size → length ns ≤ 16384 → size ≤ 268435456
+raws_small t ns rest size r h = omega (arith, r.small, entries_quarter ns)
 
-    pub raws_small : size + m ≤ 16384 * (k + 4)
-    raws_small = omega (arith, r.small, v, raw_most e, split.0)
-
-    pub raws_next : Raws ns ts (k + 4) (size + m)
-    raws_next =
-        record {
-          within = omega (arith, more);
-          sizes = omega (arith, r.sizes, ap raws_in q, v);
-          small = raws_small;
-          inside = split.1;
-        }
-
-  pub raws_last : length ns - k < 4 → size ≡ raws_in (entries_of ns)
-  raws_last h =
-      let z : entries_of (drop k ns) ≡ [] = entries_few (drop k ns) (omega (arith, h, length-drop k ns)) in
-      omega (arith, r.sizes, ap raws_in z)
-
--- four numbers are the entry
-quad : (l : List ℕ) (e : Entry) (r : List Entry) → entries_of l ≡ e ∷ r → take 4 l ≡ numbers_of_ranges (e ∷ [])
-quad [] e r q = cc
-quad (p ∷ []) e r q = cc
-quad (p ∷ k ∷ []) e r q = cc
-quad (p ∷ k ∷ s ∷ []) e r q = cc
-quad (p ∷ k ∷ s ∷ n ∷ l) e r q = ap (λ (x : List Entry). numbers_of_ranges (first x ∷ [])) q
-  where
-    first : List Entry → Entry
-    first [] = entry 0 0 0 0
-    first (y ∷ ys) = y
+pub raws_last : (t : Bytes) (all rest : List Entry) (size : ℕ) → Raws t all rest size → rest ≡ [] → size ≡ raws_in all
+raws_last t all rest size r q = omega (arith, r.sizes, ap raws_in q)
 
 -- entries side by side
 pub entries_of-append : (ns ms : List ℕ) → length ns % 4 ≡ 0 → entries_of (ns ++ ms) ≡ entries_of ns ++ entries_of ms
@@ -120,11 +88,6 @@ entries_of-append (p ∷ []) ms h = absurd (omega (arith, h))
 entries_of-append (p ∷ k ∷ []) ms h = absurd (omega (arith, h))
 entries_of-append (p ∷ k ∷ s ∷ []) ms h = absurd (omega (arith, h))
 entries_of-append (p ∷ k ∷ s ∷ n ∷ ns) ms h = ap (λ (l : List Entry). entry p k s n ∷ l) (entries_of-append ns ms (omega (arith, h)))
-
-pub before_next : (ns : List ℕ) (k : ℕ) (e : Entry) (r : List Entry) → k % 4 ≡ 0 → k ≤ length ns → entries_of (drop k ns) ≡ e ∷ r → entries_of (take (k + 4) ns) ≡ entries_of (take k ns) ++ (e ∷ [])
-before_next ns k e r f h q =
-    ap entries_of (take-add k 4 ns ∙ ap (λ (x : List ℕ). take k ns ++ x) (quad (drop k ns) e r q))
-    ∙ entries_of-append (take k ns) (numbers_of_ranges (e ∷ [])) (omega (arith, f, length-take-le k ns h))
 
 -- ── the sums are those of the items
 raw_item : (k s n : ℕ) (t : Bytes) → bad_shape_of k s n ≡ false → s + n ≤ length t → raw_len_of (item_of k (take n (drop s t))) ≡ cond (eqb k 2) n 0
@@ -344,11 +307,6 @@ pub gone_few : (ds ns ts : List ℕ) (is : List Item) (gone : ℕ) → recording
 unfolding items
 gone_few ds ns ts is gone h r = omega (arith, r, raws-items (entries_of ns) 0 0 ds ds ts (no_fault (recording ds ns ts) h).entries)
 
--- written 0 times, a second recording adds nothing
-pub none_more : (t : Bytes) (es : List Entry) (u : Bytes) (fs : List Entry) → text_size_of t es u fs 0 ≡ own_size_of t es
-unfolding text_size_of
-none_more t es u fs = rw (zero-mul (raws_in fs))
-
 -- nothing goes
 pub less_none : (t u : Bytes) (es fs : List Entry) (n : ℕ) → size_less 0 t es u fs n ≡ text_size_of t es u fs n
 unfolding size_less text_size_of
@@ -362,7 +320,3 @@ exact room t r c = inl c
 pub roomy : (room t r : ℕ) → t ≤ r → r ≤ 65536 → r ≤ room → Stands room t r
 unfolding Stands
 roomy room t r a b c = inr (a, b, c)
-
--- ── the product
-pub product_small : (n m : ℕ) → n ≤ 1048576 → m ≤ 268435456 → n * m ≤ 281474976710656
-product_small n m h k = native.Mathlib.Nat.mul-le-mul h k

@@ -2,15 +2,16 @@
 -- The idea: more places than a number has digits change nothing, so what stands before the last digit is the decimal of the rest.
 use Prim.Native.Nat.{ℕ, zero, suc, ◌+◌, ◌-◌, ◌*◌, ◌^◌, ◌/◌, ◌%◌, ◌≤◌, ◌<◌}
 use native.Mathlib.Omega.{arith}
+use Rattle.std.proofs.Common.{pow-suc}
 use mathlib.Core.Bool.{Bool, true, false, cond}
 use mathlib.Core.Path.{◌≡◌, refl, sym, ap, ◌∙◌}
-use mathlib.Core.List.{List, [], ◌∷◌, ◌++◌}
+use mathlib.Core.List.{List, [], ◌∷◌, ◌++◌, append_assoc, append-nil}
 use lib.Dec.{leb, ltb, eqb}
-use lib.ListN.{length, take, drop, get_or, set, length-append, take-append-drop}
+use lib.ListN.{length, take, drop, get_or, set, length-append, length-set, take-append-drop}
 use lib.Seq.{set_at, drop-cons, length-take-le}
 use borrow.Author.Tests.{le-leb, leb-true, ltb-true, ltb-false, lt-ltb, le-ltb, eq-eqb, ne_eqb}
 use Rattle.buffer.specs.Place.{over_at}
-use Rattle.buffer.proofs.Laws.{over_twice}
+use Rattle.buffer.proofs.Laws.{over_none, over_twice}
 use Rattle.recording.specs.Recording.{Bytes}
 use Rattle.recording.proofs.Lists.{and_left, and_right, or_left, or_right}
 use Rattle.sheet.specs.Sheet.{has, up_to, after, is_digit, all_digits, value_from, no_leading_zero_in, is_decimal}
@@ -45,6 +46,20 @@ decimal_short n = up_to_short 10 n
 
 pub decimal-length : (n : ℕ) → 10 ≤ n → n < 10000000000 → length (decimal n) ≡ suc (length (decimal (n / 10)))
 decimal-length n p h = omega (arith, ap length (decimal_more n p h), length-append (decimal (n / 10)) ((0x30 + n % 10) ∷ []))
+
+-- as many as the logarithm k says, and one
+some_power : (j : ℕ) → 1 ≤ 10 ^ j
+some_power zero = omega arith
+some_power (suc j) = omega (arith, pow-suc 10 j, some_power j)
+
+pub decimal_zero : length (decimal 0) ≡ 1
+decimal_zero = ap length (decimal_one 0 (omega arith))
+
+pub decimal_log : (k n : ℕ) → 10 ^ k ≤ n → n < 10 * 10 ^ k → n < 10000000000 → length (decimal n) ≡ k + 1
+decimal_log zero n p q h = ap length (decimal_one n (omega (arith, q)))
+decimal_log (suc k) n p q h =
+    let t : 10 ^ suc k ≡ 10 * 10 ^ k = omega (arith, pow-suc 10 k) in
+    omega (arith, decimal-length n (omega (arith, p, t, some_power k)) h, decimal_log k (n / 10) (omega (arith, p, t)) (omega (arith, q, t)) (omega (arith, h)))
 
 -- ── a byte stored before those that stand from k + 1 on
 pub store_before : (k b : ℕ) (new l old : List ℕ) → l ≡ over_at (k + 1) new old → k < length old → set l k b ≡ over_at k (b ∷ new) old
@@ -146,3 +161,45 @@ up_to_field c (x ∷ a) b h = rw (or_left (eqb x c) (has c a) h) (ap (λ (l : By
 pub after_field : (c : ℕ) (a b : Bytes) → has c a ≡ false → after c (a ++ (c ∷ b)) ≡ b
 after_field c [] b h = rw (eq-eqb c c refl)
 after_field c (x ∷ a) b h = rw (or_left (eqb x c) (has c a) h) (after_field c a b (or_right (eqb x c) (has c a) h))
+
+-- ── the digits written from the last to the first: what stands from i on is behind the digits of m, and both together are the decimal of n
+pub record SoFar (at n : ℕ) (old out : List ℕ) (i m : ℕ) : Type 0 where
+  pub done : List ℕ
+  pub holds : out ≡ over_at i done old
+  pub whole : decimal m ++ done ≡ decimal n
+  pub place : i ≡ at + length (decimal m)
+  pub small : m ≤ n
+  pub long : length out ≡ length old
+
+pub none_written : (at n : ℕ) (old : List ℕ) → SoFar at n old old (at + length (decimal n)) n
+none_written at n old = record { done = []; holds = sym (over_none _ _); whole = append-nil _; place = refl; small = omega arith; long = refl }
+
+module _ (at n : ℕ) (old out : List ℕ) (i m : ℕ) (s : SoFar at n old out i m) (room : at + length (decimal n) ≤ length old) where
+  pub inside : i ≤ length old
+  inside = omega (arith, s.place, ap length s.whole, length-append (decimal m) s.done, room)
+
+  module _ (more : 10 ≤ m) (large : n < 10000000000) where
+    longer : length (decimal m) ≡ length (decimal (m / 10)) + 1
+    longer = omega (arith, decimal-length m more (omega (arith, s.small, large)))
+
+    pub some_left : at < i
+    some_left = omega (arith, s.place, longer)
+
+    pub one_written : SoFar at n old (set out (i - 1) (0x30 + m % 10)) (i - 1) (m / 10)
+    one_written =
+        let e : i ≡ (i - 1) + 1 = omega (arith, some_left) in
+        record {
+          done = (0x30 + m % 10) ∷ s.done;
+          holds = store_before (i - 1) (0x30 + m % 10) s.done out old (s.holds ∙ ap (λ (j : ℕ). over_at j s.done old) e) (omega (arith, e, inside));
+          whole = sym (append_assoc (decimal (m / 10)) ((0x30 + m % 10) ∷ []) s.done) ∙ ap (λ (l : List ℕ). l ++ s.done) (sym (decimal_more m more (omega (arith, s.small, large)))) ∙ s.whole;
+          place = omega (arith, s.place, longer);
+          small = omega (arith, s.small);
+          long = length-set out (i - 1) (0x30 + m % 10) ∙ s.long;
+        }
+
+  pub last_written : m < 10 → set out at (0x30 + m) ≡ over_at at (decimal n) old
+  last_written less =
+      let d = decimal_one m less in
+      let e : i ≡ at + 1 = omega (arith, s.place, ap length d) in
+      store_before at (0x30 + m) s.done out old (s.holds ∙ ap (λ (j : ℕ). over_at j s.done old) e) (omega (arith, e, inside))
+      ∙ ap (λ (l : List ℕ). over_at at l old) (ap (λ (l : List ℕ). l ++ s.done) (sym d) ∙ s.whole)

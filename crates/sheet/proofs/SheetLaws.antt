@@ -1,5 +1,5 @@
 -- One byte further in a scan of a line or a field: what a definition says of the bytes from a place on, by the byte there and the bytes after it.
-use Prim.Native.Nat.{ℕ, zero, suc, ◌+◌, ◌-◌, ◌*◌, ◌/◌, ◌≤◌, ◌<◌}
+use Prim.Native.Nat.{ℕ, zero, suc, ◌+◌, ◌-◌, ◌*◌, ◌/◌, ◌≤◌, ◌<◌, min}
 use native.Mathlib.Omega.{arith}
 use mathlib.Core.Bool.{Bool, true, false, cond, ◌&&◌, not}
 use mathlib.Core.Path.{◌≡◌, refl, sym, ap, ◌∙◌}
@@ -7,12 +7,13 @@ use mathlib.Core.List.{[], ◌∷◌, ◌++◌}
 use lib.Dec.{leb, ltb, eqb}
 use lib.ListN.{length, take, drop, get_or, set, length-drop, drop_of_length-le}
 use lib.Seq.{take-suc, drop-cons, drop-drop, set_at, append_snoc, length-take-le}
-use borrow.Author.Tests.{le-leb, lt-leb, eq-eqb, ne_eqb, lt-ltb, le-ltb, ltb-true, ltb-false}
-use native.Mathlib.Numerals.{add-one}
-use Rattle.chars.specs.Utf8.{within}
+use borrow.Author.Tests.{le-leb, lt-leb, lt-ltb, le-ltb, ltb-true, ltb-false}
+use native.Mathlib.Numerals.{add-one, one-add}
+use Rattle.std.specs.List.{prefix_len, list_all}
+use Rattle.std.specs.Prelude.{Option, Some, None}
 use Rattle.chars.proofs.ReaderLaws.{and_false}
-use Rattle.recording.specs.Recording.{Bytes, is_nil}
-use Rattle.sheet.specs.Sheet.{up_to, after, sheet_line, onto_line, sheet_lines, is_digit, all_digits, value_from, no_leading_zero_in, small_digits, is_break_text, break_of_text, nibble, is_hex_byte, all_hex_of, from_pairs, is_dash_text}
+use Rattle.recording.specs.Recording.{Bytes}
+use Rattle.sheet.specs.Sheet.{up_to, after, sheet_line, onto_line, sheet_lines, is_digit, all_digits, value_from, small_digits, nibble, is_hex_byte, all_hex_of, from_pairs}
 
 -- ── the byte at a place
 -- what is left from a place on
@@ -23,14 +24,13 @@ pub rest_none : (s : Bytes) (i : ℕ) → length s ≤ i → drop i s ≡ []
 rest_none s i h = drop_of_length-le s {i = i} h
 
 -- ── up to the first c, and after it
-pub find_here : (c : ℕ) (s : Bytes) (i : ℕ) → i < length s → get_or s i 0 ≡ c → length (up_to c (drop i s)) ≡ 0
-find_here c s i h e = ap (λ (l : Bytes). length (up_to c l)) (rest_next s i h) ∙ simp (eq-eqb (get_or s i 0) c e)
-
-pub find_on : (c : ℕ) (s : Bytes) (i : ℕ) → i < length s → (get_or s i 0 ≡ c → ⊥) → length (up_to c (drop i s)) ≡ suc (length (up_to c (drop (i + 1) s)))
-find_on c s i h e = ap (λ (l : Bytes). length (up_to c l)) (rest_next s i h) ∙ simp (ne_eqb (get_or s i 0) c e)
-
-pub find_none : (c : ℕ) (s : Bytes) (i : ℕ) → length s ≤ i → length (up_to c (drop i s)) ≡ 0
-find_none c s i h = ap (λ (l : Bytes). length (up_to c l)) (rest_none s i h)
+pub up_to_length : (c : ℕ) (s : Bytes) → length (up_to c s) ≡ prefix_len (λ b. not (eqb b c)) s
+up_to_length c [] = refl
+up_to_length c (b ∷ s) = go (eqb b c) (up_to_length c s)
+  where
+    go : (t : Bool) → length (up_to c s) ≡ prefix_len (λ b. not (eqb b c)) s → length (cond t [] (b ∷ up_to c s)) ≡ cond (not t) (1 + prefix_len (λ b. not (eqb b c)) s) 0
+    go true e = refl
+    go false e = rw (one-add, e)
 
 pub up_to_take : (c : ℕ) (s : Bytes) → take (length (up_to c s)) s ≡ up_to c s
 up_to_take c [] = refl
@@ -47,6 +47,20 @@ after_drop c (b ∷ s) = go (eqb b c) (after_drop c s)
     go : (t : Bool) → drop (suc (length (up_to c s))) s ≡ after c s → drop (length (cond t [] (b ∷ up_to c s))) s ≡ cond t s (after c s)
     go true e = refl
     go false e = e
+
+-- what comes after the first c at e, or nothing
+pub after_from : (c : ℕ) (s : Bytes) (e : ℕ) → e ≡ length (up_to c s) → drop (min (length s) (e + 1)) s ≡ after c s
+after_from c s e h = go (ltb e (length s)) refl
+  where
+    next : suc e ≡ suc (length (up_to c s))
+    next = ap suc h
+
+    go : (t : Bool) → ltb e (length s) ≡ t → drop (min (length s) (e + 1)) s ≡ after c s
+    go true l = let m : min (length s) (e + 1) ≡ suc e = omega (arith, ltb-true e (length s) l) in rw (m, next) (after_drop c s)
+    go false l =
+        let n : length s ≤ e = ltb-false e (length s) l in
+        let m : min (length s) (e + 1) ≡ length s = omega (arith, n) in
+        rw m (rest_none s (length s) (omega arith)) ∙ sym (rest_none s (suc e) (omega (arith, n))) ∙ ap (λ (k : ℕ). drop k s) next ∙ after_drop c s
 
 pub up_to_le : (c : ℕ) (s : Bytes) → length (up_to c s) ≤ length s
 up_to_le c [] = omega arith
@@ -125,73 +139,35 @@ pub value_big : (n : ℕ) (s : Bytes) → 4294967295 < n → leb (value_from n s
 value_big n s h = lt-leb (value_from n s) 4294967295 (omega (arith, value_grows n s))
 
 -- digits that are none, or too large, have no value; the others have theirs
-pub not_digits : (s : Bytes) → all_digits s ≡ false → 4294967296 ≡ cond (small_digits s) (value_from 0 s) 4294967296
+pub not_digits : (s : Bytes) → all_digits s ≡ false → ◌≡◌ {A = Option ℕ} None (cond (small_digits s) (Some (value_from 0 s)) None)
 not_digits s h = simp h
 
-pub not_small : (s : Bytes) → leb (value_from 0 s) 4294967295 ≡ false → 4294967296 ≡ cond (small_digits s) (value_from 0 s) 4294967296
+pub not_small : (s : Bytes) → leb (value_from 0 s) 4294967295 ≡ false → ◌≡◌ {A = Option ℕ} None (cond (small_digits s) (Some (value_from 0 s)) None)
 not_small s h = simp (h, and_false (all_digits s))
 
-pub all_small : (s : Bytes) (n : ℕ) → all_digits s ≡ true → n ≡ value_from 0 s → n ≤ 4294967295 → n ≡ cond (small_digits s) (value_from 0 s) 4294967296
-all_small s n h e k = simp (h, le-leb (value_from 0 s) 4294967295 (omega (arith, e))) e
+pub all_small : (s : Bytes) (n : ℕ) → all_digits s ≡ true → n ≡ value_from 0 s → n ≤ 4294967295 → Some n ≡ cond (small_digits s) (Some (value_from 0 s)) None
+all_small s n h e k = simp (h, le-leb (value_from 0 s) 4294967295 (omega (arith, e))) (ap Some e)
 
--- ── short fields
-pub zero_none : (s : Bytes) → length s ≡ 0 → no_leading_zero_in s ≡ false
-zero_none [] h = refl
-zero_none (b ∷ s) h = absurd (omega arith)
+-- the digits read so far have the value n
+pub record Digits (s : Bytes) (i n : ℕ) : Type 0 where
+  pub within : i ≤ length s
+  pub small : n ≤ 4294967295
+  pub value : value_from n (drop i s) ≡ value_from 0 s
+  pub good : all_digits (drop i s) ≡ all_digits s
 
-pub zero_one : (s : Bytes) → length s ≡ 1 → no_leading_zero_in s ≡ true
-zero_one [] h = absurd (omega arith)
-zero_one (b ∷ []) h = refl
-zero_one (b ∷ c ∷ s) h = absurd (omega arith)
-
-pub zero_more : (s : Bytes) → (length s ≡ 0 → ⊥) → (length s ≡ 1 → ⊥) → no_leading_zero_in s ≡ not (eqb (get_or s 0 0) 0x30)
-zero_more [] h k = absurd (h refl)
-zero_more (b ∷ []) h k = absurd (k refl)
-zero_more (b ∷ c ∷ s) h k = refl
-
-pub break_long : (s : Bytes) → (length s ≡ 1 → ⊥) → is_break_text s ≡ false
-unfolding is_break_text
-break_long [] h = refl
-break_long (b ∷ []) h = absurd (h refl)
-break_long (b ∷ c ∷ s) h = refl
-
-pub break_one : (s : Bytes) → length s ≡ 1 → is_break_text s ≡ within 0x30 0x31 (get_or s 0 0)
-unfolding is_break_text
-break_one [] h = absurd (omega arith)
-break_one (b ∷ []) h = refl
-break_one (b ∷ c ∷ s) h = absurd (omega arith)
-
-pub dash_long : (s : Bytes) → (length s ≡ 1 → ⊥) → is_dash_text s ≡ false
-dash_long [] h = refl
-dash_long (b ∷ []) h = absurd (h refl)
-dash_long (b ∷ c ∷ s) h = refl
-
-pub dash_one : (s : Bytes) → length s ≡ 1 → is_dash_text s ≡ eqb (get_or s 0 0) 0x2D
-dash_one [] h = absurd (omega arith)
-dash_one (b ∷ []) h = refl
-dash_one (b ∷ c ∷ s) h = absurd (omega arith)
-
-pub nil_none : (s : Bytes) → length s ≡ 0 → is_nil s ≡ true
-nil_none [] h = refl
-nil_none (b ∷ s) h = absurd (omega arith)
-
-pub nil_some : (s : Bytes) → (length s ≡ 0 → ⊥) → is_nil s ≡ false
-nil_some [] h = absurd (h refl)
-nil_some (b ∷ s) h = refl
+-- and the next digit would pass 32 bits
+pub too_large : (s : Bytes) (i n : ℕ) → Digits s i n → i < length s → 4294967295 < n * 10 + (get_or s i 0 - 0x30) → ◌≡◌ {A = Option ℕ} None (cond (small_digits s) (Some (value_from 0 s)) None)
+too_large s i n d more h = not_small s (ap (λ (v : ℕ). leb v 4294967295) (sym d.value ∙ value_next s i more n) ∙ value_big _ (drop (i + 1) s) h)
 
 -- ── hexadecimal digits
-pub hex_next : (s : Bytes) (i : ℕ) → i < length s → (t : Bool) → t ≡ is_hex_byte (get_or s i 0) → all_hex_of (drop i s) ≡ (t && all_hex_of (drop (i + 1) s))
-hex_next s i h t e = ap all_hex_of (rest_next s i h) ∙ rw e
+pub all_hex_list : (s : Bytes) → list_all is_hex_byte s ≡ all_hex_of s
+all_hex_list [] = refl
+all_hex_list (b ∷ s) = ap (λ (t : Bool). is_hex_byte b && t) (all_hex_list s)
 
 pub length_pairs : (s : Bytes) → length (from_pairs s) ≡ length s / 2
 length_pairs [] = refl
 length_pairs (x ∷ []) = refl
 length_pairs (x ∷ y ∷ s) = omega (arith, length_pairs s)
-
-pub break_none : (s : Bytes) → length s ≡ 0 → break_of_text s ≡ false
-unfolding break_of_text
-break_none [] h = refl
-break_none (b ∷ s) h = absurd (omega arith)
 
 pub pair_at : (s : Bytes) (k : ℕ) → k < length s / 2 → get_or (from_pairs s) k 0 ≡ nibble (get_or s (2 * k) 0) * 16 + nibble (get_or s (2 * k + 1) 0)
 pair_at [] k h = absurd (omega (arith, h))

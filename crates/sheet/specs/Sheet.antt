@@ -1,5 +1,5 @@
 -- The input of `wraplist` (document 01, module 7): the lines of a sheet, and what a value line says.
-use Rattle.std.specs.Prelude.{ℕ, ◌+◌, ◌-◌, ◌*◌, ◌%◌, Bool, true, false, cond, ◌&&◌, ◌||◌, not, List, [], ◌∷◌, leb, eqb, length, get_or}
+use Rattle.std.specs.Prelude.{ℕ, ◌+◌, ◌-◌, ◌*◌, ◌%◌, Bool, true, false, cond, ◌&&◌, ◌||◌, not, List, [], ◌∷◌, Option, Some, None, leb, eqb, length, get_or}
 use Rattle.chars.specs.Utf8.{within}
 use Rattle.recording.specs.Recording.{Bytes, is_nil}
 
@@ -58,12 +58,8 @@ small_digits s = all_digits s && leb (value_from 0 s) 4294967295
 unfoldable pub is_decimal : Bytes → Bool
 is_decimal s = no_leading_zero_in s && small_digits s
 
--- what stands for "no decimal"
-abbrev pub none : ℕ
-none = 4294967296
-
-unfoldable pub decimal_or : Bytes → ℕ
-decimal_or s = cond (is_decimal s) (value_from 0 s) none
+unfoldable pub decimal_of : Bytes → Option ℕ
+decimal_of s = cond (is_decimal s) (Some (value_from 0 s)) None
 
 -- ── 0 or 1
 unfoldable pub is_break_text : Bytes → Bool

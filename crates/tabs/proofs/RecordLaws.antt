@@ -4,20 +4,27 @@ use Prim.Native.Nat.{ℕ, zero, suc, ◌+◌, ◌-◌, ◌*◌, ◌≤◌, ◌<�
 use native.Mathlib.Nat.{add-mul, one-mul, mul-le-mul}
 use native.Mathlib.Numerals.{add-one}
 use native.Mathlib.Omega.{arith}
-use mathlib.Core.Bool.{Bool, true, false, cond}
+use mathlib.Core.Bool.{Bool, true, false, cond, ◌||◌, false≢true}
 use mathlib.Core.Path.{◌≡◌, refl, sym, ap, subst, ◌∙◌}
 use mathlib.Core.List.{List, [], ◌∷◌, ◌++◌}
-use lib.Dec.{eqb}
-use lib.ListN.{length, take, drop, get_or, length-append, length-drop, drop_of_length-le}
+use lib.Dec.{eqb, ltb}
+use lib.ListN.{length, take, drop, get_or, length-append, length-drop}
 use lib.Seq.{drop-cons}
-use borrow.Author.Tests.{ne_eqb, lt-ltb, le-ltb}
+use Rattle.std.specs.Prelude.{Option, None, Some, Ok, Err, Result}
+use Rattle.std.specs.List.{AllWithin, HoldsAt}
+use Rattle.std.specs.Option.{MatchOption, unwrap_or}
+use Rattle.std.specs.Result.{is_ok}
+use Rattle.std.proofs.lemmas.List.{get_or-drop}
+use borrow.Author.Tests.{ne_eqb, ltb-false, le-ltb}
+use Rattle.std.proofs.lemmas.Bool.Decides.{nat_tests}
 use Rattle.chars.specs.Chars.{Character, char_at, char_in, chars, bytes_of, wide}
 use Rattle.chars.proofs.CharsLaws.{bytes-chars, Valid, valid-chars, char_next, chars_end, char_some, char_inside}
 use Rattle.chars.proofs.FoldLaws.{plain}
 use Rattle.buffer.specs.Place.{part}
 use Rattle.recording.specs.Recording.{recording, Item, byte_items, items}
-use Rattle.recording.specs.declared.Refusal.TheVariants.{TabStop}
-use Rattle.recording.specs.Refusals.{number_of_refusal}
+use Rattle.recording.specs.declared.Refusal.{Refusal}
+use Rattle.recording.specs.Check.{fault_of}
+use Rattle.recording.specs.Refusals.{refuse_if}
 use Rattle.recording.specs.Edit.{keep, skip, put, front, back, edit, edit_data}
 use Rattle.recording.proofs.EditLaws.{front-back, back-back, front_with_back, kept_more}
 use Rattle.recording.proofs.ItemsLaws.{edit-alike}
@@ -202,6 +209,31 @@ printable_passed ds from c i more p q o =
     let next = char_passed ds i w 1 (w + 1) more (λ z. omega (arith, z, p)) (sym k.0) (rw (ne_eqb (get_or ds i 0) 0x0A (λ z. omega (arith, z, p)), k.1)) (omega (arith, o.bounded)) in
     subst (λ (v : ℕ). Onward ds from c (place (i + 1) v)) (omega (arith, o.forward)) (onward_then ds from c (place i w) (place (i + 1) (w + 1)) o next.onward)
 
+-- and n more
+pub printable_run : (ds : List ℕ) (from c n : ℕ) → from + n ≤ length ds → c ≤ 64 * from → ((i : ℕ) → i < n → (0x20 ≤ get_or ds (from + i) 0) × (get_or ds (from + i) 0 < 0x7F)) → Onward ds from c (place (from + n) (c + n))
+printable_run ds from c zero h b p = subst (λ (r : Place). Onward ds from c r) (λ i. place (plus-zero from i) (plus-zero c i)) (onward_start ds from c (omega (arith, h)) b)
+  where
+    plus-zero : (k : ℕ) → k ≡ k + 0
+    plus-zero k = omega arith
+printable_run ds from c (suc n) h b p =
+    let w : c + n ≡ c + (from + n - from) = omega arith in
+    let e : from + n + 1 ≡ from + suc n = omega arith in
+    let f : c + (from + n + 1 - from) ≡ c + suc n = omega arith in
+    let q = p n (omega arith) in
+    let o = printable_run ds from c n (omega (arith, h)) b (λ i l. p i (omega (arith, l))) in
+    subst (λ (r : Place). Onward ds from c r) (λ i. place (e i) (f i))
+    (printable_passed ds from c (from + n) (omega (arith, h)) q.0 q.1 (subst (λ (v : ℕ). Onward ds from c (place (from + n) v)) w o))
+
+-- up to the first that is no such byte
+pub printable_found : (ds : List ℕ) (from c : ℕ) (r : Option ℕ) → from ≤ length ds → c ≤ 64 * from
+    → MatchOption r (AllWithin (λ b. (0x20 ≤ b) × (b < 0x7F)) (drop from ds) 0 (length (drop from ds)))
+    (λ i. (i < length (drop from ds)) × HoldsAt (λ b. Unit {0}) (drop from ds) i × AllWithin (λ b. (0x20 ≤ b) × (b < 0x7F)) (drop from ds) 0 i)
+    → Onward ds from c (place (from + unwrap_or r (length ds - from)) (c + unwrap_or r (length ds - from)))
+printable_found ds from c None h b e =
+    printable_run ds from c (length ds - from) (omega (arith, h)) b (λ i l. rw (← get_or-drop from ds i 0) (e i 0 (omega arith) (omega (arith, l, length-drop from ds))))
+printable_found ds from c (Some n) h b e =
+    printable_run ds from c n (omega (arith, e.0, length-drop from ds)) b (λ i l. rw (← get_or-drop from ds i 0) (e.2 i 0 (omega arith) l))
+
 -- at a tab: its record, and the tabs from behind it on
 pub tab_next : (s : ℕ) (ds : List ℕ) (p : Place) → p.at < length ds → get_or ds p.at 0 ≡ 0x09
     → tabs_from s ds p ≡ replacement p.at (p.at + 1) 0 (spaces_at_column s p.column) ∷ tabs_from s ds (place (p.at + 1) (p.column + spaces_at_column s p.column))
@@ -225,13 +257,14 @@ pub record AtTab (ds : List ℕ) (p : Place) : Type 0 where
 pub at_tab : (ds : List ℕ) (at c : ℕ) (p : Place) → Reached ds at c p → AtTab ds p
 at_tab ds at c p r = record { within = r.onward.within; bounded = r.onward.bounded; stands = r.stands }
 
--- the tab there, n spaces, and the next place
+-- the tab there and n spaces, and the next place
+pub first_tab : (s : ℕ) (ds : List ℕ) (p : Place) (n : ℕ) → AtTab ds p → p.at < length ds → n ≡ spaces_at_column s p.column
+    → tabs_from s ds p ≡ replacement p.at (p.at + 1) 0 n ∷ tabs_from s ds (place (p.at + 1) (p.column + n))
+first_tab s ds p n a h e = tab_next s ds p h (a.stands h) ∙ (λ i. replacement p.at (p.at + 1) 0 (sym e i) ∷ tabs_from s ds (place (p.at + 1) (p.column + sym e i)))
+
 pub tab_then : (s : ℕ) (ds : List ℕ) (p r : Place) (n : ℕ) → AtTab ds p → p.at < length ds → n ≡ spaces_at_column s p.column → Reached ds (p.at + 1) (p.column + n) r
     → tabs_from s ds p ≡ replacement p.at (p.at + 1) 0 n ∷ tabs_from s ds r
-tab_then s ds p r n a h e q =
-    tab_next s ds p h (a.stands h)
-    ∙ (λ i. replacement p.at (p.at + 1) 0 (sym e i) ∷ tabs_from s ds (place (p.at + 1) (p.column + sym e i)))
-    ∙ ap (λ (xs : List Replacement). replacement p.at (p.at + 1) 0 n ∷ xs) (q.onward.same s)
+tab_then s ds p r n a h e q = first_tab s ds p n a h e ∙ ap (λ (xs : List Replacement). replacement p.at (p.at + 1) 0 n ∷ xs) (q.onward.same s)
 
 -- ── measuring: the size so far, and what the tabs from p on add, are the size of the result
 pub record Measured (s : ℕ) (ds : List ℕ) (size : ℕ) (p : Place) : Type 0 where
@@ -269,18 +302,13 @@ module _ (s : ℕ) (low : 1 ≤ s) (high : s ≤ 64) (ds : List ℕ) where
           sym (capped_over whole (omega (arith, whole_is, m.total, g, e, h)))
 
 -- ── the largest size: no tab becomes more than s spaces
-one_le : (b : ℕ) → one_tab_of b ≤ 1
-one_le b = go (eqb b 0x09)
+pub count_next : (ds : List ℕ) (i : ℕ) → i < length ds → tab_count_of (take (i + 1) ds) ≡ tab_count_of (take i ds) + one_tab_of (get_or ds i 0)
+count_next ds i h = rw add-one (go ds i h)
   where
-    go : (t : Bool) → cond t 1 0 ≤ 1
-    go true = omega arith
-    go false = omega arith
-
-pub count_next : (ds : List ℕ) (i : ℕ) → i < length ds → (tab_count_of (drop i ds) ≡ one_tab_of (get_or ds i 0) + tab_count_of (drop (i + 1) ds)) × (one_tab_of (get_or ds i 0) ≤ 1)
-count_next ds i h = (rw (drop-cons ds i 0 h, add-one), one_le (get_or ds i 0))
-
-pub count_end : (ds : List ℕ) (i : ℕ) → length ds ≤ i → tab_count_of (drop i ds) ≡ 0
-count_end ds i h = rw (drop_of_length-le ds {i = i} h)
+    go : (ds : List ℕ) (i : ℕ) → i < length ds → tab_count_of (take (suc i) ds) ≡ tab_count_of (take i ds) + one_tab_of (get_or ds i 0)
+    go [] i h = absurd (omega arith)
+    go (b ∷ ds) zero h = omega arith
+    go (b ∷ ds) (suc i) h = omega (arith, go ds i (omega arith))
 
 count-plain : (t d : List ℕ) → Plain t → tab_count_of (t ++ d) ≡ tab_count_of d
 count-plain [] d h = refl
@@ -317,6 +345,10 @@ module _ (s : ℕ) (low : 1 ≤ s) (high : s ≤ 64) (ds : List ℕ) where
   pub most_small : (n : ℕ) → n ≤ 1048576 → n * (s - 1) ≤ 66060288
   most_small n h = let k : s - 1 ≤ 63 = omega (arith, high) in omega (arith, mul-le-mul h k)
 
+pub fine_zero : (r : Result Unit Refusal) → is_ok r ≡ true → fault_of r ≡ 0
+fine_zero (Ok u) h = refl
+fine_zero (Err f) h = absurd (false≢true h)
+
 -- ── writing: the records and the definition
 module _ (s : ℕ) (low : 1 ≤ s) (high : s ≤ 64) (ds ns ts new : List ℕ) (blanks : new ≡ spaces 64) where
   pub records_whole : edit (tab_ops s 0 (chars ds)) (items (recording ds ns ts)) ≡ edit (replace_ops new 0 (tabs_from s ds (place 0 0))) (items (recording ds ns ts))
@@ -325,14 +357,11 @@ module _ (s : ℕ) (low : 1 ≤ s) (high : s ≤ 64) (ds ns ts new : List ℕ) (
   pub records_good : records_fault 0 (length ds) (length new) (tabs_from s ds (place 0 0)) ≡ 0
   records_good = rw (blanks, tabs_all s ds) (tabs_good s low high ds)
 
--- ── refusal 31
-pub stop_zero : (s : ℕ) → s ≡ 0 → stop_fault s ≡ number_of_refusal TabStop
-unfolding number_of_refusal
-stop_zero s e = rw e
-
-pub stop_over : (s : ℕ) → 64 < s → stop_fault s ≡ number_of_refusal TabStop
-unfolding number_of_refusal
-stop_over s h = rw (ne_eqb s 0 (λ z. omega (arith, z, h)), lt-ltb 64 s h)
-
-pub stop_fine : (s : ℕ) → 1 ≤ s → s ≤ 64 → stop_fault s ≡ 0
-stop_fine s l h = rw (ne_eqb s 0 (λ z. omega (arith, z, l)), le-ltb 64 s h)
+-- ── without refusal 31
+pub stop_in : (s : ℕ) → stop_fault s ≡ 0 → (1 ≤ s) × (s ≤ 64)
+stop_in s h = go (eqb s 0) (ltb 64 s) refl refl h
+  where
+    go : (a b : Bool) → eqb s 0 ≡ a → ltb 64 s ≡ b → refuse_if (a || b) 31 ≡ 0 → (1 ≤ s) × (s ≤ 64)
+    go true b e f g = absurd (omega (arith, g))
+    go false true e f g = absurd (omega (arith, g))
+    go false false e f g = (grind (arith, nat_tests, e), ltb-false 64 s f)

@@ -4,16 +4,16 @@ use native.Mathlib.Omega.{arith}
 use mathlib.Core.Bool.{Bool, true, false, cond, ◌&&◌, not}
 use mathlib.Core.Path.{◌≡◌, refl, sym, ap, ◌∙◌}
 use mathlib.Core.List.{List, [], ◌∷◌}
-use lib.Dec.{leb, ltb}
+use lib.Dec.{leb}
 use lib.ListN.{length, drop, get_or}
 use borrow.Author.Tests.{lt-ltb, le-ltb, lt-leb, le-leb}
+use Rattle.std.specs.Prelude.{Some, None, MatchOption}
 use Rattle.buffer.specs.Place.{part}
 use Rattle.recording.specs.Lists.{same}
 use Rattle.recording.specs.Recording.{Bytes}
 use Rattle.recording.specs.Refusals.{refuse_if}
-use Rattle.sheet.specs.Sheet.{up_to, value_from, is_decimal, decimal_or}
+use Rattle.sheet.specs.Sheet.{up_to, value_from, is_decimal, decimal_of}
 use Rattle.tally.specs.Tally.{cells_of, boards_name, boards_at_text, boards_cell, is_boards, boards_in_text, boards_fault}
-use Rattle.tally.specs.Code.{boards_of}
 use Rattle.tally.proofs.WalkLaws.{cells_left, all_cells_lem, cells_next, cells_end}
 
 -- ── the column: k cells are passed before the one at `from`, and none of them is the name
@@ -40,6 +40,21 @@ module _ (names : Bytes) (k from : ℕ) (s : Searched names k from) (more : from
   searched_next z h o =
       record { whole = omega (arith, s.whole, next ∙ ap (λ (b : Bool). cond b 0 (suc (boards_at_text (cells_left names (e + 1))))) z); inside = omega (arith, h); few = omega (arith, s.few, o) }
 
+-- ── a number up to 65,535 in the cell k, which is there
+boards_read : (k : ℕ) (l : Bytes) → k < length (cells_of l)
+    → MatchOption (decimal_of (boards_cell k l)) (boards_fault k l ≡ 41) (λ n. (65535 < n → boards_fault k l ≡ 41) × (n ≤ 65535 → (boards_fault k l ≡ 0) × (n ≡ boards_in_text k l)))
+unfolding boards_fault boards_in_text is_boards decimal_of
+boards_read k l h = rw (lt-ltb k (length (cells_of l)) h) (go (is_decimal (boards_cell k l)))
+  where
+    v : ℕ
+    v = value_from 0 (boards_cell k l)
+
+    go : (d : Bool)
+        → MatchOption (cond d (Some v) None) (refuse_if (not (d && leb v 65535)) 41 ≡ 41)
+        (λ n. (65535 < n → refuse_if (not (d && leb v 65535)) 41 ≡ 41) × (n ≤ 65535 → (refuse_if (not (d && leb v 65535)) 41 ≡ 0) × (n ≡ v)))
+    go true = (λ g. rw (lt-leb v 65535 g), λ g. (rw (le-leb v 65535 g), refl))
+    go false = refl
+
 -- ── the cell: i of k cells are passed before the one at `from`
 pub record Passed (line : Bytes) (k from i : ℕ) : Type 0 where
   pub cell : boards_cell k line ≡ get_or (cells_left line from) (k - i) []
@@ -58,11 +73,11 @@ module _ (line : Bytes) (k from i : ℕ) (p : Passed line k from i) (e : ℕ) (q
   cells = cells_next line from e p.inside q
 
   -- the line ends before the cell k
-  pub no_cell : i < k → e ≡ length line → 0 ≡ boards_of k line
-  unfolding boards_of
+  pub no_cell : i < k → e ≡ length line → (boards_fault k line ≡ 0) × (0 ≡ boards_in_text k line)
+  unfolding boards_fault boards_in_text
   no_cell h z =
-      let n : length (cells_of line) ≤ k = omega (arith, p.many, ap length cells, ap length (cells_end line (e + 1) (omega (arith, z))), h) in
-      rw (le-ltb k (length (cells_of line)) n)
+      let t = le-ltb k (length (cells_of line)) (omega (arith, p.many, ap length cells, ap length (cells_end line (e + 1) (omega (arith, z))), h)) in
+      (rw t, rw t)
 
   pub passed_next : i < k → e < length line → Passed line k (e + 1) (i + 1)
   passed_next h o =
@@ -75,24 +90,17 @@ module _ (line : Bytes) (k from i : ℕ) (p : Passed line k from i) (e : ℕ) (q
       }
 
   -- this is the cell
-  pub the_cell : k ≤ i → decimal_or (part from e line) ≡ boards_of k line
-  unfolding boards_of
-  the_cell h =
-      let z : k - i ≡ 0 = omega (arith, h) in
-      let c : boards_cell k line ≡ part from e line = p.cell ∙ ap (λ (ds : List Bytes). get_or ds (k - i) []) cells ∙ ap (λ (n : ℕ). get_or (part from e line ∷ cells_left line (e + 1)) n []) z in
-      rw (lt-ltb k (length (cells_of line)) (omega (arith, p.many, ap length cells, p.within, h)), c)
+  module _ (h : k ≤ i) where
+    is_there : k < length (cells_of line)
+    is_there = omega (arith, p.many, ap length cells, p.within, h)
 
--- ── a number up to 65,535: what is read of a cell that is none is larger
-pub boards_read : (k : ℕ) (l : Bytes) → (65535 < boards_of k l → boards_fault k l ≡ 41) × (boards_of k l ≤ 65535 → (boards_fault k l ≡ 0) × (boards_of k l ≡ boards_in_text k l))
-unfolding boards_of boards_fault boards_in_text is_boards decimal_or
-boards_read k l = go (ltb k (length (cells_of l))) (is_decimal (boards_cell k l))
-  where
-    v : ℕ
-    v = value_from 0 (boards_cell k l)
+    the_cell : boards_cell k line ≡ part from e line
+    the_cell =
+        let z : k - i ≡ 0 = omega (arith, h) in
+        p.cell ∙ ap (λ (ds : List Bytes). get_or ds (k - i) []) cells ∙ ap (λ (n : ℕ). get_or (part from e line ∷ cells_left line (e + 1)) n []) z
 
-    go : (t d : Bool)
-        → (65535 < cond t (cond d v 4294967296) 0 → refuse_if (t && not (d && leb v 65535)) 41 ≡ 41)
-        × (cond t (cond d v 4294967296) 0 ≤ 65535 → (refuse_if (t && not (d && leb v 65535)) 41 ≡ 0) × (cond t (cond d v 4294967296) 0 ≡ cond t v 0))
-    go true true = (λ h. rw (lt-leb v 65535 h), λ h. (rw (le-leb v 65535 h), refl))
-    go true false = (λ h. refl, λ h. absurd (omega (arith, h)))
-    go false d = (λ h. absurd (omega (arith, h)), λ h. (refl, refl))
+    pub read_none : decimal_of (part from e line) ≡ None → boards_fault k line ≡ 41
+    read_none z = rw (ap decimal_of the_cell ∙ z) at (boards_read k line is_there)
+
+    pub read_some : (n : ℕ) → decimal_of (part from e line) ≡ Some n → (65535 < n → boards_fault k line ≡ 41) × (n ≤ 65535 → (boards_fault k line ≡ 0) × (n ≡ boards_in_text k line))
+    read_some n z = rw (ap decimal_of the_cell ∙ z) at (boards_read k line is_there)

@@ -2,13 +2,14 @@
 use Prim.Native.Nat.{ℕ, suc, ◌+◌, ◌-◌, ◌≤◌, ◌<◌}
 use native.Mathlib.Omega.{arith}
 use native.Mathlib.Numerals.{add-one}
-use mathlib.Core.Bool.{Bool, true, false, cond}
-use mathlib.Core.Path.{◌≡◌, refl, ap}
+use mathlib.Core.Bool.{Bool, true, false, cond, ◌&&◌, false≢true}
+use mathlib.Core.Path.{◌≡◌, refl, sym, ap, ◌∙◌}
 use mathlib.Core.List.{List, [], ◌∷◌}
 use lib.Dec.{eqb}
 use lib.ListN.{length, drop, get_or, drop_of_length-le}
 use lib.Seq.{drop-cons}
-use borrow.Author.Tests.{eq-eqb, ne_eqb}
+use borrow.Author.Tests.{eqb-true, eq-eqb, ne_eqb}
+use Rattle.std.specs.List.{ends_with}
 use Rattle.newlines.specs.Newlines.{newlines}
 use Rattle.recording.specs.Recording.{Bytes}
 use Rattle.layout.specs.Wrap.{onto_first}
@@ -19,11 +20,6 @@ use Rattle.tally.proofs.InputLaws.{first_line}
 -- ── lines
 pub lines_some : (s : Bytes) → 1 ≤ length (lines_of s)
 lines_some s = omega (arith, ap length (first_line s).lines)
-
-pub lines_none : (s : Bytes) → length s ≡ 0 → 1 ≡ length (lines_of s)
-unfolding lines_of
-lines_none [] h = refl
-lines_none (b ∷ s) h = absurd (omega (arith, h))
 
 onto_count : (b : ℕ) (ls : List SheetLine) → 1 ≤ length (texts_of ls) → length (texts_of (onto_line b ls)) ≡ length (texts_of ls)
 onto_count b [] h = absurd (omega arith)
@@ -52,13 +48,25 @@ unfolding lines_of
 lines_count [] h = absurd (omega arith)
 lines_count (b ∷ s) h = let e : length (b ∷ s) - 1 ≡ length s = omega arith in rw e (count_from b s)
 
-module _ (s : Bytes) (some : 1 ≤ length s) where
-  -- by its last byte
-  pub all_ended : get_or s (length s - 1) 0 ≡ 0x0A → newlines s ≡ length (lines_of s)
-  all_ended e = omega (arith, rw (eq-eqb (get_or s (length s - 1) 0) 0x0A e) at (lines_count s some))
+-- by whether it ends with a 0A
+turned : (x : ℕ) → (eqb 0x0A x && true) ≡ eqb x 0x0A
+turned x = go (eqb x 0x0A) refl
+  where
+    go : (t : Bool) → eqb x 0x0A ≡ t → (eqb 0x0A x && true) ≡ t
+    go true e = rw (eq-eqb 0x0A x (sym (eqb-true x 0x0A e)))
+    go false e = rw (ne_eqb 0x0A x (λ z. false≢true (sym e ∙ eq-eqb x 0x0A (sym z))))
 
-  pub last_open : (get_or s (length s - 1) 0 ≡ 0x0A → ⊥) → newlines s + 1 ≡ length (lines_of s)
-  last_open e = omega (arith, rw (ne_eqb (get_or s (length s - 1) 0) 0x0A e) at (lines_count s some))
+ends : (b : ℕ) (s : Bytes) → ends_with eqb (b ∷ s) (0x0A ∷ []) ≡ eqb (get_or (b ∷ s) (length s) 0) 0x0A
+ends b [] = turned b
+ends b (c ∷ s) = let n : suc (length (c ∷ s)) - 1 ≡ suc (length s) = omega arith in rw n (let m : suc (length s) - 1 ≡ length s = omega arith in rw m at (ends c s))
+
+pub all_ended : (s : Bytes) → ends_with eqb s (0x0A ∷ []) ≡ true → newlines s ≡ length (lines_of s)
+all_ended [] e = absurd (false≢true e)
+all_ended (b ∷ s) e = let n : length (b ∷ s) - 1 ≡ length s = omega arith in omega (arith, rw (n, sym (ends b s) ∙ e) at (lines_count (b ∷ s) (omega arith)))
+
+pub last_open : (s : Bytes) → ends_with eqb s (0x0A ∷ []) ≡ false → newlines s + 1 ≡ length (lines_of s)
+last_open [] e = unfold lines_of in refl
+last_open (b ∷ s) e = let n : length (b ∷ s) - 1 ≡ length s = omega arith in omega (arith, rw (n, sym (ends b s) ∙ e) at (lines_count (b ∷ s) (omega arith)))
 
 -- ── cells
 first_count : (b : ℕ) (cs : List Bytes) → 1 ≤ length cs → length (onto_first b cs) ≡ length cs

@@ -1,5 +1,5 @@
 -- The lines of an input and the cells of a line: there is a first line, none holds a 0A, none is longer than what it is a part of, and rows that are ended by 0A read as themselves.
-use Prim.Native.Nat.{ℕ, suc, ◌+◌, ◌≤◌}
+use Prim.Native.Nat.{ℕ, suc, ◌≤◌}
 use native.Mathlib.Omega.{arith}
 use mathlib.Core.Bool.{Bool, true, false, cond}
 use mathlib.Core.Path.{◌≡◌, refl, ap, ◌∙◌}

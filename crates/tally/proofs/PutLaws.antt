@@ -13,8 +13,9 @@ use Rattle.recording.specs.Recording.{Bytes}
 use Rattle.sheet.specs.Sheet.{SheetLine, up_to}
 use Rattle.sheet.proofs.SheetLaws.{sheet_next}
 use Rattle.tally.specs.Tally.{texts_of, lines_of, columns_of, laid_cell_of, row_of}
-use Rattle.tally.specs.Code.{gap_width_after, lines_left, line_of, lines_text, Fit}
-use Rattle.tally.proofs.WalkLaws.{cells_left, all_cells_lem, cells_next, Walk, row_left, walk_first, row_first, row_last, here, there, walk_next, row_next}
+use Rattle.tally.specs.Code.{gap_after, lines_left, line_of, lines_text, Fit}
+use Rattle.tally.proofs.ColumnLaws.{columns_in}
+use Rattle.tally.proofs.WalkLaws.{gap_before, gap_by, cells_left, all_cells_lem, cells_next, Walk, row_left, walk_first, row_first, row_last, here, there, walk_next, row_next}
 
 -- ── done and left: the buffer held `out₀`, and now holds what is done from `at` on
 pub record Holds (out₀ : Bytes) (at : ℕ) (out : Bytes) (end : ℕ) (done : Bytes) : Type 0 where
@@ -35,61 +36,61 @@ all_done out₀ at out end done all h e =
     let q : done ≡ all = sym (append-nil done) ∙ e in
     (h.here ∙ ap (λ (l : Bytes). at + length l) q, h.holds ∙ ap (λ (l : Bytes). over_at at l out₀) q)
 
--- ── a row
-pub record RowState (ns : List ℕ) (line out₀ : Bytes) (at : ℕ) (out : Bytes) (end from k : ℕ) : Type 0 where
-  pub walk : Walk ns line from k
+-- ── a row; ps are the numbers ns two by two
+pub record RowState (ns : List ℕ) (ps : List (List ℕ)) (line out₀ : Bytes) (at : ℕ) (out : Bytes) (end from i : ℕ) : Type 0 where
+  pub walk : Walk ps line from i
   pub done : Bytes
   pub so_far : Holds out₀ at out end done
-  pub rest : done ++ row_left ns line from k ≡ line_of ns line
+  pub rest : done ++ row_left ps line from i ≡ line_of ns line
   pub formed : AllOf (λ d. well_formed_of d ≡ true) (cells_left line from)
 
-pub row_start : (ns : List ℕ) (line out : Bytes) (at : ℕ) → Fit ns line → RowState ns line out at out at 0 0
-row_start ns line out at f =
+pub row_start : (ns : List ℕ) (ps : List (List ℕ)) (line out : Bytes) (at : ℕ) → columns_in ps ≡ columns_of ns → Fit ns line → RowState ns ps line out at out at 0 0
+row_start ns ps line out at are f =
     record {
-      walk = walk_first ns line f.columns f.many;
+      walk = walk_first ns ps are line f.columns f.many;
       done = [];
       so_far = none_done out at;
-      rest = row_first ns line f.some f.many;
+      rest = row_first ns ps are line f.some f.many;
       formed = rw (all_cells_lem line) f.formed;
     }
 
-pub row_finish : (ns : List ℕ) (line out₀ : Bytes) (at : ℕ) (out : Bytes) (end from k : ℕ) → RowState ns line out₀ at out end from k → length ns ≤ k + 1
+pub row_finish : (ns : List ℕ) (ps : List (List ℕ)) (line out₀ : Bytes) (at : ℕ) (out : Bytes) (end from i : ℕ) → RowState ns ps line out₀ at out end from i → length ps ≤ i
     → (end ≡ at + length (line_of ns line)) × (out ≡ over_at at (line_of ns line) out₀)
-row_finish ns line out₀ at out end from k s h =
-    all_done out₀ at out end s.done (line_of ns line) s.so_far (ap (λ (l : Bytes). s.done ++ l) (sym (row_last ns line from k h)) ∙ s.rest)
+row_finish ns ps line out₀ at out end from i s h =
+    all_done out₀ at out end s.done (line_of ns line) s.so_far (ap (λ (l : Bytes). s.done ++ l) (sym (row_last ps line from i h)) ∙ s.rest)
 
-module _ (ns : List ℕ) (line out₀ : Bytes) (at : ℕ) (out : Bytes) (end from k : ℕ) (s : RowState ns line out₀ at out end from k) (more : k + 1 < length ns) (e : ℕ)
+module _ (ns : List ℕ) (ps : List (List ℕ)) (line out₀ : Bytes) (at : ℕ) (out : Bytes) (end from i : ℕ) (s : RowState ns ps line out₀ at out end from i) (more : i < length ps) (e : ℕ)
     (q : e ≡ from + length (up_to 0x2C (drop from line))) where
   cells : cells_left line from ≡ part from e line ∷ cells_left line (e + 1)
-  cells = cells_next line from e (there ns line from k s.walk more) q
+  cells = cells_next line from e (there ps line from i s.walk more) q
 
   pub well : well_formed_of (part from e line) ≡ true
   well = (rw cells at s.formed).0
 
   abbrev laid : Bytes
-  laid = laid_cell_of (here ns line from k s.walk more) (part from e line)
+  laid = laid_cell_of (here ps line from i s.walk more) (part from e line)
 
   abbrev gap : ℕ
-  gap = gap_width_after k (length ns)
+  gap = gap_before (columns_in (drop (i + 1) ps))
 
   abbrev others : Bytes
-  others = row_left ns line (e + 1) (k + 2)
+  others = row_left ps line (e + 1) (i + 1)
 
   whole : (s.done ++ (laid ++ (gap ∷ []))) ++ others ≡ line_of ns line
-  whole = append_assoc s.done (laid ++ (gap ∷ [])) others ∙ ap (λ (l : Bytes). s.done ++ l) (sym (row_next ns line from k s.walk more e q)) ∙ s.rest
+  whole = append_assoc s.done (laid ++ (gap ∷ [])) others ∙ ap (λ (l : Bytes). s.done ++ l) (sym (row_next ps line from i s.walk more e q)) ∙ s.rest
 
   pub cell_room : at + length (line_of ns line) ≤ length out₀ → (end + length laid) + 1 ≤ length out
   cell_room h =
       omega (arith, h, s.so_far.here, s.so_far.long, ap length whole, length-append (s.done ++ (laid ++ (gap ∷ []))) others, length-append s.done (laid ++ (gap ∷ [])), length-append laid (gap ∷ []))
 
   -- the cell is put, and then the byte after it
-  pub row_again : (g r b : ℕ) (o₁ o₂ : Bytes) → at ≤ length out₀ → e ≤ length line → g ≡ end + length laid → o₁ ≡ over_at end laid out → length o₁ ≡ length out → b ≡ gap → r ≡ g + 1 → o₂ ≡ over_at g (b ∷ []) o₁
-      → length o₂ ≡ length o₁ → RowState ns line out₀ at o₂ r (e + 1) (k + 2)
+  pub row_again : (g r b : ℕ) (o₁ o₂ : Bytes) → at ≤ length out₀ → e ≤ length line → g ≡ end + length laid → o₁ ≡ over_at end laid out → length o₁ ≡ length out → b ≡ gap_after i (length ps) → r ≡ g + 1 → o₂ ≡ over_at g (b ∷ []) o₁
+      → length o₂ ≡ length o₁ → RowState ns ps line out₀ at o₂ r (e + 1) (i + 1)
   row_again g r b o₁ o₂ h₀ he hg h₁ l₁ hb hr h₂ l₂ =
       let f₁ : Holds out₀ at o₁ g (s.done ++ laid) = more_done out₀ at out end s.done laid g o₁ s.so_far h₀ hg h₁ l₁ in
       let f₂ : Holds out₀ at o₂ r ((s.done ++ laid) ++ (b ∷ [])) = more_done out₀ at o₁ g (s.done ++ laid) (b ∷ []) r o₂ f₁ h₀ hr h₂ l₂ in
-      let j : (s.done ++ laid) ++ (b ∷ []) ≡ s.done ++ (laid ++ (gap ∷ [])) = append_assoc s.done laid (b ∷ []) ∙ ap (λ (x : ℕ). s.done ++ (laid ++ (x ∷ []))) hb in
-      record { walk = walk_next ns line from k s.walk more e q he; done = s.done ++ (laid ++ (gap ∷ [])); so_far = rw j at f₂; rest = whole; formed = (rw cells at s.formed).1 }
+      let j : (s.done ++ laid) ++ (b ∷ []) ≡ s.done ++ (laid ++ (gap ∷ [])) = append_assoc s.done laid (b ∷ []) ∙ ap (λ (x : ℕ). s.done ++ (laid ++ (x ∷ []))) (hb ∙ gap_by ps i) in
+      record { walk = walk_next ps line from i s.walk more e q he; done = s.done ++ (laid ++ (gap ∷ [])); so_far = rw j at f₂; rest = whole; formed = (rw cells at s.formed).1 }
 
 -- ── the lines of an input
 pub all_left : (s : Bytes) → (length s ≡ 0 → ⊥) → lines_of s ≡ lines_left s

@@ -16,16 +16,12 @@ use Rattle.recording.specs.Recording.{Bytes}
 use Rattle.recording.specs.Refusals.{number_of_refusal, first_of, refuse_if}
 use Rattle.recording.proofs.OutcomeLaws.{number_pos, first_hit, first_on, first_one}
 use Rattle.sheet.specs.Sheet.{up_to}
-use Rattle.tally.specs.declared.Totals.{Totals}
-use Rattle.tally.specs.declared.Scanned.{Scanned}
-use Rattle.tally.specs.declared.Scanned.TheVariants as S
-use Rattle.tally.specs.Tally.{lines_of, cells_of, columns_of, row_of, boards_at_text, boards_cell, is_boards, boards_in_text, boards_sum, cell_fault, cells_fault, count_fault, boards_fault, names_fault, values_fault, all_values_fault, lines_fault}
-use Rattle.tally.specs.Code.{cells_clean, lines_left, line_of, lines_text, boards_of, sum_of, scan_fault, ScanTold, ScanSmall}
+use Rattle.tally.specs.Tally.{lines_of, cells_of, columns_of, boards_at_text, boards_cell, is_boards, boards_in_text, boards_sum, cell_fault, cells_fault, count_fault, boards_fault, names_fault, values_fault, all_values_fault, lines_fault}
+use Rattle.tally.specs.Code.{cells_clean, lines_left, line_of, lines_text, sum_of}
 use Rattle.tally.proofs.ColumnLaws.{columns-count}
-use Rattle.tally.proofs.BoardsLaws.{boards_read}
 use Rattle.tally.proofs.PutLaws.{all_left, blank_line, lines_next, lines_end, text_next}
 
--- ── a line: n is what `row_len` found, b what `boards_in` found
+-- ── a line
 cells_fault_lem : (ds : List Bytes) → cells_fault ds ≡ cond (cells_clean ds) 0 40
 unfolding cell_fault
 cells_fault_lem [] = refl
@@ -39,18 +35,6 @@ cells_fault_lem (d ∷ ds) = go (is_clean_text d) (cells_fault_lem ds)
     go true e = ap (λ (x : ℕ). first_of (x ∷ [])) e ∙ last (cells_clean ds)
     go false e = refl
 
-long_row : (ns : List ℕ) (l : Bytes) → 1 ≤ length (line_of ns l)
-long_row ns l = omega (arith, length-append (row_of (columns_of ns) l) (0x0A ∷ []))
-
-module _ (ns : List ℕ) (l : Bytes) (k n : ℕ) (f : n ≡ cond (cells_clean (cells_of l)) (length (line_of ns l)) 0) where
-  told : (n ≡ 0 → cells_clean (cells_of l) ≡ false) × ((n ≡ 0 → ⊥) → (cells_clean (cells_of l) ≡ true) × (n ≡ length (line_of ns l)))
-  told = go (cells_clean (cells_of l)) refl f
-    where
-      go : (t : Bool) → cells_clean (cells_of l) ≡ t → n ≡ cond t (length (line_of ns l)) 0
-          → (n ≡ 0 → cells_clean (cells_of l) ≡ false) × ((n ≡ 0 → ⊥) → (cells_clean (cells_of l) ≡ true) × (n ≡ length (line_of ns l)))
-      go true q e = (λ z. absurd (omega (arith, z, e, long_row ns l)), λ z. (q, e))
-      go false q e = (λ z. q, λ z. absurd (z e))
-
 pub count_right : (ns : List ℕ) (l : Bytes) (m : ℕ) → m ≡ length (cells_of l) → m ≡ length ns / 2 → length (cells_of l) ≡ length (columns_of ns)
 count_right ns l m e f = omega (arith, e, f, columns-count ns)
 
@@ -59,45 +43,28 @@ module _ (ns : List ℕ) (l : Bytes) (k : ℕ) where
   c = length (columns_of ns)
 
   pub count-refused : (m : ℕ) → m ≡ length (cells_of l) → (m ≡ length ns / 2 → ⊥) → number_of_refusal TallyLine ≡ values_fault c k l
-  unfolding values_fault count_fault number_of_refusal
+  unfolding values_fault count_fault
   count-refused m e h =
       let d : (length (cells_of l) ≡ c → ⊥) = λ z. h (omega (arith, e, z, columns-count ns)) in
       rw (ne_eqb (length (cells_of l)) c d)
 
-  module _ (right : length (cells_of l) ≡ c) (n : ℕ) (f : n ≡ cond (cells_clean (cells_of l)) (length (line_of ns l)) 0) where
+  module _ (right : length (cells_of l) ≡ c) where
     no_count : count_fault c l ≡ 0
     unfolding count_fault
     no_count = rw (eq-eqb (length (cells_of l)) c right)
 
-    pub cell_refused : n ≡ 0 → number_of_refusal TallyCell ≡ values_fault c k l
-    unfolding values_fault number_of_refusal
-    cell_refused z = rw (no_count, cells_fault_lem (cells_of l), (told ns l k n f).0 z)
+    pub cell_refused : cells_clean (cells_of l) ≡ false → (f : Refusal) → f ≡ TallyCell → number_of_refusal f ≡ values_fault c k l
+    unfolding values_fault
+    cell_refused z f e = ap number_of_refusal e ∙ rw (no_count, cells_fault_lem (cells_of l), z)
 
-    module _ (some : n ≡ 0 → ⊥) (b : ℕ) (g : b ≡ boards_of k l) where
-      pub boards_refused : 65535 < b → number_of_refusal TallyLine ≡ values_fault c k l
-      unfolding values_fault number_of_refusal
-      boards_refused h = rw (no_count, cells_fault_lem (cells_of l), ((told ns l k n f).1 some).0, (boards_read k l).0 (omega (arith, g, h)))
-
-      pub line_fine : b ≤ 65535 → (0 ≡ values_fault c k l) × ((n ≡ length (line_of ns l)) × (b ≡ boards_in_text k l))
+    module _ (clean : cells_clean (cells_of l) ≡ true) where
+      pub boards_refused : boards_fault k l ≡ 41 → (f : Refusal) → f ≡ TallyLine → number_of_refusal f ≡ values_fault c k l
       unfolding values_fault
-      line_fine h =
-          let r = (boards_read k l).1 (omega (arith, g, h)) in
-          let t = (told ns l k n f).1 some in
-          (rw (no_count, cells_fault_lem (cells_of l), t.0, r.0), (t.1, g ∙ r.1))
+      boards_refused z f e = ap number_of_refusal e ∙ rw (no_count, cells_fault_lem (cells_of l), clean, z)
 
--- ── what an answer says
-pub refused_fault : (r : Scanned) (f : Refusal) → r ≡ S.Refused f → scan_fault r ≡ number_of_refusal f
-unfolding scan_fault
-refused_fault r f e = ap scan_fault e
-
-pub fine_told : (n b m d : ℕ) (r : Scanned) (t : Totals) → r ≡ S.Fine t → ScanTold n b r → ScanSmall m d r → (scan_fault r ≡ 0) × ((t.bytes ≡ n) × (t.boards ≡ b)) × ((t.bytes ≤ m) × (t.boards ≤ d))
-unfolding scan_fault ScanTold ScanSmall
-fine_told n b m d r t e p q = (ap scan_fault e, rw e at p, rw e at q)
-
--- a refusal that is handed on tells nothing else
-pub refused_told : (n b m d : ℕ) (r : Scanned) (f : Refusal) → r ≡ S.Refused f → ScanTold n b r × ScanSmall m d r
-unfolding ScanTold ScanSmall
-refused_told n b m d r f e = (rw e tt, rw e tt)
+      pub line_fine : boards_fault k l ≡ 0 → 0 ≡ values_fault c k l
+      unfolding values_fault
+      line_fine z = rw (no_count, cells_fault_lem (cells_of l), clean, z)
 
 -- ── the lines of values: those before `at` are fine
 pub record Scanning (ns : List ℕ) (k : ℕ) (input : Bytes) (from bytes boards at : ℕ) : Type 0 where
@@ -119,7 +86,7 @@ scanning_last ns k input from bytes boards at s h =
     )
 
 module _ (ns : List ℕ) (k : ℕ) (input : Bytes) (from bytes boards at : ℕ) (s : Scanning ns k input from bytes boards at) (more : at < length input) (e : ℕ)
-    (q : e ≡ at + length (up_to 0x0A (drop at input))) (r : Scanned) (f : scan_fault r ≡ values_fault (length (columns_of ns)) k (part at e input)) where
+    (q : e ≡ at + length (up_to 0x0A (drop at input))) where
   abbrev m : ℕ
   m = length (columns_of ns)
 
@@ -132,21 +99,22 @@ module _ (ns : List ℕ) (k : ℕ) (input : Bytes) (from bytes boards at : ℕ) 
   after : all_values_fault m k (lines_left (drop from input)) ≡ first_of (values_fault m k line ∷ all_values_fault m k (lines_left (drop (e + 1) input)) ∷ [])
   after = s.fault ∙ ap (λ (ls : List Bytes). all_values_fault m k ls) lines
 
-  pub line_refused : (g : Refusal) → r ≡ S.Refused g → scan_fault r ≡ all_values_fault m k (lines_left (drop from input))
-  line_refused g z =
-      f ∙ sym (after ∙ first_hit (values_fault m k line) (all_values_fault m k (lines_left (drop (e + 1) input)) ∷ []) (omega (arith, f, refused_fault r g z, number_pos g)))
+  -- the line there is refused by f
+  pub line_refused : (f : Refusal) → number_of_refusal f ≡ values_fault m k line → number_of_refusal f ≡ all_values_fault m k (lines_left (drop from input))
+  line_refused f z =
+      z ∙ sym (after ∙ first_hit (values_fault m k line) (all_values_fault m k (lines_left (drop (e + 1) input)) ∷ []) (omega (arith, z, number_pos f)))
 
-  pub scanning_next : (t : Totals) → r ≡ S.Fine t → ScanTold (length (line_of ns line)) (boards_in_text k line) r → ScanSmall (length line + 2000) 65535 r → at ≤ e → e ≤ length input
-      → Scanning ns k input from (bytes + t.bytes) (boards + t.boards) (e + 1)
-  scanning_next t z p o a b =
-      let u = fine_told (length (line_of ns line)) (boards_in_text k line) (length line + 2000) 65535 r t z p o in
+  -- or it comes to the bytes n and the boards b
+  pub scanning_next : 0 ≡ values_fault m k line → (n b : ℕ) → (n ≡ length (line_of ns line)) × (b ≡ boards_in_text k line) → (n ≤ length line + 2000) × (b ≤ 65535) → at ≤ e → e ≤ length input
+      → Scanning ns k input from (bytes + n) (boards + b) (e + 1)
+  scanning_next z n b t u o h =
       record {
-        fault = after ∙ first_on (values_fault m k line) (all_values_fault m k (lines_left (drop (e + 1) input)) ∷ []) (sym f ∙ u.0) ∙ first_one (all_values_fault m k (lines_left (drop (e + 1) input)));
+        fault = after ∙ first_on (values_fault m k line) (all_values_fault m k (lines_left (drop (e + 1) input)) ∷ []) (sym z) ∙ first_one (all_values_fault m k (lines_left (drop (e + 1) input)));
         text =
-            omega (arith, s.text, u.1.0, ap (λ (ls : List Bytes). length (lines_text ns ls)) lines, ap length (text_next ns line (lines_left (drop (e + 1) input))), length-append (line_of ns line) (lines_text ns (lines_left (drop (e + 1) input))));
-        sum = omega (arith, s.sum, u.1.1, ap (λ (ls : List Bytes). boards_sum k ls) lines);
-        inside = omega (arith, b);
-        small = (omega (arith, s.small.0, u.2.0, a, length_part at e input b), omega (arith, s.small.1, u.2.1, a));
+            omega (arith, s.text, t.0, ap (λ (ls : List Bytes). length (lines_text ns ls)) lines, ap length (text_next ns line (lines_left (drop (e + 1) input))), length-append (line_of ns line) (lines_text ns (lines_left (drop (e + 1) input))));
+        sum = omega (arith, s.sum, t.1, ap (λ (ls : List Bytes). boards_sum k ls) lines);
+        inside = omega (arith, h);
+        small = (omega (arith, s.small.0, u.0, o, length_part at e input h), omega (arith, s.small.1, u.1, o));
       }
 
 -- ── all lines: that of the names, and those of the values behind it
@@ -164,7 +132,7 @@ names_values n k l h = go (eqb (length (cells_of l)) n) refl
     go true e = rw (le-ltb k (length (cells_of l)) (omega (arith, h, eqb-true (length (cells_of l)) n e)))
     go false e = refl
 
-module _ (ns : List ℕ) (input : Bytes) (e : ℕ) (q : e ≡ 0 + length (up_to 0x0A (drop 0 input))) (r : Scanned) (f : scan_fault r ≡ values_fault (length (columns_of ns)) (length ns) (part 0 e input)) where
+module _ (ns : List ℕ) (input : Bytes) (e : ℕ) (q : e ≡ 0 + length (up_to 0x0A (drop 0 input))) where
   abbrev n : ℕ
   n = length (columns_of ns)
 
@@ -177,23 +145,23 @@ module _ (ns : List ℕ) (input : Bytes) (e : ℕ) (q : e ≡ 0 + length (up_to 
   split : lines_of input ≡ names ∷ values
   split = lines_split input e q
 
-  names_fault_lem : scan_fault r ≡ names_fault n names
-  names_fault_lem = f ∙ names_values n (length ns) names (omega (arith, columns-count ns))
+  names_fault_lem : values_fault n (length ns) names ≡ names_fault n names
+  names_fault_lem = names_values n (length ns) names (omega (arith, columns-count ns))
 
   whole : lines_fault n (lines_of input) ≡ first_of (names_fault n names ∷ all_values_fault n (boards_at_text (cells_of names)) values ∷ [])
   whole = ap (λ (ls : List Bytes). lines_fault n ls) split
 
-  pub names_refused : (g : Refusal) → r ≡ S.Refused g → scan_fault r ≡ lines_fault n (lines_of input)
-  names_refused g z =
-      names_fault_lem ∙ sym (whole ∙ first_hit (names_fault n names) (all_values_fault n (boards_at_text (cells_of names)) values ∷ []) (omega (arith, names_fault_lem, refused_fault r g z, number_pos g)))
+  pub names_refused : (f : Refusal) → number_of_refusal f ≡ values_fault n (length ns) names → number_of_refusal f ≡ lines_fault n (lines_of input)
+  names_refused f z =
+      let x = z ∙ names_fault_lem in
+      x ∙ sym (whole ∙ first_hit (names_fault n names) (all_values_fault n (boards_at_text (cells_of names)) values ∷ []) (omega (arith, x, number_pos f)))
 
-  -- the line of names is fine: the others decide
-  module _ (t : Totals) (z : r ≡ S.Fine t) (k : ℕ) (w : k ≡ boards_at_text (cells_of names)) (v : Scanned) (h : scan_fault v ≡ all_values_fault n k values) where
-    pub by_values : scan_fault v ≡ lines_fault n (lines_of input)
-    unfolding scan_fault
-    by_values =
+  -- the line of names is fine: the others decide, with the number x of their refusal, 0 for none
+  module _ (z : 0 ≡ values_fault n (length ns) names) (k : ℕ) (w : k ≡ boards_at_text (cells_of names)) where
+    pub by_values : (x : ℕ) → x ≡ all_values_fault n k values → x ≡ lines_fault n (lines_of input)
+    by_values x h =
         h ∙ ap (λ (j : ℕ). all_values_fault n j values) w
-        ∙ sym (whole ∙ first_on (names_fault n names) (all_values_fault n (boards_at_text (cells_of names)) values ∷ []) (sym names_fault_lem ∙ ap scan_fault z) ∙ first_one (all_values_fault n (boards_at_text (cells_of names)) values))
+        ∙ sym (whole ∙ first_on (names_fault n names) (all_values_fault n (boards_at_text (cells_of names)) values ∷ []) (sym (z ∙ names_fault_lem)) ∙ first_one (all_values_fault n (boards_at_text (cells_of names)) values))
 
     pub by_both : (a b : ℕ) → a ≡ length (line_of ns names) → b ≡ length (lines_text ns values) → a + b ≡ length (lines_text ns (lines_of input))
     by_both a b x y =

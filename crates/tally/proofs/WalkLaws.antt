@@ -16,8 +16,8 @@ use Rattle.layout.specs.Wrap.{onto_first}
 use Rattle.sheet.specs.Sheet.{up_to}
 use Rattle.sheet.proofs.SheetLaws.{up_to_take}
 use Rattle.tally.specs.Tally.{split_at, cells_of, Column, columns_of, laid_cell_of, row_from_cells, row_of, any_bad}
-use Rattle.tally.specs.Code.{column, gap_width_after, line_of}
-use Rattle.tally.proofs.ColumnLaws.{columns_next, columns_few, columns_none}
+use Rattle.tally.specs.Code.{gap_after, line_of}
+use Rattle.tally.proofs.ColumnLaws.{column_in, columns_in, columns_next, columns_end}
 use Rattle.tally.proofs.RowLaws.{first_column}
 
 -- ── the cells after the comma at the front
@@ -82,73 +82,73 @@ row_ended (c ∷ k ∷ cs) (d ∷ ds) h m =
     append_assoc (laid_cell_of c d) (0x20 ∷ row_from_cells (k ∷ cs) ds) (0x0A ∷ []) ∙ ap (λ (l : Bytes). laid_cell_of c d ++ (0x20 ∷ l)) (row_ended (k ∷ cs) ds (omega arith) (omega (arith, m)))
 
 -- the byte after the first cell, which the columns left decide
-abbrev gap_by_columns : List Column → ℕ
-gap_by_columns [] = 0x0A
-gap_by_columns (c ∷ cs) = 0x20
+abbrev pub gap_before : List Column → ℕ
+gap_before [] = 0x0A
+gap_before (c ∷ cs) = 0x20
 
-ended_next : (c : Column) (cs : List Column) (d : Bytes) (ds : List Bytes) → ended_from (c ∷ cs) (d ∷ ds) ≡ (laid_cell_of c d ++ (gap_by_columns cs ∷ [])) ++ ended_from cs ds
+ended_next : (c : Column) (cs : List Column) (d : Bytes) (ds : List Bytes) → ended_from (c ∷ cs) (d ∷ ds) ≡ (laid_cell_of c d ++ (gap_before cs ∷ [])) ++ ended_from cs ds
 ended_next c [] d ds = sym (append-nil (laid_cell_of c d ++ (0x0A ∷ [])))
 ended_next c (k ∷ cs) d ds = sym (append_assoc (laid_cell_of c d) (0x20 ∷ []) (ended_from (k ∷ cs) ds))
 
-gap_by : (ns : List ℕ) (k : ℕ) → k + 1 < length ns → gap_width_after k (length ns) ≡ gap_by_columns (columns_of (drop (k + 2) ns))
-unfolding gap_width_after
-gap_by ns k h = go (ltb (k + 3) (length ns)) refl
+pub gap_by : (ps : List (List ℕ)) (i : ℕ) → gap_after i (length ps) ≡ gap_before (columns_in (drop (i + 1) ps))
+unfolding gap_after
+gap_by ps i = go (ltb (i + 1) (length ps)) refl
   where
-    go : (t : Bool) → ltb (k + 3) (length ns) ≡ t → cond t 0x20 0x0A ≡ gap_by_columns (columns_of (drop (k + 2) ns))
-    go true e = ap gap_by_columns (sym (columns_next ns (k + 2) (omega (arith, ltb-true (k + 3) (length ns) e))))
-    go false e = ap gap_by_columns (sym (columns_few (drop (k + 2) ns) (omega (arith, ltb-false (k + 3) (length ns) e, length-drop (k + 2) ns))))
+    go : (t : Bool) → ltb (i + 1) (length ps) ≡ t → cond t 0x20 0x0A ≡ gap_before (columns_in (drop (i + 1) ps))
+    go true e = ap gap_before (sym (columns_next ps (i + 1) (ltb-true (i + 1) (length ps) e)))
+    go false e = ap gap_before (sym (columns_end ps (i + 1) (ltb-false (i + 1) (length ps) e)))
 
--- ── a walk has come to the column at k and to the cell at `from`
-pub record Walk (ns : List ℕ) (line : Bytes) (from k : ℕ) : Type 0 where
-  pub good : any_bad (columns_of (drop k ns)) ≡ false
-  pub many : length (cells_left line from) ≡ length (columns_of (drop k ns))
+-- ── a walk has come to the column i and to the cell at `from`
+pub record Walk (ps : List (List ℕ)) (line : Bytes) (from i : ℕ) : Type 0 where
+  pub good : any_bad (columns_in (drop i ps)) ≡ false
+  pub many : length (cells_left line from) ≡ length (columns_in (drop i ps))
   pub inside : from ≤ length line + 1
-  pub within : k ≤ length ns
+  pub within : i ≤ length ps
 
 -- the rest of the row
-abbrev pub row_left : List ℕ → Bytes → ℕ → ℕ → Bytes
-row_left ns line from k = ended_from (columns_of (drop k ns)) (cells_left line from)
+abbrev pub row_left : List (List ℕ) → Bytes → ℕ → ℕ → Bytes
+row_left ps line from i = ended_from (columns_in (drop i ps)) (cells_left line from)
 
-pub walk_first : (ns : List ℕ) (line : Bytes) → any_bad (columns_of ns) ≡ false → length (cells_of line) ≡ length (columns_of ns) → Walk ns line 0 0
-unfolding cells_of
-walk_first ns line g m = record { good = g; many = m; inside = omega arith; within = omega arith }
+-- ns are all numbers, and ps the same two by two
+module _ (ns : List ℕ) (ps : List (List ℕ)) (are : columns_in ps ≡ columns_of ns) (line : Bytes) where
+  pub walk_first : any_bad (columns_of ns) ≡ false → length (cells_of line) ≡ length (columns_of ns) → Walk ps line 0 0
+  unfolding cells_of
+  walk_first g m = record { good = ap any_bad are ∙ g; many = m ∙ ap length (sym are); inside = omega arith; within = omega arith }
 
-pub row_first : (ns : List ℕ) (line : Bytes) → 1 ≤ length (columns_of ns) → length (cells_of line) ≡ length (columns_of ns) → row_left ns line 0 0 ≡ line_of ns line
-unfolding cells_of row_of
-row_first ns line h m = sym (row_ended (columns_of ns) (cells_of line) h m)
+  pub row_first : 1 ≤ length (columns_of ns) → length (cells_of line) ≡ length (columns_of ns) → row_left ps line 0 0 ≡ line_of ns line
+  unfolding cells_of row_of
+  row_first h m = ap (λ (cs : List Column). ended_from cs (cells_left line 0)) are ∙ sym (row_ended (columns_of ns) (cells_of line) h m)
 
 -- no columns left: nothing is left of the row, and no cell
-pub row_last : (ns : List ℕ) (line : Bytes) (from k : ℕ) → length ns ≤ k + 1 → row_left ns line from k ≡ []
-row_last ns line from k h = ap (λ (cs : List Column). ended_from cs (cells_left line from)) (columns_none ns k h)
+pub row_last : (ps : List (List ℕ)) (line : Bytes) (from i : ℕ) → length ps ≤ i → row_left ps line from i ≡ []
+row_last ps line from i h = ap (λ (cs : List Column). ended_from cs (cells_left line from)) (columns_end ps i h)
 
-pub walk_last : (ns : List ℕ) (line : Bytes) (from k : ℕ) → Walk ns line from k → length ns ≤ k + 1 → length (cells_left line from) ≡ 0
-walk_last ns line from k w h = omega (arith, w.many, ap length (columns_none ns k h))
+pub walk_last : (ps : List (List ℕ)) (line : Bytes) (from i : ℕ) → Walk ps line from i → length ps ≤ i → length (cells_left line from) ≡ 0
+walk_last ps line from i w h = omega (arith, w.many, ap length (columns_end ps i h))
 
 -- ── one cell further
-module _ (ns : List ℕ) (line : Bytes) (from k : ℕ) (w : Walk ns line from k) (more : k + 1 < length ns) where
+module _ (ps : List (List ℕ)) (line : Bytes) (from i : ℕ) (w : Walk ps line from i) (more : i < length ps) where
   abbrev pub here : Column
-  here = column (get_or ns k 0) (get_or ns (k + 1) 0)
+  here = column_in (get_or ps i [])
 
-  left : columns_of (drop k ns) ≡ here ∷ columns_of (drop (k + 2) ns)
-  left = columns_next ns k more
+  left : columns_in (drop i ps) ≡ here ∷ columns_in (drop (i + 1) ps)
+  left = columns_next ps i more
 
   pub there : from ≤ length line
   there = omega (arith, w.many, ap length left, some_cells (drop from (0x2C ∷ line)) (omega (arith, w.many, ap length left)), length-drop from (0x2C ∷ line))
 
-  columns : (1 ≤ get_or ns k 0) × (get_or ns k 0 ≤ 80) × (any_bad (columns_of (drop (k + 2) ns)) ≡ false)
-  columns = first_column here (columns_of (drop (k + 2) ns)) (rw left at w.good)
+  columns : (1 ≤ here.width) × (here.width ≤ 80) × (any_bad (columns_in (drop (i + 1) ps)) ≡ false)
+  columns = first_column here (columns_in (drop (i + 1) ps)) (rw left at w.good)
 
-  pub wide : (1 ≤ get_or ns k 0) × (get_or ns k 0 ≤ 80)
+  pub wide : (1 ≤ here.width) × (here.width ≤ 80)
   wide = (columns.0, columns.1)
 
   module _ (e : ℕ) (q : e ≡ from + length (up_to 0x2C (drop from line))) where
     cells : cells_left line from ≡ part from e line ∷ cells_left line (e + 1)
     cells = cells_next line from e there q
 
-    pub walk_next : e ≤ length line → Walk ns line (e + 1) (k + 2)
+    pub walk_next : e ≤ length line → Walk ps line (e + 1) (i + 1)
     walk_next h = record { good = columns.2; many = omega (arith, w.many, ap length cells, ap length left); inside = omega (arith, h); within = omega (arith, more) }
 
-    pub row_next : row_left ns line from k ≡ (laid_cell_of here (part from e line) ++ (gap_width_after k (length ns) ∷ [])) ++ row_left ns line (e + 1) (k + 2)
-    row_next =
-        (λ i. ended_from (left i) (cells i)) ∙ ended_next here (columns_of (drop (k + 2) ns)) (part from e line) (cells_left line (e + 1))
-        ∙ ap (λ (g : ℕ). (laid_cell_of here (part from e line) ++ (g ∷ [])) ++ row_left ns line (e + 1) (k + 2)) (sym (gap_by ns k more))
+    pub row_next : row_left ps line from i ≡ (laid_cell_of here (part from e line) ++ (gap_before (columns_in (drop (i + 1) ps)) ∷ [])) ++ row_left ps line (e + 1) (i + 1)
+    row_next = (λ j. ended_from (left j) (cells j)) ∙ ended_next here (columns_in (drop (i + 1) ps)) (part from e line) (cells_left line (e + 1))

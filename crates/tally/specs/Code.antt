@@ -1,15 +1,13 @@
--- What the code's contracts cite: a column from its two numbers, the pieces of a row as they are written and measured, and what scanning finds.
+-- What the code's contracts cite: a column from its two numbers, the pieces of a row as they are written and measured, and what is scanned for.
 use Rattle.std.specs.Prelude.{ℕ, ◌+◌, ◌-◌, ◌/◌, ◌≤◌, Bool, true, false, cond, ◌&&◌, ◌≡◌, List, [], ◌∷◌, ◌++◌, ltb, eqb, length}
 use Rattle.chars.specs.Chars.{text_width_of, well_formed_of}
 use Rattle.controls.specs.Controls.{is_clean_text}
 use Rattle.recording.specs.Lists.{AllOf}
 use Rattle.recording.specs.Recording.{Bytes}
-use Rattle.recording.specs.Refusals.{number_of_refusal}
+use Rattle.recording.specs.Refusals.{data_limit}
 use Rattle.cells.specs.Cells.{cell_text}
-use Rattle.sheet.specs.Sheet.{sheet_lines, decimal_or}
-use Rattle.tally.specs.declared.Scanned.{Scanned}
-use Rattle.tally.specs.declared.Scanned.TheVariants.{Refused, Fine}
-use Rattle.tally.specs.Tally.{texts_of, cells_of, Column, columns_of, tilde, row_of, rows_of, boards_at_text, boards_cell, boards_sum, ended, any_bad}
+use Rattle.sheet.specs.Sheet.{sheet_lines}
+use Rattle.tally.specs.Tally.{texts_of, lines_of, cells_of, Column, columns_of, tilde, row_of, rows_of, boards_at_text, boards_sum, ended, any_bad, wrong_columns_of}
 
 abbrev pub column : ℕ → ℕ → Column
 column w a = record { width = w; alignment = a }
@@ -18,9 +16,9 @@ column w a = record { width = w; alignment = a }
 unfoldable pub before_of : ℕ → ℕ → ℕ
 before_of a n = cond (eqb a 0) 0 (cond (eqb a 1) n (n / 2))
 
--- the byte after a cell at the place k of n numbers: a space if another column follows, else the 0A of the row
-unfoldable pub gap_width_after : ℕ → ℕ → ℕ
-gap_width_after k n = cond (ltb (k + 3) n) 0x20 0x0A
+-- the byte after the cell i of n: a space if another follows, else the 0A of the row
+unfoldable pub gap_after : ℕ → ℕ → ℕ
+gap_after i n = cond (ltb (i + 1) n) 0x20 0x0A
 
 -- the bytes of a laid-out cell: what is kept, and the spaces that are missing to the width
 unfoldable pub laid_len : ℕ → Bytes → ℕ
@@ -42,6 +40,13 @@ line_of ns l = row_of (columns_of ns) l ++ (0x0A ∷ [])
 abbrev pub lines_text : List ℕ → List Bytes → Bytes
 lines_text ns ls = ended (rows_of (columns_of ns) ls)
 
+-- what is known of an input of n lines before any of them is looked at
+pub record Tested (ns : List ℕ) (s : Bytes) (n : ℕ) : Type 0 where
+  pub short : length s ≤ data_limit
+  pub right : wrong_columns_of ns ≡ false
+  pub count : n ≡ length (lines_of s)
+  pub few : n ≤ 4096
+
 -- the cells of a line fit its columns: what a line that is not turned away has
 pub record Fit (ns : List ℕ) (l : Bytes) : Type 0 where
   pub some : 1 ≤ length (columns_of ns)
@@ -49,26 +54,7 @@ pub record Fit (ns : List ℕ) (l : Bytes) : Type 0 where
   pub formed : AllOf (λ d. well_formed_of d ≡ true) (cells_of l)
   pub many : length (cells_of l) ≡ length (columns_of ns)
 
--- the number in the cell k, or what stands for none; 0 without such a cell
-unfoldable pub boards_of : ℕ → Bytes → ℕ
-boards_of k l = cond (ltb k (length (cells_of l))) (decimal_or (boards_cell k l)) 0
-
 -- the sum of all lines
 abbrev pub sum_of : List Bytes → ℕ
 sum_of [] = 0
 sum_of (names ∷ values) = boards_sum (boards_at_text (cells_of names)) values
-
--- ── what scanning finds: 0 or the number of a refusal
-unfoldable pub scan_fault : Scanned → ℕ
-scan_fault (Refused f) = number_of_refusal f
-scan_fault (Fine t) = 0
-
--- and if there is none, the bytes of the rows and the boards
-unfoldable pub ScanTold : ℕ → ℕ → Scanned → Type 0
-ScanTold n b (Refused f) = Unit {0}
-ScanTold n b (Fine t) = (t.bytes ≡ n) × (t.boards ≡ b)
-
--- both are at most so large
-unfoldable pub ScanSmall : ℕ → ℕ → Scanned → Type 0
-ScanSmall n b (Refused f) = Unit {0}
-ScanSmall n b (Fine t) = (t.bytes ≤ n) × (t.boards ≤ b)

@@ -1,8 +1,8 @@
 -- What Q-10 asks to be shown, clause by clause, of the bytes that the call leaves; `proofs/Shown.antt` has all of it, and the call's contract has `SheetLeft`.
+use Rattle.recording.specs.Outcome.{Answer}
 use Rattle.std.specs.Prelude.{ℕ, ◌+◌, ◌-◌, ◌≤◌, ◌<◌, true, false, ◌≡◌, List, [], ◌∷◌, ◌++◌, ltb, length, take, get_or}
 use Rattle.chars.specs.Chars.{chars, text_width_of}
 use Rattle.controls.specs.Controls.{is_clean_text}
-use Rattle.recording.specs.declared.Answer.{Answer}
 use Rattle.recording.specs.Lists.{AllOf}
 use Rattle.recording.specs.Recording.{Bytes}
 use Rattle.recording.specs.Refusals.{data_limit, first_of, refuse_if}

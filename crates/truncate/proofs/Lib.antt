@@ -1,3 +1,4 @@
 pub mod CutLaws
 pub mod PlanLaws
 pub mod HeldLaws
+pub mod CallLaws

@@ -2,6 +2,8 @@
 use mathlib.Core.Path.{◌≡◌, refl, sym, ap, ◌∙◌}
 use mathlib.Core.Bool.{Bool, true, false, cond, false≢true}
 use mathlib.Core.List.{List, ◌++◌}
+use mathlib.Core.Logic.{inl}
+use Rattle.std.specs.Int.{from_bool}
 use Prim.Native.Nat.{ℕ, ◌+◌, ◌-◌, ◌*◌, ◌≤◌}
 use native.Mathlib.Omega.{arith}
 use lib.Dec.{ltb}
@@ -13,13 +15,13 @@ use Rattle.recording.specs.Edit.{edit}
 use Rattle.recording.proofs.EditLaws.{data_append}
 use Rattle.recording.proofs.SizeLaws.{entry_count, count-append, edit-count}
 use Rattle.recording.proofs.ShareLaws.{sum-append, edit-sum}
-use Rattle.share.specs.Sizes.{text_size_of, Stands}
+use Rattle.share.specs.Sizes.{text_size_of, Counts, Stands}
 use Rattle.recording.specs.declared.TextSizes.{TextSizes}
-use Rattle.outcomes.proofs.SecondLaws.{Fine, Given, content, second, BothFine, texts_less, Shares, Measured}
+use Rattle.outcomes.proofs.SecondLaws.{Fine, Given, content, second, BothFine, Shares, Measured}
 use Rattle.layout.specs.Layout.{Kind, truncated_start, truncated_end, with_second, cut_end_of, cut_start_of, truncate_end, truncate_start, result_items, number, kind_fault}
 use Rattle.truncate_plan.specs.declared.Plan.{Plan}
 use Rattle.truncate_plan.specs.Plan.{plan_end, plan_start}
-use Rattle.truncate.specs.Planned.{end_items, start_items, plus_if_of}
+use Rattle.truncate.specs.Planned.{end_items, start_items}
 use Rattle.truncate.proofs.CutLaws.{up_to_data, from_data}
 
 -- ── the items of a plan, by its test
@@ -89,46 +91,40 @@ module _ (max : ℕ) (ds es : List ℕ) (p : Plan) where
       ap (λ (x : Plan). x.ellipsis) u
 
 -- ── sizes
-size_if : (s : List Item → ℕ) (t : Bool) (x z : List Item) (a b : ℕ) → s x ≡ a + b → s z ≡ a → plus_if_of t a b ≡ s (cond t x z)
-unfolding plus_if_of
-size_if s true x z a b e f = sym e
-size_if s false x z a b e f = sym f
+-- of one list of items or another, by a test: b more by the first
+size_if : (s : List Item → ℕ) (t : Bool) (x z : List Item) (a b : ℕ) → s x ≡ a + b → s z ≡ a → s (cond t x z) ≡ a + from_bool t * b
+size_if s true x z a b e f = omega (arith, e)
+size_if s false x z a b e f = omega (arith, f)
 
--- b more if so, as b times 1 or 0
-plus_times : (t : Bool) (a b : ℕ) → plus_if_of t a b ≡ a + plus_if_of t 0 1 * b
-unfolding plus_if_of
-plus_times true a b = omega arith
-plus_times false a b = omega arith
-
-pub once_at_most : (t : Bool) (k : ℕ) → k ≡ plus_if_of t 0 1 → k ≤ 1
-unfolding plus_if_of
-once_at_most true k e = omega (arith, e)
-once_at_most false k e = omega (arith, e)
+-- a size settles a call as itself
+itself : (room t : ℕ) → Stands room t t
+unfolding Stands Counts
+itself room t = inl (inl refl)
 
 -- a cut drops no entry: the result has the content's, and the ellipsis's once if it is written
 module _ (m : Item → ℕ) (none : (b : ℕ) → m (byte b) ≡ 0) (p : Plan) (r e : Recording) where
-  end_sum : sum_of m (end_items p r e) ≡ sum_of m (items r) + plus_if_of p.cut 0 1 * sum_of m (items e)
+  end_sum : sum_of m (end_items p r e) ≡ sum_of m (items r) + from_bool p.cut * sum_of m (items e)
   unfolding end_items
   end_sum =
       let x : List Item = edit (cut_end_of p.content r.data_bytes) (items r) in
       let y : List Item = edit (cut_end_of p.ellipsis e.data_bytes) (items e) in
       let s : sum_of m (x ++ y) ≡ sum_of m (items r) + sum_of m (items e) =
       omega (arith, sum-append m x y, edit-sum m none (cut_end_of p.content r.data_bytes) (items r), edit-sum m none (cut_end_of p.ellipsis e.data_bytes) (items e)) in
-      sym (size_if (sum_of m) p.cut (x ++ y) (items r) (sum_of m (items r)) (sum_of m (items e)) s refl) ∙ plus_times p.cut (sum_of m (items r)) (sum_of m (items e))
+      size_if (sum_of m) p.cut (x ++ y) (items r) (sum_of m (items r)) (sum_of m (items e)) s refl
 
-  start_sum : sum_of m (start_items p r e) ≡ sum_of m (items r) + plus_if_of p.cut 0 1 * sum_of m (items e)
+  start_sum : sum_of m (start_items p r e) ≡ sum_of m (items r) + from_bool p.cut * sum_of m (items e)
   unfolding start_items
   start_sum =
       let u : List Item = edit (cut_start_of p.ellipsis) (items e) in
       let w : List Item = edit (cut_start_of p.content) (items r) in
       let c = edit-sum m none (cut_start_of p.content) (items r) in
       let s : sum_of m (u ++ w) ≡ sum_of m (items r) + sum_of m (items e) = omega (arith, sum-append m u w, c, edit-sum m none (cut_start_of p.ellipsis) (items e)) in
-      sym (size_if (sum_of m) p.cut (u ++ w) w (sum_of m (items r)) (sum_of m (items e)) s (omega (arith, c))) ∙ plus_times p.cut (sum_of m (items r)) (sum_of m (items e))
+      size_if (sum_of m) p.cut (u ++ w) w (sum_of m (items r)) (sum_of m (items e)) s (omega (arith, c))
 
-end_shares : (p : Plan) (r e : Recording) → Shares (end_items p r e) (items r) (items e) (plus_if_of p.cut 0 1)
+end_shares : (p : Plan) (r e : Recording) → Shares (end_items p r e) (items r) (items e) (from_bool p.cut)
 end_shares p r e = record { raws = end_sum raw_len_of (λ b. refl) p r e; labels = λ l. end_sum (push_of l) (λ b. refl) p r e }
 
-start_shares : (p : Plan) (r e : Recording) → Shares (start_items p r e) (items r) (items e) (plus_if_of p.cut 0 1)
+start_shares : (p : Plan) (r e : Recording) → Shares (start_items p r e) (items r) (items e) (from_bool p.cut)
 start_shares p r e = record { raws = start_sum raw_len_of (λ b. refl) p r e; labels = λ l. start_sum (push_of l) (λ b. refl) p r e }
 
 data_size_append : (x y : List Item) → length (data_of (x ++ y)) ≡ length (data_of x) + length (data_of y)
@@ -148,11 +144,11 @@ module _ (ds ns ts ds₂ ns₂ ts₂ : List ℕ) (n₁ n₂ : ℕ) (f : Fine ds 
   abbrev y : List Item
   y = edit (cut_end_of p.ellipsis ds₂) (items e)
 
-  end_count : plus_if_of p.cut (length ns) (length ns₂) ≡ 4 * entry_count (end_items p (recording ds ns ts) (recording ds₂ ns₂ ts₂))
+  end_count : length ns + from_bool p.cut * length ns₂ ≡ 4 * entry_count (end_items p (recording ds ns ts) (recording ds₂ ns₂ ts₂))
   unfolding end_items
   end_count =
-      size_if (λ (l : List Item). 4 * entry_count l) p.cut (x ++ y) (items r) (length ns) (length ns₂)
-      (omega (arith, count-append x y, edit-count (cut_end_of p.content ds) (items r), edit-count (cut_end_of p.ellipsis ds₂) (items e), f.entry_size, g.entry_size)) (sym f.entry_size)
+      sym (size_if (λ (l : List Item). 4 * entry_count l) p.cut (x ++ y) (items r) (length ns) (length ns₂)
+      (omega (arith, count-append x y, edit-count (cut_end_of p.content ds) (items r), edit-count (cut_end_of p.ellipsis ds₂) (items e), f.entry_size, g.entry_size)) (sym f.entry_size))
 
   end_data : p ≡ plan_end max ds ds₂ → p.content ≤ length ds → p.ellipsis ≤ length ds₂ → p.content + p.ellipsis ≡ length (data_of (end_items p (recording ds ns ts) (recording ds₂ ns₂ ts₂)))
   end_data q a b = go p.cut refl
@@ -168,12 +164,12 @@ module _ (ds ns ts ds₂ ns₂ ts₂ : List ℕ) (n₁ n₂ : ℕ) (f : Fine ds 
   abbrev w : List Item
   w = edit (cut_start_of p.content) (items r)
 
-  start_count : plus_if_of p.cut (length ns) (length ns₂) ≡ 4 * entry_count (start_items p (recording ds ns ts) (recording ds₂ ns₂ ts₂))
+  start_count : length ns + from_bool p.cut * length ns₂ ≡ 4 * entry_count (start_items p (recording ds ns ts) (recording ds₂ ns₂ ts₂))
   unfolding start_items
   start_count =
       let c = edit-count (cut_start_of p.content) (items r) in
-      size_if (λ (l : List Item). 4 * entry_count l) p.cut (u ++ w) w (length ns) (length ns₂) (omega (arith, count-append u w, c, edit-count (cut_start_of p.ellipsis) (items e), f.entry_size, g.entry_size))
-      (omega (arith, c, f.entry_size))
+      sym (size_if (λ (l : List Item). 4 * entry_count l) p.cut (u ++ w) w (length ns) (length ns₂) (omega (arith, count-append u w, c, edit-count (cut_start_of p.ellipsis) (items e), f.entry_size, g.entry_size))
+      (omega (arith, c, f.entry_size)))
 
   start_data : p ≡ plan_start max ds ds₂ → (length ds - p.content) + (length ds₂ - p.ellipsis) ≡ length (data_of (start_items p (recording ds ns ts) (recording ds₂ ns₂ ts₂)))
   start_data q = go p.cut refl
@@ -183,33 +179,34 @@ module _ (ds ns ts ds₂ ns₂ ts₂ : List ℕ) (n₁ n₂ : ℕ) (f : Fine ds 
       go false z = omega (arith, ap (λ (l : List Item). length (data_of l)) (start_whole p r e z), from_data p.content ds ns ts, start_uncut max ds ds₂ p q z)
 
 -- ── what a call leaves has the sizes that are settled; k is how often the ellipsis's entries are written
-pub texts_planned : (x : Given) (n : TextSizes) (fine : BothFine x n) (p : Plan) (k t : ℕ) → k ≡ plus_if_of p.cut 0 1 → t ≡ plus_if_of p.cut n.content n.second
-    → text_size_of x.ts (entries_of x.ns) x.us (entries_of x.gs) k ≤ t
-texts_planned x n fine p k t ek et =
-    omega (arith, texts_less x n k fine, et, plus_times p.cut n.content n.second, ap (λ (j : ℕ). j * n.second) ek)
+module _ (x : Given) (n : TextSizes) (fine : BothFine x n) (p : Plan) (k : ℕ) (ek : k ≡ from_bool p.cut) where
+  -- the numbers of its entries, and the size of its text
+  abbrev numbers : ℕ
+  numbers = length x.ns + k * length x.gs
 
-module _ (x : Given) (n : TextSizes) (fine : BothFine x n) (p : Plan) (k e t : ℕ) (ek : k ≡ plus_if_of p.cut 0 1) (ee : e ≡ plus_if_of p.cut (length x.ns) (length x.gs))
-    (stands : Stands (length x.ot) (text_size_of x.ts (entries_of x.ns) x.us (entries_of x.gs) k) t) where
+  abbrev texts : ℕ
+  texts = text_size_of x.ts (entries_of x.ns) x.us (entries_of x.gs) k
+
   pub end_measured : x.kind ≡ truncated_end → p ≡ plan_end x.width x.ds x.fs → p.content ≤ length x.ds → p.ellipsis ≤ length x.fs
-      → Measured x k (end_items p (content x) (second x)) (p.content + p.ellipsis) e t
+      → Measured x k (end_items p (content x) (second x)) (p.content + p.ellipsis) numbers texts
   end_measured h q a b =
       record {
         own = ap (λ (j : Kind). kind_fault j x.fs x.ds) h;
         leaves = ap (λ (j : Kind). result_items (with_second j x.width (second x)) (content x)) h ∙ end_items_lem x.width (content x) (second x) p q;
         data_size = end_data x.ds x.ns x.ts x.fs x.gs x.us n.content n.second fine.0 fine.1 x.width p q a b;
-        entry_size = ee ∙ end_count x.ds x.ns x.ts x.fs x.gs x.us n.content n.second fine.0 fine.1 x.width p;
+        entry_size = rw ek (end_count x.ds x.ns x.ts x.fs x.gs x.us n.content n.second fine.0 fine.1 x.width p);
         shares = rw ek (end_shares p (content x) (second x));
-        text_size_lem = stands;
+        text_size_lem = itself (length x.ot) texts;
       }
 
   pub start_measured : x.kind ≡ truncated_start → p ≡ plan_start x.width x.ds x.fs
-      → Measured x k (start_items p (content x) (second x)) ((length x.ds - p.content) + (length x.fs - p.ellipsis)) e t
+      → Measured x k (start_items p (content x) (second x)) ((length x.ds - p.content) + (length x.fs - p.ellipsis)) numbers texts
   start_measured h q =
       record {
         own = ap (λ (j : Kind). kind_fault j x.fs x.ds) h;
         leaves = ap (λ (j : Kind). result_items (with_second j x.width (second x)) (content x)) h ∙ start_items_lem x.width (content x) (second x) p q;
         data_size = start_data x.ds x.ns x.ts x.fs x.gs x.us n.content n.second fine.0 fine.1 x.width p q;
-        entry_size = ee ∙ start_count x.ds x.ns x.ts x.fs x.gs x.us n.content n.second fine.0 fine.1 x.width p;
+        entry_size = rw ek (start_count x.ds x.ns x.ts x.fs x.gs x.us n.content n.second fine.0 fine.1 x.width p);
         shares = rw ek (start_shares p (content x) (second x));
-        text_size_lem = stands;
+        text_size_lem = itself (length x.ot) texts;
       }

@@ -1,5 +1,5 @@
 -- The items that a truncating call writes by its plan (`truncate_plan`), and the runs of its data. `proofs/PlanLaws.antt`: these are `result_items`, and the plan's width is `number`.
-use Rattle.std.specs.Prelude.{ℕ, ◌+◌, Bool, true, false, cond, List, ◌++◌, take, drop}
+use Rattle.std.specs.Prelude.{ℕ, cond, List, ◌++◌, take, drop}
 use Rattle.recording.specs.Recording.{Recording, Item, items}
 use Rattle.recording.specs.Edit.{edit}
 use Rattle.layout.specs.Layout.{cut_end_of, cut_start_of}
@@ -20,8 +20,3 @@ finished_end p content ellipsis = cond p.cut (take p.content content ++ take p.e
 
 unfoldable pub finished_start : Plan → List ℕ → List ℕ → List ℕ
 finished_start p content ellipsis = cond p.cut (drop p.ellipsis ellipsis ++ drop p.content content) (drop p.content content)
-
--- a, and b more if so
-unfoldable pub plus_if_of : Bool → ℕ → ℕ → ℕ
-plus_if_of true a b = a + b
-plus_if_of false a b = a

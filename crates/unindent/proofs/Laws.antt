@@ -1,14 +1,15 @@
 -- The lines as the code goes through them, from one that is not empty to the next (`to_next`): what of the edit comes up to there (`plan_pass`, `plan_last`), the prefix (`plan_off`),
 -- and which of the lines are refused (`begin_pass`, `begin_last`). A prefix without 0A is held against the data, and not against the line (`begins_line`).
 use mathlib.Core.Path.{◌≡◌, refl, sym, ap, ◌∙◌}
-use mathlib.Core.Bool.{Bool, true, false, cond, ◌&&◌, ◌||◌, not, false≢true}
+use mathlib.Core.Bool.{Bool, true, false, cond, ◌&&◌, not, false≢true, ◌||◌, or-false, or_assoc}
 use mathlib.Core.List.{List, [], ◌∷◌, ◌++◌}
 use Prim.Native.Nat.{ℕ, zero, suc, ◌+◌, ◌≤◌, ◌<◌}
-use native.Mathlib.Numerals.{add-one}
 use native.Mathlib.Omega.{arith}
 use lib.Dec.{eqb}
-use lib.ListN.{length, drop, get_or, length-drop, drop_of_length-le}
-use lib.Seq.{drop-cons, drop-drop}
+use lib.ListN.{length, take, drop, length-drop, get_or}
+use native.Mathlib.Numerals.{add-one}
+use Rattle.std.specs.Cmp.Lexicographic.{pointwise}
+use lib.Seq.{drop-drop}
 use borrow.Author.Tests.{eqb-true}
 use Rattle.recording.specs.Recording.{Bytes, Item}
 use Rattle.recording.specs.Edit.{Op, keep, skip, front, back, entries_only, edit}
@@ -200,25 +201,20 @@ begin_last p start (b ∷ d) h = go (start && not (eqb b 0x0A)) refl h (λ k. be
     go true e k f = absurd (omega arith)
     go false e k f = begin_step p start b d e ∙ f (omega arith)
 
--- ── byte by byte
-pub newline_next : (j : ℕ) (d : Bytes) → j < length d → has_newline_in (drop j d) ≡ (eqb (get_or d j 0) 0x0A || has_newline_in (drop (j + 1) d))
-newline_next j d more = rw (add-one, drop-cons d j 0 more)
+-- ── one byte more
+pub newline_next : (j : ℕ) (d : Bytes) → j < length d → has_newline_in (take (j + 1) d) ≡ (has_newline_in (take j d) || eqb (get_or d j 0) 0x0A)
+newline_next j d h = rw add-one (go j d h)
+  where
+    go : (j : ℕ) (d : Bytes) → j < length d → has_newline_in (take (suc j) d) ≡ (has_newline_in (take j d) || eqb (get_or d j 0) 0x0A)
+    go j [] h = absurd (omega arith)
+    go zero (b ∷ d) h = or-false (eqb b 0x0A)
+    go (suc j) (b ∷ d) h = ap (λ (t : Bool). eqb b 0x0A || t) (go j d (omega arith)) ∙ sym (or_assoc (eqb b 0x0A) (has_newline_in (take j d)) (eqb (get_or d j 0) 0x0A))
 
-pub newline_end : (j : ℕ) (d : Bytes) → length d ≤ j → has_newline_in (drop j d) ≡ false
-newline_end j d past = rw (drop_of_length-le d {i = j} past)
-
--- a text that is shorter than the prefix does not begin with it
-pub begins_short : (p l : Bytes) → length l < length p → begins_with p l ≡ false
-begins_short p l h = elim (begins_with p l) as (λ t. begins_with p l ≡ t → t ≡ false) [ true ↦ λ e. absurd (omega (arith, h, begins_long p l e)) | false ↦ λ e. refl ] refl
-
-pub begins_next : (j k : ℕ) (p d : Bytes) → j < length p → k < length d → begins_with (drop j p) (drop k d) ≡ (eqb (get_or p j 0) (get_or d k 0) && begins_with (drop (j + 1) p) (drop (k + 1) d))
-begins_next j k p d h g =
-    let a : j + 1 ≡ suc j = omega arith in
-    let b : k + 1 ≡ suc k = omega arith in
-    (λ i. begins_with (drop-cons p j 0 h i) (drop-cons d k 0 g i)) ∙ (λ i. eqb (get_or p j 0) (get_or d k 0) && begins_with (drop (sym a i) p) (drop (sym b i) d))
-
-pub begins_end : (j : ℕ) (p l : Bytes) → length p ≤ j → begins_with (drop j p) l ≡ true
-begins_end j p l past = rw (drop_of_length-le p {i = j} past)
+-- ── what `starts_with` compares
+pub begins_is : (p d : Bytes) → pointwise eqb p (take (length p) d) ≡ begins_with p d
+begins_is [] d = refl
+begins_is (b ∷ p) [] = refl
+begins_is (b ∷ p) (c ∷ d) = ap (λ (t : Bool). eqb b c && t) (begins_is p d)
 
 -- ── at the first byte of a line that is not empty; `from` is a place before it
 module _ (p d : Bytes) (one_line : has_newline_in p ≡ false) (from : ℕ) (start : Bool) (at : ℕ) (next : at ≡ from + to_next start (drop from d)) (more : at < length d) where

@@ -50,7 +50,7 @@ module _ (p d : Bytes) (one_line : has_newline_in p ≡ false) (size at : ℕ) (
 
   module _ (more : at < length d) where
     pub scan-refused : begins_with p (drop at d) ≡ false → prefix_fault p d ≡ number_of_refusal PrefixMissing
-    unfolding prefix_fault number_of_refusal
+    unfolding prefix_fault
     scan-refused b =
         let e : all_begin p (split_lines d) ≡ false =
         s.same ∙ laws.judged p d one_line s.from s.start at s.next more ∙ ap (λ (t : Bool). t && all_begin p (drop 1 (split_lines (drop at d)))) b in

@@ -26,7 +26,7 @@ use Rattle.outcomes.proofs.SecondLaws.{Given, content, second, job, BothFine, Sh
 
 -- a 0A in the prefix comes first
 pub newline_refused : (p d : Bytes) → has_newline_in p ≡ true → prefix_fault p d ≡ number_of_refusal PrefixNewline
-unfolding prefix_fault number_of_refusal
+unfolding prefix_fault
 newline_refused p d h = rw h
 
 -- ── what the call leaves has the sizes that are settled

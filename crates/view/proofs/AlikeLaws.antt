@@ -1,5 +1,6 @@
 -- Q-6's theorem (`floors_agree`): recordings that are alike under the label leave the floor the same items. And so do two calls that have kept their promise (`running_agrees`).
 -- The idea: the floor's edits of the two are the same item for item but for raw sequences under the label (`edits_same`), and these are dropped.
+use Rattle.recording.specs.Outcome.{Answer}
 use Prim.Native.Nat.{ℕ, zero, suc}
 use native.Mathlib.Nat.{zero-add}
 use mathlib.Core.Bool.{Bool, cond}
@@ -7,7 +8,6 @@ use mathlib.Core.Path.{◌≡◌, refl, sym, ap, ◌∙◌, subst}
 use mathlib.Core.List.{List, [], ◌∷◌, ◌++◌, append_assoc}
 use lib.ListN.{length, take}
 use Rattle.chars.specs.Chars.{Character, chars, wide}
-use Rattle.recording.specs.declared.Answer.{Answer}
 use Rattle.recording.specs.Recording.{Bytes, Recording, Item, byte, push, pop, raw, byte_items, items, encode}
 use Rattle.recording.specs.Coloured.{open_after, balanced_from, balanced, coloured}
 use Rattle.recording.specs.Edit.{Op, keep, skip, put, front, back, entries_only, edit}

@@ -1,9 +1,9 @@
 -- What Q-6 asks to be shown: of two recordings that differ only under the label the floor reads the same (`Theorem`); what each reader reads of one recording, in the request's words (`Readers`);
 -- and a view after a list of layout calls (`Follows`). `proofs/Shown.antt` has all three.
+use Rattle.recording.specs.Outcome.{Answer}
 use Rattle.std.specs.Prelude.{◌≤◌, ◌<◌, Bool, true, false, cond, ◌||◌, ◌≡◌, ◌⊎◌, List, [], ◌∷◌, ◌++◌, eqb, length, take, drop, replicate}
 use Rattle.chars.specs.Chars.{Character, chars, wide}
 use Rattle.newlines.specs.Newlines.{newlines}
-use Rattle.recording.specs.declared.Answer.{Answer}
 use Rattle.recording.specs.Lists.{AllOf, same}
 use Rattle.recording.specs.Recording.{Bytes, Recording, Item, byte, push, pop, raw, items, encode}
 use Rattle.recording.specs.Coloured.{Coloured, coloured, balanced, values}

@@ -3,10 +3,10 @@
 use Prim.Native.Nat.{ℕ, zero, suc, ◌+◌, ◌≤◌, ◌<◌}
 use native.Mathlib.Omega.{arith}
 use native.Mathlib.Numerals.{add-one, add-two, add-three}
-use mathlib.Core.Bool.{Bool, true, false, cond}
+use mathlib.Core.Bool.{Bool, true, false}
 use mathlib.Core.Path.{◌≡◌, refl, sym, ap, ◌∙◌, subst}
 use mathlib.Core.List.{List, [], ◌∷◌, tail}
-use lib.Dec.{leb, T}
+use lib.Dec.{leb}
 use lib.ListN.{length, drop, get_or}
 use borrow.Author.Tests.{leb-true, leb-false}
 use Rattle.chars.specs.Utf8.{Span, span, table37, row_of}
@@ -15,85 +15,17 @@ use Rattle.chars.specs.Chars.{char_in, chars, all_ok, well_formed_of}
 use Rattle.chars.specs.Read.{read_of}
 use Rattle.chars.specs.declared.Read.{Read}
 use Rattle.well_formed.specs.Blocks.{Ended, Fits, EndsAt, FitsAt, Fitting, Plain}
+use Rattle.chars.proofs.CharsLaws.{chars_end}
 use Rattle.chars.proofs.ReaderLaws.{good, read_by, read_by_lem, read_in, two_bytes, three_bytes, four_bytes, in_span, above}
 use Rattle.chars.proofs.FoldLaws.{ascii_len, ascii_ok, ok_next}
 
-pub cond-le : (t : Bool) (p q n : ℕ) → p ≤ n → q ≤ n → cond t p q ≤ n
-cond-le true p q n h k = h
-cond-le false p q n h k = k
-
-pub true_false : true ≡ false → ⊥
-true_false e = subst T e tt
-
--- ── one byte, as the code tests it
-pub fits_by : (w x y z low high p q : ℕ) (t : Bool) → (t ≡ true → Ended w x y → ⊥) → (t ≡ false → Ended w x y)
-    → (0x80 ≤ low) × (y ≡ 0xE0 → 0xA0 ≤ low) × (y ≡ 0xF0 → 0x90 ≤ low) → (high ≤ 0xBF) × (y ≡ 0xED → high ≤ 0x9F) × (y ≡ 0xF4 → high ≤ 0x8F)
-    → (p ≡ 0 → (low ≤ z) × (z ≤ high)) → (q ≡ 0 → 0x80 ≤ z → (0xC2 ≤ z) × (z ≤ 0xF4)) → cond t p q ≡ 0 → Fits w x y z
-fits_by w x y z low high p q true o c l h f g e =
-    let k = f e in
-    record {
-      lead = λ d. absurd (o refl d);
-      more = λ d. (
-        omega (arith, k.0, l.0),
-        omega (arith, k.1, h.0),
-        (λ j. omega (arith, k.0, l.1 j)),
-        (λ j. omega (arith, k.0, l.2 j)),
-        (λ j. omega (arith, k.1, h.1 j)),
-        (λ j. omega (arith, k.1, h.2 j)),
-      );
-    }
-fits_by w x y z low high p q false o c l h f g e = record { lead = λ d. g e; more = λ d. absurd (d (c refl)) }
-
 -- ── stretches that fit
-module _ (s : List ℕ) where
-  pub fitting_more : (a b : ℕ) → Fitting a b s → FitsAt b s → Fitting a (suc b) s
-  fitting_more a b f g i p q = go (leb b i) refl
-    where
-      go : (t : Bool) → leb b i ≡ t → FitsAt i s
-      go true e =
-          let k : b ≡ i = omega (arith, leb-true b i e, q) in
-          subst (λ (n : ℕ). FitsAt n s) k g
-      go false e = f i p (leb-false b i e)
-
-  pub fitting_join : (a b c d : ℕ) → Fitting a b s → Fitting c d s → c ≤ b → Fitting a d s
-  fitting_join a b c d f g h i p q = go (leb b i) refl
-    where
-      go : (t : Bool) → leb b i ≡ t → FitsAt i s
-      go true e = g i (omega (arith, leb-true b i e, h)) q
-      go false e = f i p (leb-false b i e)
-
-  -- from bytes one after the other to places
-  pub ends_at : (j : ℕ) → Ended (get_or s j 0) (get_or s (j + 1) 0) (get_or s (j + 2) 0) → EndsAt (j + 3) s
-  ends_at j h =
-      let k : suc (suc (suc j)) ≡ j + 3 = omega arith in
-      subst (λ (n : ℕ). EndsAt n s) k (rw (add-one, add-two) at h)
-
-  pub fits_at : (j : ℕ) → Fits (get_or s j 0) (get_or s (j + 1) 0) (get_or s (j + 2) 0) (get_or s (j + 3) 0) → FitsAt (j + 3) s
-  fits_at j h =
-      let k : suc (suc (suc j)) ≡ j + 3 = omega arith in
-      subst (λ (n : ℕ). FitsAt n s) k (rw (add-one, add-two, add-three) at h)
-
-  -- one place more of a block
-  pub block_more : (from i : ℕ) → Fitting (from + 3) (from + 3 + i) s
-      → Fits (get_or s (from + i) 0) (get_or s (from + i + 1) 0) (get_or s (from + i + 2) 0) (get_or s (from + i + 3) 0) → Fitting (from + 3) (from + 3 + (i + 1)) s
-  block_more from i f g =
-      let k : from + i + 3 ≡ from + 3 + i = omega arith in
-      let j : suc (from + 3 + i) ≡ from + 3 + (i + 1) = omega arith in
-      subst (λ (n : ℕ). Fitting (from + 3) n s) j (fitting_more (from + 3) (from + 3 + i) f (subst (λ (n : ℕ). FitsAt n s) k (fits_at (from + i) g)))
-
-  pub first_three : Fits 0 0 0 (get_or s 0 0) → Fits 0 0 (get_or s 0 0) (get_or s 1 0) → Fits 0 (get_or s 0 0) (get_or s 1 0) (get_or s 2 0) → Fitting 0 3 s
-  first_three x y z = fitting_more 0 2 (fitting_more 0 1 (fitting_more 0 0 (λ i p q. absurd (omega arith)) x) y) z
-
-  -- ASCII fits where no sequence is open, and opens none
-  pub plain_fits : (n a : ℕ) → EndsAt a s → Plain a (a + n) s → Fitting a (a + n) s
-  plain_fits zero a h p = λ i q r. absurd (omega (arith, q, r))
-  plain_fits (suc n) a h p =
-      let z : get_or s a 0 < 128 = p a (omega arith) (omega arith) in
-      let here : FitsAt a s = record { lead = λ k l. absurd (omega arith); more = λ k. absurd (k h) } in
-      let next : EndsAt (suc a) s = record { second = omega arith; third = omega (arith, h.second); fourth = omega (arith, h.third) } in
-      let e : suc a + n ≡ a + suc n = omega arith in
-      let rest : Fitting (suc a) (a + suc n) s = subst (λ (m : ℕ). Fitting (suc a) m s) e (plain_fits n (suc a) next (λ i q r. p i (omega arith) (omega arith))) in
-      fitting_join a (suc a) (suc a) (a + suc n) (fitting_more a a (λ i q r. absurd (omega arith)) here) rest (omega arith)
+pub fitting_join : (s : List ℕ) (a b c d : ℕ) → Fitting a b s → Fitting c d s → c ≤ b → Fitting a d s
+fitting_join s a b c d f g h i p q = go (leb b i) refl
+  where
+    go : (t : Bool) → leb b i ≡ t → FitsAt i s
+    go true e = g i (omega (arith, leb-true b i e, h)) q
+    go false e = f i p (leb-false b i e)
 
 -- ── the character at a place, from its bytes
 record Whole (s : List ℕ) (at n : ℕ) : Type 0 where
@@ -375,3 +307,14 @@ passed s e r h fit p q l = sym (passes r s 0 r (omega arith) (omega arith) (omeg
 pub passed_back : (s : List ℕ) (e from r : ℕ) → from + 3 ≡ e → e ≤ length s → Fitting 0 e s → (r ≡ from + 3 → EndsAt (from + 3) s) × (r < from + 3 → 0xC0 ≤ get_or s r 0) → r ≤ from + 3
     → all_ok (chars (drop r s)) ≡ well_formed_of s
 passed_back s e from r k h fit b p = passed s (from + 3) r (omega arith) (subst (λ (n : ℕ). Fitting 0 n s) (sym k) fit) p b.0 b.1
+
+-- ── ASCII is well-formed
+plain_ok : (k : ℕ) (s : List ℕ) (at : ℕ) → at + k ≡ length s → Plain at (length s) s → all_ok (chars (drop at s)) ≡ true
+plain_ok zero s at e p = ap all_ok (chars_end s at (omega arith))
+plain_ok (suc k) s at e p =
+    let h : get_or s at 0 < 128 = p at (omega arith) (omega arith) in
+    ok_next s at 1 (omega arith) (sym (ascii_len s at h)) true (ascii_ok s at h) ∙ plain_ok k s (at + 1) (omega arith) (λ i q r. p i (omega arith) r)
+
+pub plain_formed : (s : List ℕ) → Plain 0 (length s) s → well_formed_of s ≡ true
+unfolding well_formed_of
+plain_formed s p = plain_ok (length s) s 0 (omega arith) p

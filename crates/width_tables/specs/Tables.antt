@@ -1,12 +1,12 @@
 -- Two tables of widths: a call that is lent only texts whose characters are as wide by both answers the same by both. So a change of the table changes no call that is lent no text with a character
 -- of another width. `proofs/TablesLaws.antt` proves it, for any two tables, and that by its own table the library is what it says it is.
+use Rattle.recording.specs.Outcome.{Answer}
 use Rattle.std.specs.Prelude.{ℕ, Bool, cond, ◌&&◌, ◌≡◌, length}
 use mathlib.Core.List.{List, [], ◌∷◌, ◌++◌, tail}
 use Rattle.chars.specs.Width.{Range, ranges, width_in}
 use Rattle.chars.specs.Chars.{Character, chars, text_width_of}
 use Rattle.chars.specs.Cut.{truncate_end_pos_of, truncate_end_width, truncate_start_pos_of, truncate_start_width, zero_width_len_of}
 use Rattle.buffer.specs.Place.{over}
-use Rattle.recording.specs.declared.Answer.{Answer}
 use Rattle.recording.specs.Recording.{Bytes, Recording}
 use Rattle.recording.specs.Outcome.{Room, Outcome, Lent, room_in, Promised, lent_lines}
 use Rattle.layout.specs.Layout.{Job, with_second, alone, wrapped_lines, replaced_parts, tabs_expanded, Call, outcome, content_after}

@@ -2,7 +2,7 @@
 -- The idea: what is done, and the plan from the cursor on, is the whole plan (`State`); one law for a line that others follow, one for the last.
 use Prim.Native.Nat.{ℕ, ◌-◌, ◌≤◌, ◌<◌}
 use native.Mathlib.Omega.{arith}
-use mathlib.Core.Bool.{Bool, true, false}
+use mathlib.Core.Bool.{Bool}
 use mathlib.Core.Path.{◌≡◌, refl, sym, ap, ◌∙◌}
 use mathlib.Core.List.{List, [], ◌∷◌, ◌++◌, append_assoc, append-nil}
 use lib.ListN.{length, drop, length-drop}
@@ -21,7 +21,8 @@ use Rattle.layout.specs.Layout.{wrap_ops, wrap, result_items}
 use Rattle.layout.proofs.LineLaws.{some_lines}
 use Rattle.layout.proofs.WordLaws.{some_all}
 use Rattle.line.specs.Rest.{rest_lines}
-use Rattle.line.specs.Line.{following}
+use Rattle.std.specs.Prelude.{Option, Some, None, IfSome}
+use Rattle.line.specs.Line.{following, lines_on}
 use Rattle.line.specs.declared.Next.{Next}
 use Rattle.line.proofs.RestLaws.{rest_all}
 use Rattle.wrap.specs.Plan.{line_items, line_left}
@@ -102,6 +103,10 @@ same_left ds ns ts c c' a k = λ i. items_from (a i) ts (drop (a i) ds) (entries
 same_ready : (ds ns ts : List ℕ) (c c' : Cursor) → c'.at ≡ c.at → c'.k ≡ c.k → Ready ds ns ts c → Ready ds ns ts c'
 same_ready ds ns ts c c' a k r = record { within = omega (arith, k, r.within); valid = rw (a, k) r.valid; short = r.short }
 
+-- what a promise says of a value that is there
+pub at_some : {o : Option ℕ} {n : ℕ} (P : ℕ → Type 0) → o ≡ Some n → IfSome o P → P n
+at_some P e p = rw e at p
+
 -- nothing is left behind the last byte
 back_end : (ds ns ts : List ℕ) (c : Cursor) → back (length ds - c.at) (left ds ns ts c) ≡ []
 unfolding left
@@ -130,61 +135,59 @@ module _ (ds ns ts : List ℕ) (w : ℕ) (b : Bool) (o₀ o : Out) (c : Cursor) 
     abbrev gone : List Item
     gone = line_left (at - c.at) (r.end - at) (left ds ns ts c)
 
-    abbrev later : List Item
-    later = edit (wrap_ops (length ds) r.end (rest_lines w b r.next (drop r.next ds))) gone
+    abbrev later : ℕ → List Item
+    later n = edit (wrap_ops (length ds) r.end (rest_lines w b n (drop n ds))) gone
 
     abbrev tail : List Item
     tail = entries_only (front (length ds - r.end) gone)
 
-    parted : r.more ≡ true → left_over ≡ turn ++ (newline ++ later)
-    unfolding following
-    parted m =
-        let k : rest_lines w b at (drop at ds) ≡ line_of at r.end ∷ rest_lines w b r.next (drop r.next ds) = e ∙ rw m in
+    parted : (n : ℕ) → r.next ≡ Some n → left_over ≡ turn ++ (newline ++ later n)
+    parted n m =
+        let k : rest_lines w b at (drop at ds) ≡ line_of at r.end ∷ rest_lines w b n (drop n ds) = e ∙ ap (λ (o : Option ℕ). line_of at r.end ∷ lines_on w b ds o) m in
         ap (λ (ls : List Line). edit (wrap_ops (length ds) c.at ls) (left ds ns ts c)) k
-        ∙ plan_more (length ds) c.at (line_of at r.end) (rest_lines w b r.next (drop r.next ds)) (left ds ns ts c) (rest_some w b r.next (drop r.next ds))
+        ∙ plan_more (length ds) c.at (line_of at r.end) (rest_lines w b n (drop n ds)) (left ds ns ts c) (rest_some w b n (drop n ds))
 
-    parted_last : r.more ≡ false → left_over ≡ turn ++ (tail ++ back (length ds - r.end) gone)
-    unfolding following
+    parted_last : r.next ≡ None → left_over ≡ turn ++ (tail ++ back (length ds - r.end) gone)
     parted_last m =
-        let k : rest_lines w b at (drop at ds) ≡ line_of at r.end ∷ [] = e ∙ rw m in
+        let k : rest_lines w b at (drop at ds) ≡ line_of at r.end ∷ [] = e ∙ ap (λ (o : Option ℕ). line_of at r.end ∷ lines_on w b ds o) m in
         ap (λ (ls : List Line). edit (wrap_ops (length ds) c.at ls) (left ds ns ts c)) k ∙ plan_last (length ds) c.at (line_of at r.end) (left ds ns ts c)
 
     pub room_line : Fits turn o
-    room_line = go r.more refl
+    room_line = go r.next refl
       where
-        go : (t : Bool) → r.more ≡ t → Fits turn o
-        go true m = fits_first turn (newline ++ later) left_over o (parted m) room_now
-        go false m = fits_first turn (tail ++ back (length ds - r.end) gone) left_over o (parted_last m) room_now
+        go : (t : Option ℕ) → r.next ≡ t → Fits turn o
+        go (Some n) m = fits_first turn (newline ++ later n) left_over o (parted n m) room_now
+        go None m = fits_first turn (tail ++ back (length ds - r.end) gone) left_over o (parted_last m) room_now
 
     module _ (o₁ : Out) (c₁ : Cursor) (v₁ : o₁ ≡ add turn o) (l₁ : left ds ns ts c₁ ≡ gone) (r₁ : Ready ds ns ts c₁) (a₁ : c₁.at ≡ r.end) where
       pub long_line : Long o₁ o
       long_line = rw v₁ (add_long turn o room_line)
 
       -- a line follows
-      module _ (m : r.more ≡ true) where
-        parted_both : left_over ≡ (turn ++ newline) ++ later
-        parted_both = parted m ∙ sym (append_assoc turn newline later)
+      module _ (n : ℕ) (m : r.next ≡ Some n) where
+        parted_both : left_over ≡ (turn ++ newline) ++ later n
+        parted_both = parted n m ∙ sym (append_assoc turn newline (later n))
 
         room_both : Fits (turn ++ newline) o
-        room_both = fits_first (turn ++ newline) later left_over o parted_both room_now
+        room_both = fits_first (turn ++ newline) (later n) left_over o parted_both room_now
 
         pub room_newline : Fits newline o₁
         room_newline = fits_then turn newline (turn ++ newline) o o₁ refl room_both v₁
 
-        pub step : (o₂ : Out) (c₂ : Cursor) → o₂ ≡ add newline o₁ → c₂.at ≡ c₁.at → c₂.k ≡ c₁.k → r.end ≤ r.next → r.next ≤ length ds → State ds ns ts w b o₀ o₂ c₂ r.next
+        pub step : (o₂ : Out) (c₂ : Cursor) → o₂ ≡ add newline o₁ → c₂.at ≡ c₁.at → c₂.k ≡ c₁.k → r.end ≤ n → n ≤ length ds → State ds ns ts w b o₀ o₂ c₂ n
         step o₂ c₂ v₂ a₂ k₂ p q =
-            let d = progress.further all left_over o₀ o S.written room (turn ++ newline) later o₂ parted_both (then turn newline (turn ++ newline) o o₁ o₂ refl room_both v₁ v₂) in
+            let d = progress.further all left_over o₀ o S.written room (turn ++ newline) (later n) o₂ parted_both (then turn newline (turn ++ newline) o o₁ o₂ refl room_both v₁ v₂) in
             let a : c₂.at ≡ r.end = a₂ ∙ a₁ in
             let g : left ds ns ts c₂ ≡ gone = same_left ds ns ts c₁ c₂ a₂ k₂ ∙ l₁ in
             record {
-              written = progress_same all later _ o₀ o₂ (λ i. edit (wrap_ops (length ds) (a i) (rest_lines w b r.next (drop r.next ds))) (g i)) d;
+              written = progress_same all (later n) _ o₀ o₂ (λ i. edit (wrap_ops (length ds) (a i) (rest_lines w b n (drop n ds))) (g i)) d;
               ready = same_ready ds ns ts c₁ c₂ a₂ k₂ r₁;
               here = omega (arith, a);
               within = q;
             }
 
       -- it is the last line
-      module _ (m : r.more ≡ false) where
+      module _ (m : r.next ≡ None) where
         abbrev behind : List Item
         behind = entries_only (front (length ds - c₁.at) (left ds ns ts c₁))
 

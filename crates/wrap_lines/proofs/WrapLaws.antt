@@ -3,9 +3,10 @@
 use Prim.Native.Nat.{ℕ, ◌+◌, ◌-◌, ◌*◌, ◌/◌, ◌≤◌, ◌<◌}
 use native.Mathlib.Omega.{arith}
 use native.Mathlib.Numerals.{add-one, add-two}
-use mathlib.Core.Bool.{Bool, true, false}
+use mathlib.Core.Bool.{Bool}
 use mathlib.Core.Path.{◌≡◌, refl, sym, ap, ◌∙◌}
 use mathlib.Core.List.{List, [], ◌∷◌, ◌++◌}
+use Rattle.std.specs.Prelude.{Some, None}
 use lib.ListN.{length, drop, set, length-append}
 use borrow.Author.Tests.{lt-ltb, le-ltb}
 use Rattle.buffer.specs.Place.{over, over_at}
@@ -31,12 +32,10 @@ numbers_length d (l ∷ ls) = omega (arith, numbers_length d ls)
 
 -- ── one line of those that are left
 module _ (w : ℕ) (b : Bool) (d : List ℕ) (at : ℕ) (r : Next) (e : rest_lines w b at (drop at d) ≡ line_of at r.end ∷ following w b d r) where
-  on : r.more ≡ true → rest_lines w b at (drop at d) ≡ line_of at r.end ∷ rest_lines w b r.next (drop r.next d)
-  unfolding following
-  on m = e ∙ rw m
+  on : (n : ℕ) → r.next ≡ Some n → rest_lines w b at (drop at d) ≡ line_of at r.end ∷ rest_lines w b n (drop n d)
+  on n m = e ∙ rw m
 
-  end : r.more ≡ false → rest_lines w b at (drop at d) ≡ line_of at r.end ∷ []
-  unfolding following
+  end : r.next ≡ None → rest_lines w b at (drop at d) ≡ line_of at r.end ∷ []
   end m = e ∙ rw m
 
   numbers_one : r.width ≡ line_width d (line_of at r.end) → line_numbers d (rest_lines w b at (drop at d)) ≡ (at ∷ r.end ∷ r.width ∷ []) ++ line_numbers d (following w b d r)
@@ -55,18 +54,18 @@ pub count_start : (w : ℕ) (b : Bool) (d : List ℕ) → Counted w b d 0 0 0
 count_start w b d = record { within = omega arith; few = omega arith; shown = omega arith; lines = omega (arith, ap length (rest_all w b d)); total = omega (arith, ap shown_bytes (rest_all w b d)) }
 
 module _ (w : ℕ) (b : Bool) (d : List ℕ) (count bytes at : ℕ) (S : Counted w b d count bytes at) (r : Next) (e : rest_lines w b at (drop at d) ≡ line_of at r.end ∷ following w b d r) where
-  pub count_on : r.more ≡ true → r.next ≤ length d → at < r.next → at ≤ r.end → r.end ≤ r.next → Counted w b d (count + 1) (bytes + (r.end - at)) r.next
-  count_on m n h p q =
-      let k = on w b d at r e m in
+  pub count_on : (n : ℕ) → r.next ≡ Some n → at ≤ r.end → (n ≤ length d) × (at < n) × (r.end ≤ n) → Counted w b d (count + 1) (bytes + (r.end - at)) n
+  count_on n m p q =
+      let k = on w b d at r e n m in
       record {
-        within = n;
-        few = omega (arith, S.few);
-        shown = omega (arith, S.shown);
+        within = q.0;
+        few = omega (arith, S.few, q);
+        shown = omega (arith, S.shown, q);
         lines = omega (arith, S.lines, ap length k);
         total = omega (arith, S.total, ap shown_bytes k);
       }
 
-  pub count_last : r.more ≡ false → (count + 1 ≡ length (wrap_lines_of w b d)) × (bytes + (r.end - at) ≡ shown_bytes (wrap_lines_of w b d))
+  pub count_last : r.next ≡ None → (count + 1 ≡ length (wrap_lines_of w b d)) × (bytes + (r.end - at) ≡ shown_bytes (wrap_lines_of w b d))
   count_last m = let k = end w b d at r e m in (omega (arith, S.lines, ap length k), omega (arith, S.total, ap shown_bytes k))
 
 -- ── writing: the numbers of the lines that are left are still to come
@@ -99,15 +98,13 @@ module _ (w : ℕ) (b : Bool) (d old lines : List ℕ) (k at : ℕ) (S : Written
   more : (lines' : List ℕ) (k' : ℕ) → k' ≡ k + line_size → lines' ≡ over_at k one lines → length lines' ≡ length lines → Filled all (line_numbers d (following w b d r)) old lines' 0 k'
   more lines' k' p q l = fill_more all rest old lines 0 k S.filled (omega arith) one (line_numbers d (following w b d r)) lines' k' (numbers_one w b d at r e v) q l p
 
-  pub next : (lines' : List ℕ) (k' : ℕ) → k' ≡ k + line_size → lines' ≡ over_at k one lines → length lines' ≡ length lines → r.more ≡ true → r.next ≤ length d → Written w b d old lines' k' r.next
-  unfolding following
-  next lines' k' p q l m n = record { filled = rw m at (more lines' k' p q l); within = n }
+  pub next : (lines' : List ℕ) (k' : ℕ) → k' ≡ k + line_size → lines' ≡ over_at k one lines → length lines' ≡ length lines → (n : ℕ) → r.next ≡ Some n → n ≤ length d → Written w b d old lines' k' n
+  next lines' k' p q l n m h = record { filled = rw m at (more lines' k' p q l); within = h }
 
-  whole : (lines' : List ℕ) (k' : ℕ) → k' ≡ k + line_size → lines' ≡ over_at k one lines → length lines' ≡ length lines → r.more ≡ false → (lines' ≡ over_at 0 all old) × (k' ≡ 0 + length all)
-  unfolding following
+  whole : (lines' : List ℕ) (k' : ℕ) → k' ≡ k + line_size → lines' ≡ over_at k one lines → length lines' ≡ length lines → r.next ≡ None → (lines' ≡ over_at 0 all old) × (k' ≡ 0 + length all)
   whole lines' k' p q l m = fill_end all (line_numbers d (following w b d r)) old lines' 0 k' (more lines' k' p q l) (rw m)
 
-  pub last : (lines' : List ℕ) (k' : ℕ) → k' ≡ k + line_size → lines' ≡ over_at k one lines → length lines' ≡ length lines → r.more ≡ false
+  pub last : (lines' : List ℕ) (k' : ℕ) → k' ≡ k + line_size → lines' ≡ over_at k one lines → length lines' ≡ length lines → r.next ≡ None
       → (lines' ≡ over all old) × (k' / line_size ≡ length (wrap_lines_of w b d))
   unfolding over_at
   last lines' k' p q l m =

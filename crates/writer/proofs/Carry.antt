@@ -287,6 +287,10 @@ module _ (ds ns ts : List ℕ) (n : ℕ) (c : Cursor) (r : Ready ds ns ts c) (h 
     },
   )
 
+-- what `keep` writes of the items that it passes: all of them (`skip` writes `entries_only`)
+abbrev pub same : List Item → List Item
+same is = is
+
 -- ── the state of the loop: `sel` says what of the items is written
 pub record State (sel : List Item → List Item) (ds ns ts : List ℕ) (n : ℕ) (o₀ : Out) (c₀ : Cursor) (o : Out) (c : Cursor) (p : ℕ) : Type 0 where
   pub done : List Item

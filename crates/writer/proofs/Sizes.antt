@@ -1,7 +1,7 @@
 -- Refusals 9 and 21 to 24 from sizes: the tests in order, what is known when none refuses, and that they are `over_limit` and `no_room` of a result with these lengths.
 -- Also the sizes of a content, for the sums that callers take.
 use mathlib.Core.Path.{◌≡◌, refl, sym, ap, ◌∙◌}
-use mathlib.Core.Bool.{Bool, true, ◌||◌}
+use mathlib.Core.Bool.{Bool, true, ◌||◌, false≢true}
 use mathlib.Core.List.{List, [], ◌∷◌}
 use Prim.Native.Nat.{ℕ, ◌-◌, ◌*◌, ◌%◌, ◌≤◌, ◌<◌}
 use native.Mathlib.Omega.{arith}
@@ -20,10 +20,11 @@ use Rattle.recording.proofs.FaultLaws.{inside_none, first_of-zero, refuse_if-zer
 use Rattle.recording.proofs.Lists.{or_left, or_right}
 use Rattle.recording.proofs.ShareLaws.{or_comm}
 use Rattle.recording.proofs.SizeLaws.{entry_count, count-append, count_numbers}
-use Rattle.writer.specs.declared.Settled.{Settled}
-use Rattle.writer.specs.declared.Settled.TheVariants as S
+use Rattle.std.specs.Prelude as Std
+use Rattle.std.specs.Prelude.{is_ok}
+use Rattle.recording.specs.Check.{fault_of}
 use Rattle.writer.specs.Write.{blank, Fits}
-use Rattle.writer.specs.Sizes.{sizes_fault, settled_fault}
+use Rattle.writer.specs.Sizes.{sizes_fault}
 use Rattle.writer.proofs.Carry.{count-bytes, count_none, one_entry}
 
 module _ (d e t l : ℕ) (o : Room) where
@@ -71,17 +72,20 @@ pub same_fault : (x : Result) (o : Room) (d e t l : ℕ) → d ≡ length x.reco
 unfolding over_limit no_room sizes_fault
 same_fault x o d e t l ed ee et el = rw (ed, ee, et, el)
 
-pub size_refused : (x : Result) (o : Room) (v : Settled) (f : Refusal) (d e t l : ℕ) → settled_fault v ≡ sizes_fault d e t l o → v ≡ S.Refused f
+pub size_refused : (x : Result) (o : Room) (v : Std.Result Unit Refusal) (f : Refusal) (d e t l : ℕ) → fault_of v ≡ sizes_fault d e t l o → v ≡ Std.Err f
     → d ≡ length x.recording.data_bytes → e ≡ length x.recording.entry_numbers → t ≡ length x.recording.text → l ≡ length x.lines
     → first_of (over_limit x.recording ∷ no_room o x ∷ []) ≡ number_of_refusal f
-unfolding settled_fault
-size_refused x o v f d e t l s q ed ee et el = same_fault x o d e t l ed ee et el ∙ sym s ∙ ap settled_fault q
+size_refused x o v f d e t l s q ed ee et el = same_fault x o d e t l ed ee et el ∙ sym s ∙ ap fault_of q
 
-pub size_granted : (x : Result) (o : Room) (v : Settled) (d e t l : ℕ) → settled_fault v ≡ sizes_fault d e t l o → v ≡ S.Room
+pub size_granted : (x : Result) (o : Room) (v : Std.Result Unit Refusal) (d e t l : ℕ) → fault_of v ≡ sizes_fault d e t l o → v ≡ Std.Ok tt
     → d ≡ length x.recording.data_bytes → e ≡ length x.recording.entry_numbers → t ≡ length x.recording.text → l ≡ length x.lines
     → first_of (over_limit x.recording ∷ no_room o x ∷ []) ≡ 0
-unfolding settled_fault
-size_granted x o v d e t l s q ed ee et el = same_fault x o d e t l ed ee et el ∙ sym s ∙ ap settled_fault q
+size_granted x o v d e t l s q ed ee et el = same_fault x o d e t l ed ee et el ∙ sym s ∙ ap fault_of q
+
+-- a verdict that is Ok is no fault
+pub granted : (v : Std.Result Unit Refusal) → is_ok v ≡ true → fault_of v ≡ 0
+granted (Std.Ok x) h = refl
+granted (Std.Err f) h = absurd (false≢true h)
 
 -- a text over its limit, whatever the other sizes are
 over_text : (d e t l : ℕ) (o : Room) → 65536 < t → sizes_fault d e t l o ≡ 9

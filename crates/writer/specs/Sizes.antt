@@ -1,9 +1,8 @@
 -- Refusals 9 and 21 to 24 from sizes alone, for code that knows a result's lengths before it writes.
 use Rattle.std.specs.Prelude.{ℕ, ◌||◌, [], ◌∷◌, ltb}
-use Rattle.recording.specs.Refusals.{number_of_refusal, data_limit, entry_limit, text_limit, first_of, refuse_if}
+use Rattle.recording.specs.Refusals.{data_limit, entry_limit, text_limit, first_of, refuse_if}
 use Rattle.recording.specs.Outcome.{Room}
-use Rattle.writer.specs.declared.Settled.{Settled}
-use Rattle.writer.specs.declared.Settled.TheVariants as S
+use Rattle.writer.specs.declared.Lengths.{Lengths}
 
 -- the lengths of a result (data bytes, entry numbers, text bytes, line numbers) against the limits and the room: `over_limit`, then `no_room`
 unfoldable pub sizes_fault : ℕ → ℕ → ℕ → ℕ → Room → ℕ
@@ -14,8 +13,6 @@ sizes_fault d e t l o =
 abbrev pub room_of_state : ℕ → ℕ → ℕ → ℕ → Room
 room_of_state d e t l = record { data_bytes = d; entry_numbers = e; text = t; lines = l }
 
--- 0: the result has room
-unfoldable pub settled_fault : Settled → ℕ
-unfolding number_of_refusal
-settled_fault (S.Refused f) = number_of_refusal f
-settled_fault S.Room = 0
+-- the room that lent buffers of these lengths have
+abbrev pub room_of_lengths : Lengths → Room
+room_of_lengths s = room_of_state s.bytes s.numbers s.texts s.lines

@@ -4,7 +4,7 @@ use Rattle.recording.specs.Share.{Inside}
 use Rattle.share.specs.Placed.{placed_from}
 use Rattle.buffer.specs.Place.{over_at}
 use Rattle.recording.specs.declared.Entry.{Entry}
-use Rattle.recording.specs.Recording.{entries_of, numbers_of_ranges, part_of, Item, item_of, items_from, data_of, start_in, new_text, entries_from, text_from}
+use Rattle.recording.specs.Recording.{Recording, entries_of, numbers_of_ranges, part_of, Item, item_of, items_from, data_of, start_in, new_text, entries_from, text_from}
 use Rattle.recording.specs.Refusals.{bad_shape_of, data_limit, text_limit}
 use Rattle.writer.specs.declared.Cursor.{Cursor}
 
@@ -90,6 +90,16 @@ pub record Ready (ds ns ts : List ℕ) (c : Cursor) : Type 0 where
 -- what is left of the content there
 unfoldable pub left : List ℕ → List ℕ → List ℕ → Cursor → List Item
 left ds ns ts c = items_from c.at ts (drop c.at ds) (entries_of (drop c.k ns))
+
+-- the same of a recording
+abbrev pub SoundIn : Recording → Type 0
+SoundIn r = Sound r.data_bytes r.entry_numbers r.text
+
+abbrev pub ReadyIn : Recording → Cursor → Type 0
+ReadyIn r c = Ready r.data_bytes r.entry_numbers r.text c
+
+abbrev pub left_in : Recording → Cursor → List Item
+left_in r c = left r.data_bytes r.entry_numbers r.text c
 
 -- the next entry's position; past every data if there is none
 unfoldable pub place_for : List Entry → ℕ

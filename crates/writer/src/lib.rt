@@ -1,6 +1,6 @@
 // Writing recordings into lent buffers, piece by piece: each piece and each entry at the current ends.
 // Pieces and entries go in the order of the recording that is read, and no entry is dropped.
-// `bytes`, `numbers` and `texts` are the lent buffers; `content`, `entries` and `text` the recording that is read.
+// `bytes`, `numbers` and `texts` are the lent buffers; `content` is the recording that is read.
 // Every step has one equation: the buffers at exit are those at entry with some items put at the ends (`add`).
 // The data goes run by run, each straight to its final place: after it the buffer holds the finished result up to there, and beyond it what it held before (`RunHeld`).
 #![tactic(auto)]
@@ -9,14 +9,16 @@ ghost use Rattle.std.specs.Prelude.{◌≡◌, true, false, ◌+◌, ◌-◌, �
 ghost use Rattle.share.specs.Placed.{placed_from};
 ghost use Rattle.buffer.specs.Place.{over_at, part};
 ghost use Rattle.buffer.specs.Held.{RunHeld};
-ghost use Rattle.recording.specs.Recording.{recording, entries_of, numbers_of_ranges, items};
+ghost use Rattle.recording.specs.Recording.{entries_of, numbers_of_ranges, items};
+ghost use Rattle.recording.specs.Read.{recording_of};
 ghost use Rattle.recording.specs.Edit.{front, back, entries_only};
 ghost use Rattle.recording.specs.Refusals.{bad_shape_of, data_limit, text_limit};
-ghost use Rattle.writer.specs.Write.{out, add, Fits, numbers_for, text_for, Ready, Sound, left, place_for, start_for, add_for, item_at};
-ghost use Rattle.writer.specs.Sizes.{sizes_fault, room_of_state, settled_fault};
+ghost use Rattle.writer.specs.Write.{out, add, Fits, numbers_for, text_for, ReadyIn, SoundIn, left_in, place_for, start_for, add_for, item_at};
+ghost use Rattle.recording.specs.Check.{fault_of};
+ghost use Rattle.writer.specs.Sizes.{sizes_fault, room_of_lengths};
 
 use buffer::put;
-use recording::{Entry, Refusal, entry_at};
+use recording::{Entry, Recording, Refusal, entry_at};
 use share::{Place, place_in_result, set_entry};
 
 // A place in a content (data offset, index of the next entry's first number), and how far the three buffers are written.
@@ -29,11 +31,22 @@ pub struct Cursor {
     pub t: usize,
 }
 
-// Whether a result fits: its refusal, or that there is room.
+// The cursor at the start of a content, with nothing written.
+pub const START: Cursor = Cursor {
+    at: 0,
+    k: 0,
+    d: 0,
+    e: 0,
+    t: 0,
+};
+
+// The lengths of a result, or of the buffers that are lent for it: data bytes, entry numbers, text bytes and line numbers.
 #[derive(Clone, Copy)]
-pub enum Settled {
-    Refused(Refusal),
-    Room,
+pub struct Lengths {
+    pub bytes: usize,
+    pub numbers: usize,
+    pub texts: usize,
+    pub lines: usize,
 }
 
 // The position of the entry at k; past every data if there is none.
@@ -49,20 +62,19 @@ pub fn place_at(entries: &[u32], k: usize) -> usize
 
 // Where an entry's text goes, behind the entries and the text that are written: a pop has none, a raw sequence goes to the text's end,
 // a label to the part of the first push that has it.
+#[tactic(auto, unfolding(crate::specs::Write::start_for, crate::specs::Write::add_for))]
 fn place_of(kind: u32, numbers: &[u32], texts: &[u8], part: &[u8]) -> Place
     requires texts_len_bound { length texts.now ≤ text_limit }
     requires numbers_value { placed_from 0 [] (entries_of numbers.now) ≡ true }
     ensures { (result.start ≡ start_for kind part.now texts.now (entries_of numbers.now)) × (result.add ≡ add_for kind part.now texts.now (entries_of numbers.now)) }
 {
-    if kind == 0 {
-        return place_in_result(numbers, texts, part);
-    }
-    if kind == 1 {
-        return Place { start: 0, add: 0 };
-    }
-    Place {
-        start: texts.len() as u32,
-        add: part.len(),
+    match kind {
+        0 => place_in_result(numbers, texts, part),
+        1 => Place { start: 0, add: 0 },
+        _ => Place {
+            start: texts.len() as u32,
+            add: part.len(),
+        },
     }
 }
 
@@ -74,13 +86,7 @@ pub fn put_bytes(bytes: &mut [u8], from: &[u8], a: usize, b: usize, c: Cursor) -
     ensures run_held { RunHeld c.d result.d (part a b from.now) bytes.old bytes.new }
 {
     let d = put(bytes, c.d, from, a, b);
-    Cursor {
-        at: c.at,
-        k: c.k,
-        d: d,
-        e: c.e,
-        t: c.t,
-    }
+    Cursor { d, ..c }
 }
 
 // Writes an entry at the ends, with what its text adds to the text, and passes it.
@@ -124,37 +130,30 @@ pub fn keep_entries(
     bytes: &mut [u8],
     numbers: &mut [u32],
     texts: &mut [u8],
-    content: &[u8],
-    entries: &[u32],
-    text: &[u8],
+    content: Recording<'_>,
     from: Cursor,
     n: usize,
 ) -> Cursor
-    requires ready { Ready content.now entries.now text.now from }
-    requires at_le_n { (from.at ≤ n) × (n ≤ length content.now) }
-    requires fits { Fits (front (n - from.at) (left content.now entries.now text.now from)) (out bytes.old numbers.old texts.old from) }
+    requires ready { ReadyIn (recording_of content) from }
+    requires at_le_n { (from.at ≤ n) × (n ≤ length content.bytes.now) }
+    requires fits { Fits (front (n - from.at) (left_in (recording_of content) from)) (out bytes.old numbers.old texts.old from) }
     ensures result_after { out bytes.new numbers.new texts.new result ≡ add
-        (front (n - from.at) (left content.now entries.now text.now from)) (out bytes.old numbers.old texts.old from) }
-    ensures result_value { left content.now entries.now text.now result ≡ back (n - from.at) (left content.now entries.now text.now from) }
-    ensures ready_2 { Ready content.now entries.now text.now result × (result.at ≡ n)
-        × RunHeld from.d result.d (part from.at n content.now) bytes.old bytes.new }
+        (front (n - from.at) (left_in (recording_of content.entry) from)) (out bytes.old numbers.old texts.old from) }
+    ensures result_value { left_in (recording_of content.entry) result ≡ back (n - from.at) (left_in (recording_of content.entry) from) }
+    ensures ready_2 { ReadyIn (recording_of content.entry) result × (result.at ≡ n)
+        × RunHeld from.d result.d (part from.at n content.entry.bytes.now) bytes.old bytes.new }
 {
     let mut c = from;
-    let mut p = place_at(entries, c.k);
+    let mut p = place_at(content.entries, c.k);
+    // kept: no `for`: which entry is next stands in the cursor that each step hands on.
     while p <= n {
-        let e = entry_at(entries, c.k);
-        c = put_bytes(bytes, content, c.at, p, c);
-        c = put_entry(numbers, texts, text, e, c);
-        p = place_at(entries, c.k);
+        let e = entry_at(content.entries, c.k);
+        c = put_bytes(bytes, content.bytes, c.at, p, c);
+        c = put_entry(numbers, texts, content.text, e, c);
+        p = place_at(content.entries, c.k);
     }
-    c = put_bytes(bytes, content, c.at, n, c);
-    Cursor {
-        at: n,
-        k: c.k,
-        d: c.d,
-        e: c.e,
-        t: c.t,
-    }
+    c = put_bytes(bytes, content.bytes, c.at, n, c);
+    Cursor { at: n, ..c }
 }
 
 // Carries the items before the byte n on, the entries at that place included. A stretch without entries is one copy; what goes entry by entry is a call, so that callers have the copy in place.
@@ -163,33 +162,26 @@ pub fn keep(
     bytes: &mut [u8],
     numbers: &mut [u32],
     texts: &mut [u8],
-    content: &[u8],
-    entries: &[u32],
-    text: &[u8],
+    content: Recording<'_>,
     from: Cursor,
     n: usize,
 ) -> Cursor
-    requires ready { Ready content.now entries.now text.now from }
-    requires at_le_n { (from.at ≤ n) × (n ≤ length content.now) }
-    requires fits { Fits (front (n - from.at) (left content.now entries.now text.now from)) (out bytes.old numbers.old texts.old from) }
+    requires ready { ReadyIn (recording_of content) from }
+    requires at_le_n { (from.at ≤ n) × (n ≤ length content.bytes.now) }
+    requires fits { Fits (front (n - from.at) (left_in (recording_of content) from)) (out bytes.old numbers.old texts.old from) }
     ensures result_after { out bytes.new numbers.new texts.new result ≡ add
-        (front (n - from.at) (left content.now entries.now text.now from)) (out bytes.old numbers.old texts.old from) }
-    ensures result_value { left content.now entries.now text.now result ≡ back (n - from.at) (left content.now entries.now text.now from) }
-    ensures ready_2 { Ready content.now entries.now text.now result × (result.at ≡ n)
-        × RunHeld from.d result.d (part from.at n content.now) bytes.old bytes.new }
+        (front (n - from.at) (left_in (recording_of content.entry) from)) (out bytes.old numbers.old texts.old from) }
+    ensures result_value { left_in (recording_of content.entry) result ≡ back (n - from.at) (left_in (recording_of content.entry) from) }
+    ensures ready_2 { ReadyIn (recording_of content.entry) result × (result.at ≡ n)
+        × RunHeld from.d result.d (part from.at n content.entry.bytes.now) bytes.old bytes.new }
 {
+    // kept: one variable, since `keep-threads` says of it that each run goes where the one before ended
     let mut c = from;
-    if n < place_at(entries, c.k) {
-        c = put_bytes(bytes, content, from.at, n, c);
-        return Cursor {
-            at: n,
-            k: c.k,
-            d: c.d,
-            e: c.e,
-            t: c.t,
-        };
+    if n < place_at(content.entries, c.k) {
+        c = put_bytes(bytes, content.bytes, from.at, n, c);
+        return Cursor { at: n, ..c };
     }
-    c = keep_entries(bytes, numbers, texts, content, entries, text, c, n);
+    c = keep_entries(bytes, numbers, texts, content, c, n);
     c
 }
 
@@ -198,35 +190,28 @@ pub fn skip_entries(
     bytes: &mut [u8],
     numbers: &mut [u32],
     texts: &mut [u8],
-    content: &[u8],
-    entries: &[u32],
-    text: &[u8],
+    content: Recording<'_>,
     from: Cursor,
     n: usize,
 ) -> Cursor
-    requires ready { Ready content.now entries.now text.now from }
-    requires at_le_n { (from.at ≤ n) × (n ≤ length content.now) }
-    requires fits { Fits (entries_only (front (n - from.at) (left content.now entries.now text.now from))) (out bytes.old numbers.old texts.old from) }
+    requires ready { ReadyIn (recording_of content) from }
+    requires at_le_n { (from.at ≤ n) × (n ≤ length content.bytes.now) }
+    requires fits { Fits (entries_only (front (n - from.at) (left_in (recording_of content) from))) (out bytes.old numbers.old texts.old from) }
     ensures result_after { out bytes.new numbers.new texts.new result ≡ add
-        (entries_only (front (n - from.at) (left content.now entries.now text.now from)))
+        (entries_only (front (n - from.at) (left_in (recording_of content.entry) from)))
         (out bytes.old numbers.old texts.old from) }
-    ensures result_value { left content.now entries.now text.now result ≡ back (n - from.at) (left content.now entries.now text.now from) }
-    ensures ready_2 { Ready content.now entries.now text.now result × (result.at ≡ n) }
+    ensures result_value { left_in (recording_of content.entry) result ≡ back (n - from.at) (left_in (recording_of content.entry) from) }
+    ensures ready_2 { ReadyIn (recording_of content.entry) result × (result.at ≡ n) }
 {
     let mut c = from;
-    let mut p = place_at(entries, c.k);
+    let mut p = place_at(content.entries, c.k);
+    // kept: no `for`: which entry is next stands in the cursor that each step hands on.
     while p <= n {
-        let e = entry_at(entries, c.k);
-        c = put_entry(numbers, texts, text, e, c);
-        p = place_at(entries, c.k);
+        let e = entry_at(content.entries, c.k);
+        c = put_entry(numbers, texts, content.text, e, c);
+        p = place_at(content.entries, c.k);
     }
-    Cursor {
-        at: n,
-        k: c.k,
-        d: c.d,
-        e: c.e,
-        t: c.t,
-    }
+    Cursor { at: n, ..c }
 }
 
 // Carries on the entries before the byte n, those at that place included, and leaves the bytes.
@@ -235,31 +220,23 @@ pub fn skip(
     bytes: &mut [u8],
     numbers: &mut [u32],
     texts: &mut [u8],
-    content: &[u8],
-    entries: &[u32],
-    text: &[u8],
+    content: Recording<'_>,
     from: Cursor,
     n: usize,
 ) -> Cursor
-    requires ready { Ready content.now entries.now text.now from }
-    requires at_le_n { (from.at ≤ n) × (n ≤ length content.now) }
-    requires fits { Fits (entries_only (front (n - from.at) (left content.now entries.now text.now from))) (out bytes.old numbers.old texts.old from) }
+    requires ready { ReadyIn (recording_of content) from }
+    requires at_le_n { (from.at ≤ n) × (n ≤ length content.bytes.now) }
+    requires fits { Fits (entries_only (front (n - from.at) (left_in (recording_of content) from))) (out bytes.old numbers.old texts.old from) }
     ensures result_after { out bytes.new numbers.new texts.new result ≡ add
-        (entries_only (front (n - from.at) (left content.now entries.now text.now from)))
+        (entries_only (front (n - from.at) (left_in (recording_of content.entry) from)))
         (out bytes.old numbers.old texts.old from) }
-    ensures result_value { left content.now entries.now text.now result ≡ back (n - from.at) (left content.now entries.now text.now from) }
-    ensures ready_2 { Ready content.now entries.now text.now result × (result.at ≡ n) }
+    ensures result_value { left_in (recording_of content.entry) result ≡ back (n - from.at) (left_in (recording_of content.entry) from) }
+    ensures ready_2 { ReadyIn (recording_of content.entry) result × (result.at ≡ n) }
 {
-    if n < place_at(entries, from.k) {
-        return Cursor {
-            at: n,
-            k: from.k,
-            d: from.d,
-            e: from.e,
-            t: from.t,
-        };
+    if n < place_at(content.entries, from.k) {
+        return Cursor { at: n, ..from };
     }
-    skip_entries(bytes, numbers, texts, content, entries, text, from, n)
+    skip_entries(bytes, numbers, texts, content, from, n)
 }
 
 // Writes all of a recording at the ends; the place in the content that is read comes back as it was.
@@ -267,76 +244,43 @@ pub fn put_recording(
     bytes: &mut [u8],
     numbers: &mut [u32],
     texts: &mut [u8],
-    content: &[u8],
-    entries: &[u32],
-    text: &[u8],
+    content: Recording<'_>,
     c: Cursor,
 ) -> Cursor
-    requires sound { Sound content.now entries.now text.now }
-    requires fits { Fits (items (recording content.now entries.now text.now)) (out bytes.old numbers.old texts.old c) }
-    ensures result_after { out bytes.new numbers.new texts.new result ≡ add (items (recording content.now entries.now text.now))
+    requires sound { SoundIn (recording_of content) }
+    requires fits { Fits (items (recording_of content)) (out bytes.old numbers.old texts.old c) }
+    ensures result_after { out bytes.new numbers.new texts.new result ≡ add (items (recording_of content.entry))
         (out bytes.old numbers.old texts.old c) }
-    ensures at_value { (result.at ≡ c.at) × (result.k ≡ c.k) × RunHeld c.d result.d content.now bytes.old bytes.new }
+    ensures at_value { (result.at ≡ c.at) × (result.k ≡ c.k) × RunHeld c.d result.d content.entry.bytes.now bytes.old bytes.new }
 {
-    let from = Cursor {
-        at: 0,
-        k: 0,
-        d: c.d,
-        e: c.e,
-        t: c.t,
-    };
-    let r = keep(
-        bytes,
-        numbers,
-        texts,
-        content,
-        entries,
-        text,
-        from,
-        content.len(),
-    );
+    let from = Cursor { at: 0, k: 0, ..c };
+    let r = keep(bytes, numbers, texts, content, from, content.bytes.len());
     Cursor {
         at: c.at,
         k: c.k,
-        d: r.d,
-        e: r.e,
-        t: r.t,
+        ..r
     }
 }
 
-// Refusals 9 and 21 to 24 of a result with d data bytes, e entry numbers, t text bytes and l line numbers, in buffers of these lengths.
-pub fn settle(
-    d: usize,
-    e: usize,
-    t: usize,
-    l: usize,
-    bytes: usize,
-    numbers: usize,
-    texts: usize,
-    lines: usize,
-) -> Settled
-    ensures { settled_fault result ≡ sizes_fault d e t l (room_of_state bytes numbers texts lines) }
+// Refusals 9 and 21 to 24 of a result of these sizes, in buffers of those.
+#[tactic(auto, unfolding(crate::specs::Sizes::sizes_fault))]
+pub fn settle(needed: Lengths, room: Lengths) -> Result<(), Refusal>
+    ensures { fault_of result ≡ sizes_fault needed.bytes needed.numbers needed.texts needed.lines (room_of_lengths room) }
 {
-    if 1048576 < d {
-        return Settled::Refused(Refusal::ResultOverLimit);
+    if 1048576 < needed.bytes || 16384 < needed.numbers || 65536 < needed.texts {
+        return Err(Refusal::ResultOverLimit);
     }
-    if 16384 < e {
-        return Settled::Refused(Refusal::ResultOverLimit);
+    if room.bytes < needed.bytes {
+        return Err(Refusal::DataBufferTooShort);
     }
-    if 65536 < t {
-        return Settled::Refused(Refusal::ResultOverLimit);
+    if room.numbers < needed.numbers {
+        return Err(Refusal::EntryBufferTooShort);
     }
-    if bytes < d {
-        return Settled::Refused(Refusal::DataBufferTooShort);
+    if room.texts < needed.texts {
+        return Err(Refusal::TextBufferTooShort);
     }
-    if numbers < e {
-        return Settled::Refused(Refusal::EntryBufferTooShort);
+    if room.lines < needed.lines {
+        return Err(Refusal::LineListTooShort);
     }
-    if texts < t {
-        return Settled::Refused(Refusal::TextBufferTooShort);
-    }
-    if lines < l {
-        return Settled::Refused(Refusal::LineListTooShort);
-    }
-    Settled::Room
+    Ok(())
 }

@@ -1,10 +1,8 @@
--- Before each record: the scan so far, carried on over the records that are left, is the scan over all of them.
-use Rattle.std.proofs.Common.{◌≡◌, ◌-◌, length, drop}
-use Rattle.replace.specs.Records.{check_all}
+-- The scan of the records that are left, from the state so far, is the scan of all.
+use mathlib.Core.Path.{◌≡◌}
+use lib.ListN.{drop}
+use Rattle.replace.specs.Records.{scan, check_all}
 use Rattle.replace_records.proofs.check_each.Given as goal
 
-abbrev pub invariant-loop-i : goal.invariant-loop-i
-invariant-loop-i l = check_all l.old l.new (drop l.i l.records) l.s ≡ check_all l.old l.new l.records l.initial.s
-
-abbrev pub decreases-loop-i : goal.decreases-loop-i
-decreases-loop-i l = length l.records - l.i
+abbrev pub invariant-loop-x : goal.invariant-loop-x
+invariant-loop-x l = check_all l.n l.t (drop l.x-index l.records) l.s ≡ check_all l.n l.t l.records (scan 0 0)

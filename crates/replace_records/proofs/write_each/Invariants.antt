@@ -1,13 +1,10 @@
--- Before each record: the turns of the records that are left may be made, and whatever they leave is what all turns leave (`Going`).
-use Rattle.std.proofs.Common.{◌-◌, length}
-use Rattle.replace_records.specs.Work.{world}
-use Rattle.replace_records.proofs.FoldLaws.{Going}
+-- Before each record: what is written and what is to come are the result (`State` of `replace`).
+use lib.ListN.{drop}
+use Rattle.writer.specs.Write.{out, blank}
+use Rattle.replace.proofs.PlanLaws.{State}
 use Rattle.replace_records.proofs.write_each.Given as goal
 
-abbrev pub invariant-loop-i : goal.invariant-loop-i
-invariant-loop-i l =
-    Going l.content l.entries l.text l.new l.records l.i
-    (world l.initial.s l.initial.bytes l.initial.numbers l.initial.texts) (world l.s l.bytes l.numbers l.texts)
-
-abbrev pub decreases-loop-i : goal.decreases-loop-i
-decreases-loop-i l = length l.records - l.i
+abbrev pub invariant-loop-x : goal.invariant-loop-x
+invariant-loop-x l =
+    State l.content.bytes.now l.content.entries.now l.content.text.now l.new l.records (drop l.x-index l.records)
+    (blank l.initial.bytes l.initial.numbers l.initial.texts) (out l.bytes l.numbers l.texts l.c) l.c

@@ -1,5 +1,5 @@
 -- A read fills the buffer from where the bytes before it end.
-use Rattle.std.proofs.Common.{◌≡◌, ℕ, ◌+◌, ◌-◌, ◌≤◌, List, ◌++◌, rules, length, take, drop, sym, ap, ◌∙◌, subst, le_refl, drop_at, length-take-le}
+use Rattle.std.proofs.Common.{◌≡◌, ℕ, ◌+◌, ◌-◌, ◌≤◌, List, ◌++◌, length, take, drop, sym, ap, ◌∙◌, subst, le_refl, drop_at, length-take-le, rules}
 use Rattle.std.proofs.lemmas.List.{take-append-le}
 use Rattle.std.proofs.lemmas.Slice.{take-put_mid_below}
 use Rattle.std.proofs.Math.Seq.{take-add}
@@ -19,6 +19,6 @@ filled a k n xs ys within fits =
 pub loop-n-preserved : goal.loop-n-preserved
 loop-n-preserved g c =
     let from = c.loop-n.n in
-    let room = length c.loop-n.sheet - from in
-    let joined = filled from room c.in-Ok.more c.loop-n.sheet c.read.new.buf c.loop-n.invariant.0 c.in-Ok.ensures.bound.0 in
-    (search rules, subst (Consumes _ _) joined (Consumes-trans _ _ _ _ _ c.loop-n.invariant.1 c.in-Ok.ensures.bytes.0))
+    let more = c.in_ok-more in
+    let joined = filled from (length c.loop-n.sheet - from) more.more c.loop-n.sheet c.read.new.buf c.loop-n.invariant.within more.ensures.bound.0 in
+    record { within = search rules; bytes = subst (Consumes _ _) joined (Consumes-trans _ _ _ _ _ c.loop-n.invariant.bytes more.ensures.bytes.0) }

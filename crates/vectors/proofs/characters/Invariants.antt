@@ -1,9 +1,9 @@
--- Each character starts within the text, and its four numbers are within the buffer.
+-- A character ends within the text.
 use Rattle.std.proofs.Common.{◌-◌, ◌≤◌, length}
 use Rattle.vectors.proofs.characters.Given as goal
 
 abbrev pub invariant-loop-at : goal.invariant-loop-at
-invariant-loop-at l = (l.at ≤ length l.s) × (l.k ≤ length l.out)
+invariant-loop-at l = l.at ≤ length l.s
 
 abbrev pub decreases-loop-at : goal.decreases-loop-at
 decreases-loop-at l = length l.s - l.at

@@ -1,0 +1,11 @@
+-- Every character so far is clean, so those from the place on decide.
+use Rattle.std.proofs.Common.{length, ◌-◌, ◌≡◌, ◌≤◌, drop}
+use Rattle.chars.specs.Chars.{chars}
+use Rattle.controls.specs.Controls.{all_clean}
+use Rattle.controls.proofs.clean_from.Given as goal
+
+abbrev pub invariant-loop-at : goal.invariant-loop-at
+invariant-loop-at l = (l.at ≤ length l.s) × (all_clean (chars (drop l.at l.s)) ≡ all_clean (chars (drop l.from l.s)))
+
+abbrev pub decreases-loop-at : goal.decreases-loop-at
+decreases-loop-at l = length l.s - l.at
