@@ -1,28 +1,30 @@
--- A range that has the code point gives its width (`row_hit`), one that has it not is passed (`row_miss`).
+-- Each turn asks one row (`asked_next`); after the last one what is known of all of them is the width (`asked_end`).
 use mathlib.Core.Path.{sym, ◌∙◌}
 use native.Mathlib.Omega.{arith}
-use Rattle.chars.proofs.CharsLaws.{width_two}
-use Rattle.chars.proofs.ReaderLaws.{in_span, below, above}
-use Rattle.chars.proofs.RowLaws.{rows, lookup_all, row_hit, row_miss}
+use Rattle.chars.proofs.RowLaws.{rows, asked_next, asked_end}
 use Rattle.chars.proofs.char_width.Goals as goal
-use Rattle.chars.proofs.char_width.Goals.{else-first-code-via-then-first-code+else-code-last, else-first-code-via-else-first-code}
-
-pub loop-first-init : goal.loop-first-init
-loop-first-init c = lookup_all _
-
-pub returns-then-code-last-clause-value : goal.returns-then-code-last-clause-value
-returns-then-code-last-clause-value c =
-    sym (row_hit rows _ _ _ c.loop-first-test.true (in_span _ _ _ c.if-first-code.true c.if-code-last.true)) ∙ c.loop-first.invariant
-
-pub returns-then-code-last-clause-upper_bound : goal.returns-then-code-last-clause-upper_bound
-returns-then-code-last-clause-upper_bound c =
-    let e = sym (row_hit rows _ _ _ c.loop-first-test.true (in_span _ _ _ c.if-first-code.true c.if-code-last.true)) ∙ c.loop-first.invariant in
-    omega (arith, e, width_two c.args.code)
 
 pub loop-first-preserved : goal.loop-first-preserved
 loop-first-preserved c =
-    sym (row_miss rows _ _ _ c.loop-first-test.true
-    (elim c.else-first-code.branch [
-      | else-first-code-via-then-first-code+else-code-last w ↦ above _ _ _ w.if-code-last.false
-      | else-first-code-via-else-first-code w ↦ below _ _ _ w.if-first-code.false
-    ])) ∙ c.loop-first.invariant
+    let l = c.loop-first in
+    ( sym (asked_next 0 rows l.first-index c.args.code (0, 0, 0) l.zero c.loop-first-test.true) ∙ l.invariant.0
+    , sym (asked_next 2 rows l.first-index c.args.code (0, 0, 0) l.wide c.loop-first-test.true) ∙ l.invariant.1
+    )
+
+pub returns-then-zero-clause-value : goal.returns-then-zero-clause-value
+returns-then-zero-clause-value c =
+    let l = c.loop-first in
+    let e = asked_end l.first-index c.args.code l.zero l.wide (omega (arith, c.loop-first-test.false)) l.invariant.0 l.invariant.1 in
+    rw c.if-zero.true at e
+
+pub returns-then-wide-clause-value : goal.returns-then-wide-clause-value
+returns-then-wide-clause-value c =
+    let l = c.loop-first in
+    let e = asked_end l.first-index c.args.code l.zero l.wide (omega (arith, c.loop-first-test.false)) l.invariant.0 l.invariant.1 in
+    rw (c.if-zero.false, c.if-wide.true) at e
+
+pub returns-else-wide-clause-value : goal.returns-else-wide-clause-value
+returns-else-wide-clause-value c =
+    let l = c.loop-first in
+    let e = asked_end l.first-index c.args.code l.zero l.wide (omega (arith, c.loop-first-test.false)) l.invariant.0 l.invariant.1 in
+    rw (c.if-zero.false, c.if-wide.false) at e

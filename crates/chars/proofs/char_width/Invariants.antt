@@ -1,8 +1,10 @@
--- The ranges that are left give the code point its width.
+-- What the rows so far say, together with the rows that are left, is what all of them say.
 use Rattle.std.proofs.Common.{◌≡◌, drop}
-use Rattle.chars.specs.Width.{char_width_of}
-use Rattle.chars.proofs.RowLaws.{rows, lookup}
+use mathlib.Core.Bool.{◌||◌}
+use Rattle.chars.proofs.RowLaws.{rows, asked}
 use Rattle.chars.proofs.char_width.Given as goal
 
 abbrev pub invariant-loop-first : goal.invariant-loop-first
-invariant-loop-first l = lookup (drop l.first-index rows) l.code ≡ char_width_of l.code
+invariant-loop-first l =
+    ((l.zero || asked 0 (drop l.first-index rows) l.code) ≡ asked 0 rows l.code)
+    × ((l.wide || asked 2 (drop l.first-index rows) l.code) ≡ asked 2 rows l.code)
