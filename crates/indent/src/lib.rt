@@ -13,6 +13,7 @@ ghost use Rattle.layout.specs.Layout.{indent_ops, indent};
 ghost use Rattle.layout.specs.Lent.{lent_of, Leaves};
 ghost use Rattle.indent.specs.Lines.{filled_lines_of, to_next};
 
+use newlines::has_break;
 use recording::{Done, Recording, Refusal};
 use recording_check::check_both;
 use share::text_size;
@@ -27,7 +28,7 @@ fn skip_blocks(s: &[u8], from: usize) -> usize
     let (blocks, _) = s[from..].as_chunks::<16>();
     let n = blocks
         .iter()
-        .position(|b| b.contains(&10))
+        .position(|b| has_break(b))
         .unwrap_or(blocks.len());
     from + 16 * n
 }

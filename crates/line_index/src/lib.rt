@@ -14,7 +14,7 @@ ghost use Rattle.line_index.specs.Starts.{starts_from, line_starts, line_span};
 ghost use Rattle.line_index.specs.Index.{build_outcome, extend_outcome, line_replied, place_replied};
 ghost use Rattle.line_index.specs.Code.{stand_behind_in};
 
-use newlines::count_newlines;
+use newlines::{count_newlines, has_break};
 use recording::{Done, Found, Recording, Refusal};
 use recording_check::check;
 
@@ -54,7 +54,7 @@ fn write_starts(s: &[u8], from: usize, index: &mut [u32], first: usize) -> usize
     let mut k = first;
     let mut at = from;
     for block in blocks {
-        if block.contains(&10) {
+        if has_break(block) {
             k = put_starts(block, at, index, k);
         }
         at += 16;

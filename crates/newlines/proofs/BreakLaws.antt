@@ -1,4 +1,4 @@
--- The next 0A: bytes before it are passed one by one or many at once (`break_later`, `break_past`), and all bytes of a block are asked at once (`any_break`).
+-- The next 0A: bytes before it are passed one by one or many at once (`break_later`, `break_past`), and the bytes of a block are asked one after another (`any_next`) or at once (`any_break`, `any_block`).
 use mathlib.Core.Path.{◌≡◌, sym, ap, ◌∙◌}
 use mathlib.Core.Bool.{Bool, true, false, cond, ◌||◌}
 use mathlib.Core.List.{List, [], ◌∷◌}
@@ -11,7 +11,9 @@ use lib.Dec.{eqb, ltb}
 use lib.ListN.{length, take, drop, get_or, drop_of_length-le}
 use lib.Seq.{drop-cons, drop-drop}
 use Rattle.std.specs.List.{list_any}
-use Rattle.newlines.specs.Newlines.{to_break}
+use Rattle.std.proofs.Math.Bool.{or_assoc, or-false}
+use Rattle.std.proofs.lemmas.List.{take_all}
+use Rattle.newlines.specs.Newlines.{to_break, has_break_in}
 
 -- ── the next 0A: n bytes before it are passed at once
 break_drop : (n : ℕ) (d : List ℕ) → n ≤ to_break d → to_break d ≡ n + to_break (drop n d)
@@ -55,3 +57,16 @@ any_break (suc n) (b ∷ d) h = go (eqb b 0x0A) (any_break n d (omega arith))
     go : (t : Bool) → list_any (λ x. eqb x 0x0A) (take n d) ≡ ltb (to_break d) n → (t || list_any (λ x. eqb x 0x0A) (take n d)) ≡ ltb (cond t 0 (suc (to_break d))) (suc n)
     go true e = sym (lt-ltb 0 (suc n) (omega arith))
     go false e = e ∙ one_more (to_break d)
+
+-- one byte more
+pub any_next : (j : ℕ) (d : List ℕ) → j < length d → has_break_in (take (j + 1) d) ≡ (has_break_in (take j d) || eqb (get_or d j 0) 0x0A)
+any_next j d h = rw add-one (go j d h)
+  where
+    go : (j : ℕ) (d : List ℕ) → j < length d → has_break_in (take (suc j) d) ≡ (has_break_in (take j d) || eqb (get_or d j 0) 0x0A)
+    go j [] h = absurd (omega arith)
+    go zero (b ∷ d) h = or-false (eqb b 0x0A)
+    go (suc j) (b ∷ d) h = ap (λ (t : Bool). eqb b 0x0A || t) (go j d (omega arith)) ∙ sym (or_assoc (eqb b 0x0A) (has_break_in (take j d)) (eqb (get_or d j 0) 0x0A))
+
+-- all bytes of a block
+pub any_block : (d : List ℕ) → length d ≡ 16 → has_break_in d ≡ ltb (to_break d) 16
+any_block d h = ap has_break_in (sym (take_all 16 d (omega (arith, h)))) ∙ any_break 16 d (omega (arith, h))

@@ -1,8 +1,22 @@
-// The bytes 0A of a text: how many there are.
+// The bytes 0A of a text: whether a block of it has one, and how many there are.
 #![tactic(auto)]
 
-ghost use Rattle.std.specs.Prelude.{◌≡◌, ◌-◌, ◌≤◌, length, drop};
-ghost use Rattle.newlines.specs.Newlines.{newlines};
+ghost use Rattle.std.specs.Prelude.{◌≡◌, ◌-◌, ◌≤◌, ltb, length, drop};
+ghost use Rattle.newlines.specs.Newlines.{to_break, newlines, has_break_in};
+
+// Whether one of the bytes of a block is 0A. Without an early exit, so that all of them are compared at once.
+// kept: a loop. `block.contains(&10)` asks them in fours with an exit behind each.
+#[tactic(auto, using(crate::proofs::BreakLaws::any_next, crate::proofs::BreakLaws::any_block))]
+pub fn has_break(block: &[u8; 16]) -> bool
+    ensures value { result ≡ has_break_in block.now }
+    ensures place { result ≡ ltb (to_break block.now) 16 }
+{
+    let mut found = false;
+    for byte in block {
+        found |= *byte == 10;
+    }
+    found
+}
 
 // How many bytes of a block are 0A. Without a branch and in 8 bits, so that all of them are added at once.
 #[tactic(auto, using(crate::proofs::CountLaws::front_next))]

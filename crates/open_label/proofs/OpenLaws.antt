@@ -3,12 +3,13 @@
 -- From this what is open behind an entry (`push_told`, `pop_told`, `raw_told`), and what dropping raw sequences leaves of it (`kept_told`, `dropped_told`).
 use Prim.Native.Nat.{ℕ, zero, suc, ◌+◌, ◌-◌, ◌≤◌}
 use native.Mathlib.Omega.{arith}
-use mathlib.Core.Bool.{Bool, true, false, cond, ◌||◌, not, or-true, false≢true}
+use mathlib.Core.Bool.{Bool, true, false, cond, ◌&&◌, ◌||◌, not, or-true, false≢true}
 use mathlib.Core.Path.{◌≡◌, refl, sym, ap, ◌∙◌}
 use mathlib.Core.List.{List, [], ◌∷◌, ◌++◌, tail}
 use lib.Dec.{eqb}
 use lib.ListN.{length, take, drop}
 use borrow.Author.Tests.{eqb-true, eq-eqb, ne_eqb}
+use Rattle.std.specs.Cmp.Lexicographic.{pointwise}
 use Rattle.recording.specs.Lists.{same}
 use Rattle.recording.specs.declared.Entry.{Entry}
 use Rattle.recording.specs.Recording.{Bytes, push, pop, raw, item_of, part_of}
@@ -89,11 +90,21 @@ raw_item (suc zero) p h g = absurd (g refl)
 raw_item (suc (suc k)) p h g = refl
 
 -- ── what is open behind an entry
+-- what `==` compares
+alike : (x y : Bytes) → pointwise eqb x y ≡ same x y
+alike [] [] = refl
+alike [] (b ∷ y) = refl
+alike (a ∷ x) [] = refl
+alike (a ∷ x) (b ∷ y) = ap (λ (t : Bool). eqb a b && t) (alike x y)
+
 -- its text, as the code cuts it
-pub cut_same : (l t : Bytes) (e : Entry) (r : Bool) → r ≡ same l (take (e.start + e.len - e.start) (drop e.start t)) → same l (part_of t e) ≡ r
+cut_same : (l t : Bytes) (e : Entry) (r : Bool) → r ≡ same l (take (e.start + e.len - e.start) (drop e.start t)) → same l (part_of t e) ≡ r
 cut_same l t e r q =
     let n : e.start + e.len - e.start ≡ e.len = omega arith in
     sym (q ∙ ap (λ (m : ℕ). same l (take m (drop e.start t))) n)
+
+pub cut_alike : (l t : Bytes) (e : Entry) (r : Bool) → r ≡ pointwise eqb l (take (e.start + e.len - e.start) (drop e.start t)) → same l (part_of t e) ≡ r
+cut_alike l t e r q = cut_same l t e r (q ∙ alike l (take (e.start + e.len - e.start) (drop e.start t)))
 
 module _ (l t : Bytes) (e : Entry) (o : Open) where
   pub push_told : (r : Open) → e.kind ≡ 0 → r.depth ≡ o.depth + 1 → r.since ≡ since_push (same l (part_of t e)) o.depth o.since → Opened l (item_at t e) o r

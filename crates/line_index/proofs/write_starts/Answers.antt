@@ -9,7 +9,7 @@ use Rattle.buffer.proofs.FillLaws.{fill_start, fill_room, fill_kept, fill_more, 
 use Rattle.line_index.specs.Starts.{starts_from}
 use Rattle.line_index.proofs.WriteLaws.{block_is, block_whole, block_bound, block_starts, block_none, rest_is, rest_bound}
 use Rattle.line_index.proofs.write_starts.Goals as goal
-use Rattle.line_index.proofs.write_starts.Goals.{then-contains, else-contains}
+use Rattle.line_index.proofs.write_starts.Goals.{then-has_break, else-has_break}
 
 pub loop-block-init : goal.loop-block-init
 loop-block-init c = (omega arith, fill_start _ _ c.args.index.now c.args.first refl)
@@ -35,11 +35,11 @@ loop-block-preserved c =
     let is = block_is c.args.from s _ (take_rest s c.args.from) _ _ e.front e.front_len e.back l.block-index c.loop-block-test.true l.at l.invariant.0 in
     let whole = block_whole c.args.from s _ (take_rest s c.args.from) _ _ e.front e.front_len e.back l.block-index c.loop-block-test.true l.at l.invariant.0 in (
       omega (arith, l.invariant.0),
-      elim c.if-contains.branch [
-        | then-contains w ↦
+      elim c.if-has_break.branch [
+        | then-has_break w ↦
             fill_more _ _ _ _ _ _ l.invariant.1 (omega (arith, c.requires.s_in_bounds)) _ _ _ _ (block_starts l.at s _ is whole) (w.index-is ∙ w.put_starts-k.ensures.index_after)
             (ap length w.index-is ∙ w.put_starts-k.auto.index) (w.k-is ∙ w.put_starts-k.ensures.value)
-        | else-contains w ↦ fill_kept _ _ _ _ _ _ l.invariant.1 _ _ _ (block_none l.at s _ is whole (sym c.contains.ensures.value ∙ w.if-contains.false)) w.index-is w.k-is
+        | else-has_break w ↦ fill_kept _ _ _ _ _ _ l.invariant.1 _ _ _ (block_none l.at s _ is whole (sym c.has_break.ensures.value ∙ w.if-has_break.false)) w.index-is w.k-is
       ],
     )
 

@@ -3,7 +3,7 @@ use native.Mathlib.Omega.{arith}
 use mathlib.Core.Bool.{false≢true}
 use mathlib.Core.Path.{refl, sym, ◌∙◌}
 use borrow.Author.Tests.{ne_eqb}
-use Rattle.open_label.proofs.OpenLaws.{cut_same, push_open, push_first, push-other, pop_outermost, pop_inner, push_told, pop_told, raw_told}
+use Rattle.open_label.proofs.OpenLaws.{cut_alike, push_open, push_first, push-other, pop_outermost, pop_inner, push_told, pop_told, raw_told}
 use Rattle.open_label.proofs.opened.Goals as goal
 use Rattle.open_label.proofs.opened.Goals.{then-o-eq0, else-o-eq0}
 
@@ -11,7 +11,7 @@ pub returns-then-first-clause-opened : goal.returns-then-first-clause-opened
 returns-then-first-clause-opened c =
     let o = c.args.o in
     elim c.if-o-eq0.branch [
-      | then-o-eq0 w ↦ push_told _ _ _ _ _ c.in-0.is refl (push_first _ o.depth o.since w.if-o-eq0.true (cut_same _ _ c.args.e _ w.same_text-first.ensures ∙ sym w.first-is ∙ c.if-first.true))
+      | then-o-eq0 w ↦ push_told _ _ _ _ _ c.in-0.is refl (push_first _ o.depth o.since w.if-o-eq0.true (cut_alike c.args.label.now c.args.text.now c.args.e _ w.eq-first.ensures ∙ sym w.first-is ∙ c.if-first.true))
       | else-o-eq0 w ↦ absurd (false≢true (sym (ne_eqb _ _ w.if-o-eq0.false) ∙ sym w.first-is ∙ c.if-first.true))
     ]
 
@@ -19,7 +19,7 @@ pub returns-else-first-clause-opened : goal.returns-else-first-clause-opened
 returns-else-first-clause-opened c =
     let o = c.args.o in
     elim c.if-o-eq0.branch [
-      | then-o-eq0 w ↦ push_told _ _ _ _ _ c.in-0.is refl (w.if-o-eq0.true ∙ push-other _ o.depth o.since w.if-o-eq0.true (cut_same _ _ c.args.e _ w.same_text-first.ensures ∙ sym w.first-is ∙ c.if-first.false))
+      | then-o-eq0 w ↦ push_told _ _ _ _ _ c.in-0.is refl (w.if-o-eq0.true ∙ push-other _ o.depth o.since w.if-o-eq0.true (cut_alike c.args.label.now c.args.text.now c.args.e _ w.eq-first.ensures ∙ sym w.first-is ∙ c.if-first.false))
       | else-o-eq0 w ↦ push_told _ _ _ _ _ c.in-0.is refl (push_open _ o.depth o.since w.if-o-eq0.false)
     ]
 
