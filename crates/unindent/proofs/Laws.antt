@@ -210,7 +210,7 @@ newline_next j d h = rw add-one (go j d h)
     go zero (b ∷ d) h = or-false (eqb b 0x0A)
     go (suc j) (b ∷ d) h = ap (λ (t : Bool). eqb b 0x0A || t) (go j d (omega arith)) ∙ sym (or_assoc (eqb b 0x0A) (has_newline_in (take j d)) (eqb (get_or d j 0) 0x0A))
 
--- ── what `starts_with` compares
+-- ── what `==` compares
 pub begins_is : (p d : Bytes) → pointwise eqb p (take (length p) d) ≡ begins_with p d
 begins_is [] d = refl
 begins_is (b ∷ p) [] = refl
@@ -247,3 +247,7 @@ moves zero at d more =
     let e : to_next false (drop (at + 0) d) ≡ to_next false (drop at d) = ap (λ (n : ℕ). to_next false (drop n d)) z in
     omega (arith, e, next_past at d more)
 moves (suc n) at d more = omega arith
+
+-- a text that is shorter than the prefix does not begin with it
+pub begins_short : (p l : Bytes) → length l < length p → begins_with p l ≡ false
+begins_short p l h = elim (begins_with p l) as (λ t. begins_with p l ≡ t → t ≡ false) [ true ↦ λ e. absurd (omega (arith, h, begins_long p l e)) | false ↦ λ e. refl ] refl
