@@ -4,13 +4,14 @@ use Prim.Native.Nat.{ℕ, ◌+◌, ◌-◌, ◌≤◌}
 use native.Mathlib.Omega.{arith}
 use mathlib.Core.Bool.{Bool, true, false, cond}
 use mathlib.Core.Path.{◌≡◌, refl, sym, ap, ◌∙◌}
-use mathlib.Core.List.{[], ◌++◌}
+use mathlib.Core.List.{List, [], ◌∷◌, ◌++◌}
 use lib.Dec.{ltb}
 use lib.ListN.{length, take, drop, length-append}
 use borrow.Author.Tests.{lt-ltb, le-ltb, ltb-true, ltb-false}
 use Rattle.chars.specs.Chars.{text_width_of}
 use Rattle.chars.specs.Cut.{truncate_end_pos_of, truncate_end_width}
 use Rattle.chars.proofs.FitLaws.{within-max, pos_within, kept_length, two_cuts, fits_whole, reaches_end, passes-max}
+use Rattle.chars.proofs.NarrowLaws.{width_short}
 use Rattle.recording.specs.Recording.{Bytes}
 use Rattle.truncate_plan.specs.declared.Plan.{Plan}
 use Rattle.truncate_plan.specs.Plan.{plan_end}
@@ -18,7 +19,7 @@ use Rattle.truncate.specs.Planned.{finished_end}
 use Rattle.truncate.proofs.PlanLaws.{end_number, end_uncut}
 use Rattle.truncate.proofs.HeldLaws.{end_result}
 use Rattle.cells.specs.declared.Mark.{Mark}
-use Rattle.cells.specs.Cells.{bare, cell_text, cell_width}
+use Rattle.cells.specs.Cells.{bare, cell_text, cell_width, joined}
 use Rattle.cells.specs.Measured.{mark_of, plan_with}
 
 -- ── the ellipsis
@@ -34,7 +35,14 @@ pub mark_bounds : (m : ℕ) (e : Bytes) (k : Mark) → k ≡ mark_of m e → (k.
 unfolding mark_of
 mark_bounds m e k h = rw h (mark_fits m e, pos_within m e)
 
--- ── a cell that is longer than the width: the first cut, to the room, ends at p; the second, of the rest to what is left of the width, ends q bytes on
+-- ── a cell that is no longer than the width
+pub cell_short : (k : Mark) (m w : ℕ) (cell : Bytes) → length cell ≤ m → w ≡ text_width_of cell → (record { cut = false; content = length cell; ellipsis = 0; width = w } ≡ plan_with k m cell) × (w ≤ m)
+unfolding plan_with
+cell_short k m w cell h e =
+    let s : text_width_of cell ≤ m = omega (arith, h, width_short cell) in
+    (rw (le-ltb m (text_width_of cell) s, e), omega (arith, e, s))
+
+-- ── any other: the first cut, to the room, ends at p; the second, of the rest to what is left of the width, ends q bytes on
 module _ (k : Mark) (m : ℕ) (cell rest : Bytes) (p w q v : ℕ) (fits : k.room + k.width ≤ m) (ep : p ≡ truncate_end_pos_of k.room cell) (ew : w ≡ truncate_end_width k.room cell)
     (er : rest ≡ drop p cell) (eq : q ≡ truncate_end_pos_of (m - w) rest) (ev : v ≡ truncate_end_width (m - w) rest) where
   both : (p + q ≡ truncate_end_pos_of m cell) × (w + v ≡ truncate_end_width m cell)
@@ -97,3 +105,15 @@ module _ (m : ℕ) (e cell : Bytes) (p : Plan) (q : p ≡ plan_with (mark_of m e
   -- how long it is
   pub text_length : length (finished_end p cell e) ≡ p.content + p.ellipsis
   text_length = ap (λ (x : Plan). length (finished_end x cell e)) q ∙ by_plan m e cell ∙ sym (ap (λ (x : Plan). x.content + x.ellipsis) q)
+
+-- ── all cells: how long they are joined is the sum of what is kept of each
+abbrev pub length_with : Mark → ℕ → List Bytes → ℕ
+length_with k m [] = 0
+length_with k m (cell ∷ cells) = ((plan_with k m cell).content + (plan_with k m cell).ellipsis) + length_with k m cells
+
+pub joined_length : (m : ℕ) (e : Bytes) (cells : List Bytes) → length_with (mark_of m e) m cells ≡ length (joined m e cells)
+joined_length m e [] = refl
+joined_length m e (c ∷ cs) =
+    let p : Plan = plan_with (mark_of m e) m c in
+    let t : length (cell_text m e c) ≡ p.content + p.ellipsis = sym (ap length (text_is m e c p refl)) ∙ text_length m e c p refl in
+    omega (arith, t, joined_length m e cs, length-append (cell_text m e c) (joined m e cs))

@@ -17,13 +17,17 @@ use Rattle.chars.proofs.CutLaws.{kept_rest, split_kept, kept_end}
 use Rattle.chars.proofs.FoldLaws.{ascii_len, ascii_ok, ascii_code}
 use Rattle.chars.proofs.JoinLaws.{and_both, chars-append}
 use Rattle.chars.proofs.RangeLaws.{bounds}
-use Rattle.chars.proofs.ReaderLaws.{and_false, below, above}
+use Rattle.chars.proofs.ReaderLaws.{and_false, in_span, below, above}
 use Rattle.controls.specs.Controls.{is_control, any_control, all_clean, is_clean_text}
 
--- ── one character further
-control_between : (c : ℕ) → 0x20 ≤ c → c ≤ 0x7E → is_control c ≡ false
-control_between c p q = simp (above 0x00 0x1F c p, below 0x7F 0x9F c (omega arith))
+-- ── what a test of a code point says
+pub control_low : (c : ℕ) → c < 0x20 → is_control c ≡ true
+control_low c h = simp (in_span 0x00 0x1F c (omega arith) (omega arith))
 
+pub control_between : (c : ℕ) → 0x20 ≤ c → c < 0x7F → is_control c ≡ false
+control_between c p q = simp (above 0x00 0x1F c p, below 0x7F 0x9F c q)
+
+-- ── one character further
 module _ (s : List ℕ) (at n : ℕ) (more : at < length s) (e : n ≡ length (char_in at s).text) where
   clean_char : (o k : Bool) → (char_in at s).ok ≡ o → is_control (char_in at s).code ≡ k → all_clean (chars (drop at s)) ≡ ((o && not k) && all_clean (chars (drop (at + n) s)))
   clean_char o k h g = rw (char_next s at more, e, h, g) (go o k)
@@ -51,7 +55,7 @@ clean_printable s at more w =
     let b = bounds 0x20 0x7E (get_or s at 0) w in
     let ascii : get_or s at 0 < 128 = omega (arith, b.1) in
     let code = ascii_code s at ascii in
-    clean_char s at 1 more (sym (ascii_len s at ascii)) true false (ascii_ok s at ascii) (ap is_control code ∙ control_between (get_or s at 0) b.0 b.1)
+    clean_char s at 1 more (sym (ascii_len s at ascii)) true false (ascii_ok s at ascii) (ap is_control code ∙ control_between (get_or s at 0) b.0 (omega (arith, b.1)))
 
 -- and so are more of them
 pub clean_run : (k : ℕ) (s : List ℕ) → k ≤ length s → ((i : ℕ) → i < k → within 0x20 0x7E (get_or s i 0) ≡ true) → all_clean (chars (drop k s)) ≡ is_clean_text s

@@ -92,16 +92,27 @@ pub fn put_decimal(out: &mut [u8], at: usize, n: u32) -> usize
     end
 }
 
+// Whether a field is 0 or 1.
+#[tactic(auto, unfolding(crate::specs::Sheet::is_break_text))]
+pub fn is_break(s: &[u8]) -> bool
+    ensures { result ≡ is_break_text s.now }
+{
+    matches!(s, [b'0' | b'1'])
+}
+
+// Which of the two it is.
+#[tactic(auto, unfolding(crate::specs::Sheet::break_of_text))]
+pub fn break_of(s: &[u8]) -> bool
+    ensures { result ≡ break_of_text s.now }
+{
+    matches!(s, [b'1', ..])
+}
+
 // The value of a field that is 0 or 1.
-#[tactic(auto, unfolding(crate::specs::Sheet::is_break_text, crate::specs::Sheet::break_of_text))]
 pub fn break_in(s: &[u8]) -> Option<bool>
     ensures { result ≡ cond (is_break_text s.now) (Some (break_of_text s.now)) None }
 {
-    match s {
-        [b'0'] => Some(false),
-        [b'1'] => Some(true),
-        _ => None,
-    }
+    if is_break(s) { Some(break_of(s)) } else { None }
 }
 
 fn is_hex(digit: u8) -> bool

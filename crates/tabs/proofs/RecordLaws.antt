@@ -302,8 +302,15 @@ module _ (s : ℕ) (low : 1 ≤ s) (high : s ≤ 64) (ds : List ℕ) where
           sym (capped_over whole (omega (arith, whole_is, m.total, g, e, h)))
 
 -- ── the largest size: no tab becomes more than s spaces
-pub count_next : (ds : List ℕ) (i : ℕ) → i < length ds → tab_count_of (take (i + 1) ds) ≡ tab_count_of (take i ds) + one_tab_of (get_or ds i 0)
-count_next ds i h = rw add-one (go ds i h)
+one_le : (b : ℕ) → one_tab_of b ≤ 1
+one_le b = go (eqb b 0x09)
+  where
+    go : (t : Bool) → cond t 1 0 ≤ 1
+    go true = omega arith
+    go false = omega arith
+
+pub count_next : (ds : List ℕ) (i : ℕ) → i < length ds → (tab_count_of (take (i + 1) ds) ≡ tab_count_of (take i ds) + one_tab_of (get_or ds i 0)) × (one_tab_of (get_or ds i 0) ≤ 1)
+count_next ds i h = (rw add-one (go ds i h), one_le (get_or ds i 0))
   where
     go : (ds : List ℕ) (i : ℕ) → i < length ds → tab_count_of (take (suc i) ds) ≡ tab_count_of (take i ds) + one_tab_of (get_or ds i 0)
     go [] i h = absurd (omega arith)

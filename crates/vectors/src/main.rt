@@ -357,6 +357,9 @@ const LINES: usize = 264;
 
 const LENT_BYTES: usize = 10016;
 
+// What the numbers of an answer hold before a call, where one that is not stored is to be seen.
+const UNSTORED: u64 = 0xA5;
+
 #[derive(Drop)]
 struct Recording {
     bytes: Vec<u8>,
@@ -770,7 +773,7 @@ impl<'a> Line<'a> {
         let ellipsis = self.data(Key::Second)?;
         let ends = self.list(Key::Index, LINES, 0)?;
         let mut out = self.buffers()?;
-        let mut res = [0; 5];
+        let mut res = [UNSTORED; 5];
         ruszvedok_write_truncated_cells(
             &content,
             &ends,
@@ -817,7 +820,7 @@ impl<'a> Line<'a> {
         let at = self.number(Key::At) as usize;
         let used = self.number(Key::Used) as usize;
         let index = list.lend();
-        let mut res = [0; 5];
+        let mut res = [UNSTORED; 5];
         match call {
             Build => ruszvedok_build_line_index(bytes, entries, text, index, &mut res),
             Extend => ruszvedok_extend_line_index(bytes, entries, text, at, index, used, &mut res),
@@ -837,7 +840,7 @@ impl<'a> Line<'a> {
         let (bytes, entries, text) = content.parts();
         let index = &self.list(Key::Index, LINES, 0)?;
         let at = self.number(Key::At) as usize;
-        let mut res = [0; 3];
+        let mut res = [UNSTORED; 3];
         match call {
             LineAt => ruszvedok_line_at(bytes, entries, text, index, at, &mut res),
             PlaceOf => ruszvedok_place_of(bytes, entries, text, index, at, &mut res),
