@@ -6,9 +6,9 @@ use Rattle.chars.proofs.char_width.Goals as goal
 
 pub loop-first-preserved : goal.loop-first-preserved
 loop-first-preserved c =
-    let l = c.loop-first in
-    ( sym (asked_next 0 rows l.first-index c.args.code (0, 0, 0) l.zero c.loop-first-test.true) ∙ l.invariant.0
-    , sym (asked_next 2 rows l.first-index c.args.code (0, 0, 0) l.wide c.loop-first-test.true) ∙ l.invariant.1
+    let l = c.loop-first in (
+      sym (asked_next 0 rows l.first-index c.args.code (0, 0, 0) l.zero c.loop-first-test.true) ∙ l.invariant.0,
+      sym (asked_next 2 rows l.first-index c.args.code (0, 0, 0) l.wide c.loop-first-test.true) ∙ l.invariant.1,
     )
 
 pub returns-then-zero-clause-value : goal.returns-then-zero-clause-value
