@@ -143,8 +143,8 @@ const RANGES: [(u32, u32, u32); 21] = [
 ];
 
 // The width of a code point.
-// Each row is asked, by `&` and `|` on what is known of all: so the compiler asks four rows at once and nothing branches. With an exit at the row that has the code point,
-// or with `&&`, it makes a chain of branches of it, and a text whose characters are of several ranges takes up to three times as long.
+// Each row is asked, by `&` and `|` on what is known of all: so the compiler asks four rows at once and makes no branch. With an exit at the row that has the code point,
+// or with `&&`, it makes a chain of branches, and a text whose characters are of several ranges takes up to twice as long.
 pub fn char_width(code: u32) -> u32
     ensures value { result ≡ char_width_of code }
     ensures upper_bound { result ≤ 2 }

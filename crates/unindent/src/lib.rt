@@ -39,7 +39,7 @@ fn begins_at(content: &[u8], at: usize, prefix: &[u8]) -> bool
     requires { at ≤ length content.now }
     ensures { result ≡ begins_with prefix.now (drop at content.now) }
 {
-    // kept: no `starts_with`, which is a call: on short lines it takes a seventh more of the whole time.
+    // kept: no `starts_with`, which is a call a line: with it taking an indent off takes up to a seventh longer.
     prefix.len() <= content.len() - at && prefix == &content[at..at + prefix.len()]
 }
 
